@@ -1,9 +1,9 @@
 #!/usr/bin/env python3
 """Writes what bindings/commands.txt says of the calls of a machine: tools/machine_commands.py [--check]
 
-It writes the enum `vmm_kind` of vm_memory.h, the constants of `kind` in raw.rs, and the tables of calls in SCRIPT.md and
-BINDINGS.md. With --check it writes nothing and says which of these differ, and whether the kinds of vm_session are others, or the help
-of `vmmem` lacks a line; the status is 1 then.
+It writes the enum `vmm_kind` of vm_memory.h, the constants of `kind` in raw.rs, and the tables of calls in SCRIPT.md
+and BINDINGS.md. With --check it writes nothing and says which of these differ, and whether the kinds of vm_session are
+others, or the help of `vmmem` lacks a line; the status is 1 then.
 """
 
 import pathlib
@@ -70,7 +70,8 @@ def of_raw(rows):
 
 
 def table(head, rows):
-    return [f"| {' | '.join(head)} |", "|" + "---|" * len(head)] + [re.sub(r"  +", " ", f"| {' | '.join(it)} |") for it in rows]
+    lines = [re.sub(r"  +", " ", f"| {' | '.join(it)} |") for it in rows]
+    return [f"| {' | '.join(head)} |", "|" + "---|" * len(head), *lines]
 
 
 def named(row):
@@ -134,7 +135,8 @@ def differing_lists():
     kinds = re.findall(r"Kind::(\w+)", kinds.group(1)) if kinds else []
     wanted = [row[2].title().replace("_", "") for row in rows]
     if kinds != wanted:
-        at = next((at for at, pair in enumerate(zip(kinds, wanted)) if pair[0] != pair[1]), min(len(kinds), len(wanted)))
+        both = min(len(kinds), len(wanted))
+        at = next((at for at in range(both) if kinds[at] != wanted[at]), both)
         wrong.append(f"{KINDS}: the kinds are not those of {ROWS}, from number {at} on")
     text = (TOP / HELP).read_text()
     for row in tables["setup"] + tables["commands"]:

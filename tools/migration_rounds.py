@@ -11,6 +11,7 @@ import sys
 MASK = 2**64 - 1
 LOW, HOLE = 2**20, 3 * 2**30
 SPEED = 2**27  # bytes a second, where writes are counted
+MOST = 2**20  # bytes of pages in a batch
 
 
 def rotated(x, k):
@@ -46,6 +47,7 @@ class Xoshiro256PlusPlus:
 
 class Guest:
     def __init__(self, size, page_size, seed):
+        self.page_size = page_size
         low = min(size, HOLE)
         lengths = [min(low, LOW), max(low - LOW, 0), max(size - HOLE, 0)]
         self.blocks = [bytearray(n) for n in lengths if n]
@@ -70,10 +72,43 @@ class Guest:
         self.blocks[block][at] = (self.blocks[block][at] + 2) % 256
         return page
 
-    def frame(self, page):
-        """The length of the frame of a page: of zeros, 8 bytes and 12, and else its own bytes behind these."""
+    def is_zero(self, page):
         block, start, length = self.pages[page]
-        return 20 + (length if any(self.blocks[block][start : start + length]) else 0)
+        return not any(self.blocks[block][start : start + length])
+
+    def batch(self, pages):
+        """Of these pages of a block, how many of the first go into one batch behind none, and how many bytes it has.
+
+        A frame is 8 bytes, 12 and its pages; of zeros it has no bytes, and of others all that follow one another. A
+        batch has at most 2^20 bytes of pages, zeros among them. Behind other frames a page goes in if its bytes and
+        these have at most 2^20.
+        """
+        at, bytes_of_batch = 0, 0
+        while at < len(pages):
+            room = MOST // self.page_size - at
+            if bytes_of_batch:
+                room = min(room, max(MOST - bytes_of_batch, 0) // self.page_size)
+            run = pages[at : at + room]
+            if not run:
+                break
+            length = 0
+            while length < len(run) and run[length] == run[0] + length and not self.is_zero(run[length]):
+                bytes_of_batch += self.pages[run[length]][2]
+                length += 1
+            bytes_of_batch += 20
+            at += max(length, 1)
+        return at, bytes_of_batch
+
+    def sent(self, dirty):
+        """The bytes of the frames of these pages, block by block and batch by batch."""
+        total = 0
+        for block in range(len(self.blocks)):
+            pages = sorted(page for page in dirty if self.pages[page][0] == block)
+            while pages:
+                taken, count = self.batch(pages)
+                total += count
+                pages = pages[taken:]
+        return total
 
 
 def main():
@@ -86,7 +121,8 @@ def main():
     while True:
         is_last = len(rows) + 1 >= max_rounds or left < stop_below
         pages = len(dirty)
-        size_of_round = sum(guest.frame(page) for page in dirty) + 44 + (24 if is_last else 0)
+        # The end of a round has 12 bytes, and the section of the last one 24.
+        size_of_round = guest.sent(dirty) + 12 + (24 if is_last else 0)
         dirty = set()
         if not is_last:
             share = rate * pages * page_size // SPEED // threads if threads else 0

@@ -192,7 +192,7 @@ static inline vmm_answer vmm_translator(vmm_session *s, size_t table) {
     return vmm_asked(s, &call, NULL, 0, NULL, 0);
 }
 
-/* Commands. A list of numbers has eight bytes for each, the lowest first. */
+/* Commands. A list of numbers has eight bytes for each, the lowest first; its size is in bytes. */
 
 static inline vmm_answer vmm_layout(vmm_session *s, const void *regions, size_t regions_size) {
     vmm_request call = vmm_of_kind(VMM_LAYOUT);
@@ -353,7 +353,7 @@ static inline vmm_answer vmm_lookup(vmm_session *s, size_t table, uint64_t addre
     return vmm_asked(s, &call, NULL, 0, list, list_size);
 }
 
-/* Pages go to `list`, eight bytes each. */
+/* Pages go to `list`, eight bytes each. `list_size` is in bytes. */
 static inline vmm_answer vmm_dirty_block(vmm_session *s, size_t block, void *list, size_t list_size) {
     vmm_request call = vmm_at(VMM_DIRTY_BLOCK, block, 0, 0);
     return vmm_asked(s, &call, NULL, 0, list, list_size);
@@ -641,8 +641,8 @@ typedef struct vmm_vhost_region_row {
 
 /* A ring that is to be served: how many descriptors it has, the index of the next available one from which it was
  * started, and its addresses in guest memory, or I/O addresses if ACCESS_PLATFORM was accepted. The used ring has
- * `used_size` bytes. If `is_logged` is 1, writes to it are marked in the log at `log`. `kick` and `call`: 0 if no message
- * said so, 1 for no descriptor, 2 for one. */
+ * `used_size` bytes. If `is_logged` is 1, writes to it are marked in the log at the address `log`. `kick` and `call`: 0 if
+ * no message said so, 1 for no descriptor, 2 for one. */
 typedef struct vmm_vhost_vring {
     uint32_t size, base;
     uint64_t descriptor, available, used, used_size, log;

@@ -48,7 +48,8 @@
 //!   program keeps.
 //! - Each call takes the memory, as do the reader and the writer of a chain, which keeps none.
 //! - A chain that was popped is in flight until its head is returned or forgotten. If the driver publishes that head
-//!   again meanwhile, it is not popped. All chains in flight have at most as many descriptors as the queue was made for.
+//!   again meanwhile, it is not popped. All chains in flight have at most as many descriptors as the queue was made for;
+//!   one that names an indirect table is not counted.
 //! - So there is no `go_to_previous_position`: [`forget`](Queue::forget) and [`set_next_avail`](Queue::set_next_avail)
 //!   make a chain the next one again.
 //! - No call takes an order. Each reads and writes in the order that the VirtIO specification asks of a device.

@@ -1,15 +1,14 @@
 //! Calls of plain numbers from a fixed generator, and the script's replies to the same lines.
 //!
-//! The script's program is `vmmem`: the file that the environment variable `VMMEM` names, or the one that the
-//! repository's gate built. Without one the test is ignored. `CALLS` may ask for fewer calls than 1,000,000.
+//! Without the program `vmmem` the test is ignored. `CALLS` may ask for fewer calls than 1,000,000.
+
+mod vmmem;
 
 use std::env;
 use std::fmt::Write as _;
-use std::io::Write as _;
-use std::path::{Path, PathBuf};
-use std::process::{Command, Stdio};
 use vm_memory_proved::raw::{code, kind, Answer, Call};
 use vm_memory_proved::Machine;
+use vmmem::{program, replies};
 
 const CALLS_OF_SESSION: usize = 5_000;
 
@@ -481,36 +480,13 @@ fn session(numbers: &mut Numbers, count: usize) -> (String, Vec<Told>) {
     (script, told)
 }
 
-fn program() -> Option<PathBuf> {
-    let built = Path::new(env!("CARGO_MANIFEST_DIR")).join("../../crates/vmmem/out/vmmem");
-    env::var_os("VMMEM")
-        .map(PathBuf::from)
-        .or(built.exists().then_some(built))
-}
-
-fn replies(program: &Path, script: String) -> String {
-    let mut child = Command::new(program)
-        .stdin(Stdio::piped())
-        .stdout(Stdio::piped())
-        .spawn()
-        .unwrap();
-    let mut input = child.stdin.take().unwrap();
-    let writer = std::thread::spawn(move || input.write_all(script.as_bytes()));
-    let output = child.wait_with_output().unwrap();
-    writer.join().unwrap().unwrap();
-    assert!(output.status.success(), "{:?}", output.status);
-    String::from_utf8(output.stdout).unwrap()
-}
-
 #[test]
 #[cfg_attr(
     not(has_vmmem),
     ignore = "there is no `vmmem`: VMMEM names one, or `rt run < stdin` in crates/vmmem builds it"
 )]
 fn generated_calls_are_answered_as_by_the_script() {
-    let Some(program) = program() else {
-        panic!("VMMEM names no program, and crates/vmmem/out has none");
-    };
+    let program = program();
     let calls: usize = env::var("CALLS").map_or(1_000_000, |calls| calls.parse().unwrap());
     let mut numbers = Numbers(0x9e37_79b9_7f4a_7c15);
     let (mut made, mut by_line, mut by_code, mut short) = (0, 0, 0, 0);

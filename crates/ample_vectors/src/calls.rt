@@ -19,9 +19,9 @@ use vm_memory::{
 pub type TestMachine = Machine<GuestRegionMmap, TableIommu, ExclusiveBitmap>;
 
 // The number of bytes of the block, each of which is a page. It lies at 0 and at 0x10000.
-pub const SIZE: usize = 5000;
+const SIZE: usize = 5000;
 
-pub const ROUNDS: usize = 40;
+const ROUNDS: usize = 40;
 
 // Two regions of a block.
 fn regions_at(
@@ -236,7 +236,7 @@ fn others() -> [Command; 8] {
 }
 
 // All commands of a round. In the first a write reaches all pages.
-pub fn round_of(alloc: Global, round: usize) -> Result<Vec<Command>, AllocError> {
+fn round_of(alloc: Global, round: usize) -> Result<Vec<Command>, AllocError> {
     let mut commands = Vec::new(alloc);
     commands.push(layout_of(alloc, &[0])?)?;
     commands.append(&mut Vec::from_array(alloc, makers())?)?;

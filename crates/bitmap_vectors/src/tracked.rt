@@ -1,6 +1,6 @@
 //! A bitmap that several threads mark while one harvests.
-ghost use Rattle.std.specs.Prelude.{◌≤◌, IfSome};
-ghost use Rattle.bitmap_vectors.specs.Markers.{IsMarkerOf, IsHarvesterOf, AreNewOf};
+ghost use Rattle.std.specs.Prelude.{◌≤◌, IfOk, IfSome};
+ghost use Rattle.bitmap_vectors.specs.Markers.{IsMarkerOf, IsHarvesterOf, AreNewOf, IsNewOf, HaveNoPage};
 
 use std::alloc::Global;
 use std::num::NonZeroUsize;
@@ -150,6 +150,40 @@ fn a_marker_sees_the_mark_of_another(rt: HostRuntime) -> Result<(), Fail> {
     bitmap.meet(&mut one, &mut harvester);
     expect_taken(rt.alloc(), &bitmap, &mut harvester, 2, &[(0, 8)])?;
     expect_told(&bitmap, &mut other, 3, false)
+}
+
+// Takes the last of the markers, before it marked anything.
+fn new_marker_of(bitmap: &TrackedBitmap, markers: &mut Vec<Marker>) -> Option<Marker>
+    requires { AreNewOf markers.old.items bitmap.now }
+    ensures { IfSome result (λ m. IsNewOf m bitmap.now) }
+{
+    markers.pop()
+}
+
+// What is left of a bitmap whose one marker marked nothing. That no page is follows from the contracts of its calls.
+fn left_unmarked(alloc: Global, pages: usize) -> Result<Vec<u32>, Fail>
+    ensures { IfOk result (λ words. HaveNoPage words.items) }
+{
+    let (bitmap, mut harvester, mut markers) = TrackedBitmap::new(
+        alloc,
+        pages,
+        NonZeroUsize::MIN,
+        1,
+    )?;
+    let Some(marker) = new_marker_of(&bitmap, &mut markers) else {
+        return Err(Fail::new("there is no marker"));
+    };
+    bitmap.join(&mut harvester, marker);
+    match bitmap.close(harvester, alloc) {
+        Ok(words) => Ok(words),
+        Err(_) => Err(Fail::new("allocation failed")),
+    }
+}
+
+#[test]
+fn no_page_is_left_that_nobody_marked(rt: HostRuntime) -> Result<(), Fail> {
+    let words = left_unmarked(rt.alloc(), 65)?;
+    expect_words(words.as_slice(), 3, &[])
 }
 
 // Marks and harvests of 2^20 + 1 pages.

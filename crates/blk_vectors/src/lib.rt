@@ -1,4 +1,4 @@
-//! Tests of the block device.
+//! Tests of the block device, and of what rows of text in bindings/rust/tests do not reach of queues and chains.
 #![tactic(auto)]
 
 #[cfg(test)]
@@ -17,5 +17,7 @@ mod queues;
 mod random;
 #[cfg(test)]
 mod requests;
+#[cfg(test)]
+mod states;
 #[cfg(test)]
 mod steps;

@@ -1,6 +1,6 @@
 //! Queues of chains, interrupts, features and the configuration.
 
-use crate::bench::{Bench, DATA, HEADER, SIZE, STATUS, Scene, header_of, told_of};
+use crate::bench::{BEGIN, Bench, DATA, HEADER, SIZE, STATUS, Scene, header_of, told_of};
 use crate::requests::{first_bytes, numbered};
 use std::alloc::Global;
 use std::test::Fail;
@@ -174,9 +174,32 @@ fn accept(device: &mut BlockDevice<MemoryDisk>, told: &mut String) -> Result<(),
     Ok(())
 }
 
+// Heads that no chain has are returned, which changes no byte of the rings. Tells each answer, and `next_used` then.
+fn return_past_the_table<M: GuestMemory, B: Bitmap>(
+    alloc: Global,
+    bench: &mut Bench<M, B, MemoryDisk>,
+    told: &mut String,
+) -> Result<(), Fail> {
+    let before = bench.get(alloc, BEGIN, 0x1000)?;
+    for head in [SIZE, 65535] {
+        if !bench.host.holds(&bench.memory) {
+            return Err(Fail::new("the host does not hold the memory"));
+        }
+        let answer = bench
+            .queue
+            .add_used(&bench.memory, &mut bench.host, head, 1);
+        write!(told, "{answer:?} {}; ", bench.queue.next_used())?;
+    }
+    if bench.get(alloc, BEGIN, 0x1000)?.as_slice() != before.as_slice() {
+        return Err(Fail::new("the rings changed"));
+    }
+    Ok(())
+}
+
 // What is done with the queue and the device.
 #[derive(Clone, Copy)]
 enum Act {
+    ReturnPastTheTable,
     Interrupts,
     Fill,
     OverwriteIndex,
@@ -187,11 +210,12 @@ enum Act {
 impl Scene<MemoryDisk> for Act {
     fn tell<M: GuestMemory, B: Bitmap>(
         &self,
-        _alloc: Global,
+        alloc: Global,
         bench: &mut Bench<M, B, MemoryDisk>,
         told: &mut String,
     ) -> Result<(), Fail> {
         match *self {
+            Act::ReturnPastTheTable => return_past_the_table(alloc, bench, told),
             Act::Interrupts => interrupts(bench, told),
             Act::Fill => fill(bench, told),
             Act::OverwriteIndex => overwrite_index(bench, 8, 2, told),
@@ -210,6 +234,12 @@ fn expect(alloc: Global, act: Act, read_only: bool, wanted: &str) -> Result<(), 
 fn interrupts_as_the_driver_wants(rt: HostRuntime) -> Result<(), Fail> {
     let wanted = "2 true; 0 true; 1 false; 1 false; 1 true; 1 false; ";
     expect(rt.alloc(), Act::Interrupts, false, wanted)
+}
+
+#[test]
+fn heads_past_the_table_are_not_returned(rt: HostRuntime) -> Result<(), Fail> {
+    let wanted = "Err(InvalidDescriptorIndex) 0; Err(InvalidDescriptorIndex) 0; ";
+    expect(rt.alloc(), Act::ReturnPastTheTable, false, wanted)
 }
 
 #[test]

@@ -129,9 +129,30 @@ fn tell_read<M: GuestMemory, B: Bitmap>(
     expect_bytes(data.as_slice(), 0, 512, 7)
 }
 
-// What is done with a device of two steps.
+// A chain of no segments, which no driver can publish. Tells what a read of a byte answers and leaves, how many bytes
+// are left to be read, and the same of a write.
+fn tell_empty<M: GuestMemory, B: Bitmap>(
+    alloc: Global,
+    bench: &mut Bench<M, B, MemoryDisk>,
+    told: &mut String,
+) -> Result<(), Fail> {
+    let chain = Chain::new(Vec::new(alloc))?;
+    let (mut reader, mut writer) = (chain.reader(), chain.writer());
+    if !bench.host.holds(&bench.memory) {
+        return Err(Fail::new("the host does not hold the memory"));
+    }
+    let mut byte = [7];
+    let read = reader.read(&bench.memory, &bench.host, &mut byte);
+    let written = writer.write(&bench.memory, &mut bench.host, &[1]);
+    let (left, room) = (reader.left(), writer.left());
+    write!(told, "{read:?} {byte:?} {left}; {written:?} {room}")?;
+    Ok(())
+}
+
+// What is done with a device of two steps, or with a chain of no segments.
 #[derive(Clone, Copy)]
 enum Act {
+    Empty,
     Wait,
     Move,
 }
@@ -144,6 +165,7 @@ impl Scene<MemoryDisk> for Act {
         told: &mut String,
     ) -> Result<(), Fail> {
         match *self {
+            Act::Empty => tell_empty(alloc, bench, told),
             Act::Wait => {
                 tell_waiting(alloc, bench, told)?;
                 expect_name(alloc, bench)
@@ -182,4 +204,14 @@ fn sectors_go_to_a_disk_of_its_own(rt: HostRuntime) -> Result<(), Fail> {
         &Act::Move,
     )?;
     expect_text(0, told.as_str(), "1; 513; ")
+}
+
+#[test]
+fn a_chain_of_no_segments_moves_nothing(rt: HostRuntime) -> Result<(), Fail> {
+    for scattered in [false, true] {
+        let disk = numbered(rt.alloc(), 4)?;
+        let told = told_of(rt.alloc(), scattered, disk, false, &Act::Empty)?;
+        expect_text(0, told.as_str(), "Ok(0) [7] 0; Ok(0) 0")?;
+    }
+    Ok(())
 }

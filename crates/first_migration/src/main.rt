@@ -3,7 +3,7 @@
 #![tactic(auto)]
 
 use anyhow::{Context, Result, bail};
-use live_migration::{Guest, Receiver, Refusal, Reply, SendError, Sender};
+use live_migration::{Guest, Options, Receiver, Refusal, Reply, SendError, Sender};
 use std::alloc::Global;
 use std::io::{Read, Write};
 use std::num::NonZeroUsize;
@@ -61,7 +61,7 @@ fn send<B: ExactBitmap, I: Read, O: Write>(
     input: &mut I,
     output: &mut O,
 ) -> Result<(), SendError> {
-    let mut sender = Sender::begin(alloc, host, blocks, output)?;
+    let mut sender = Sender::begin(alloc, host, blocks, Options::default(), output)?;
     sender.ready(input)?;
     for round in 1..ROUNDS {
         send_pages(alloc, &mut sender, host, blocks.len(), output)?;

@@ -1,11 +1,11 @@
-//! Tests of values in guest memory, of transfers from and to lists, of many bytes and many regions, and of the texts of
-//! errors.
+//! Tests of values in guest memory, of questions about ranges and accesses by a callback, of snapshots of memory that is
+//! replaced, and of the texts of errors.
 #![tactic(auto)]
 
 #[cfg(test)]
-mod atomic;
+mod answers;
 #[cfg(test)]
-mod lists;
+mod atomic;
 #[cfg(test)]
 mod moved;
 #[cfg(test)]

@@ -1,49 +1,13 @@
-//! Many bytes that go from memory to memory.
+//! Long values.
 
 use std::alloc::{AllocError, Global};
 use std::test::Fail;
 use vm_memory_base::{ByteValued, GuestAddress};
 use vm_memory_guest::{Bytes, GuestMemory, GuestMemoryMmap, HostMemory};
 
-// How many bytes transfers move.
-const MOVED: usize = 0x100_0000;
-
 // So many bytes, no two neighbouring pages of which are alike.
 fn pattern(alloc: Global, size: usize) -> Result<Vec<u8>, AllocError> {
     (0..size).map(|index| (index % 251) as u8).collect(alloc)
-}
-
-// Whether bytes go to a vector, and from it into another memory.
-fn are_moved<M: GuestMemory>(
-    alloc: Global,
-    host: &mut HostMemory<()>,
-    from: &M,
-    to: &M,
-    sent: &[u8],
-) -> Result<bool, Fail> {
-    if !host.holds(from) || !host.holds(to) {
-        return Err(Fail::new("the host does not hold the memories"));
-    }
-    let start = GuestAddress(0);
-    from.write_slice(host, sent, start)?;
-    let mut sink = Vec::new(alloc);
-    from.write_all_volatile_to(host, start, &mut sink, sent.len())?;
-    let mut source = sink.as_slice();
-    to.read_exact_volatile_from(host, start, &mut source, sent.len())?;
-    let mut came = vec![in alloc; 0u8; sent.len()]?;
-    to.read_slice(host, came.as_mut_slice(), start)?;
-    Ok(sink.as_slice() == sent && came.as_slice() == sent)
-}
-
-#[test]
-fn sixteen_mebibytes_go_from_memory_to_memory(rt: HostRuntime) -> Result<(), Fail> {
-    let mut host = HostMemory::<()>::new(rt.alloc());
-    let ranges = [(GuestAddress(0), MOVED)];
-    let from = GuestMemoryMmap::from_ranges(rt.alloc(), &mut host, &ranges)?;
-    let to = GuestMemoryMmap::from_ranges(rt.alloc(), &mut host, &ranges)?;
-    let sent = pattern(rt.alloc(), MOVED)?;
-    assert!(rt; are_moved(rt.alloc(), &mut host, &from, &to, sent.as_slice())?);
-    Ok(())
 }
 
 // A value of 64 kibibytes.

@@ -1,35 +1,34 @@
 -- What the calls of a sender send, step by step, in the words of the rounds.
-use Rattle.std.proofs.Common.{◌≡◌, ℕ, zero, suc, ◌+◌, ◌-◌, ◌*◌, ◌^◌, ◌<◌, ◌≤◌, cond, ltb, List, [], ◌∷◌, ◌++◌, length, map, drop, take, replicate, Option, Some, None, refl, sym, ap, subst, ◌∙◌, append_assoc, append-nil, arith, le-mul_of_pos_right}
+use Rattle.std.proofs.Common.{◌≡◌, ℕ, ◌-◌, ◌^◌, ◌<◌, Bool, List, [], ◌∷◌, ◌++◌, map, replicate, Option, Some, None, refl, sym, ap, subst, ◌∙◌, append_assoc, append-nil}
 use Rattle.std.specs.Global.{Vec}
 use Rattle.std.specs.Io.KnownBytes.{Appends}
-use Rattle.std.specs.List.{AllByRecursion, list_all}
-use Rattle.std.specs.Prelude.{◌==◌, flat_map, slice_get}
-use Rattle.std.proofs.lemmas.Bool.{cond_both, ltb-true}
-use Rattle.std.proofs.lemmas.List.{length-map, length-take}
+use Rattle.std.specs.List.{AllByRecursion}
+use Rattle.std.specs.Prelude.{flat_map, slice_get}
+use Rattle.std.proofs.lemmas.Bool.{cond_both}
 use Rattle.std.proofs.lemmas.List.Concat.{flat_map-append}
-use Rattle.std.proofs.lemmas.Option.{none-some, same_Some, slice_get_within}
-use Rattle.sha2.specs.Hashers.{Holds256}
-use Rattle.sha2.specs.Sha256.{sha256}
-use Rattle.sha2.specs.declared.Sha256.{Sha256}
+use Rattle.std.proofs.lemmas.Option.{none-some, same_Some}
 use Rattle.vm_memory_base.specs.Pages.{PageSet}
 use Rattle.vm_memory_guest.specs.Host.{Host}
 use Rattle.live_migration.specs.Calls as call
 use Rattle.live_migration.specs.Calls.{Call, DoAll, Does, IsQuiet, Moment}
+use Rattle.live_migration.specs.Digests.{HasNoted, digest_of}
 use Rattle.live_migration.specs.Following.{Follows}
 use Rattle.live_migration.specs.Frame as message
 use Rattle.live_migration.specs.Frame.{IsMessage, Message, RoundEnd, spelling}
-use Rattle.live_migration.specs.Header.{AreEntries, IsHeader, header_bytes}
-use Rattle.live_migration.specs.Image.{arrived, copied, page_bytes, received}
+use Rattle.live_migration.specs.Header.{IsHeader, header_bytes}
+use Rattle.live_migration.specs.Image.{arrived, received}
 use Rattle.live_migration.specs.Rounds as event
 use Rattle.live_migration.specs.Rounds.{AllMay, AllStill, Ends, Event, after, after_harvest, after_round, is_round_over, may_harvest, size_of, story}
+use Rattle.live_migration.specs.Sending.{page_size_at, page_size_of}
 use Rattle.live_migration.specs.Writing.{all_written}
-use Rattle.live_migration.specs.declared.header.BlockEntry.{BlockEntry}
+use Rattle.live_migration.specs.declared.digest.StreamHasher.{StreamHasher}
 use Rattle.live_migration.specs.declared.sender.pages.Target.{Target}
 use Rattle.live_migration.specs.declared.sender.rounds.Rounds.{Rounds}
 use Rattle.live_migration.specs.declared.sender.stream.Sender.{Sender}
 use Rattle.live_migration.proofs.FollowingLemmas.{copy_follows, harvest_follows, round_follows, send_follows}
 use Rattle.live_migration.proofs.ImageLemmas.{arrived-append}
 use Rattle.live_migration.proofs.RoundsLemmas as kept
+use Rattle.live_migration.proofs.RunLemmas.{fits-append, singles_arrive}
 use Rattle.live_migration.proofs.WritingLemmas.{sources_now, writes_follow, writes_may, writes_rewrite}
 
 -- ---- events one after the other
@@ -51,25 +50,21 @@ still-append (e ∷ es) fs a b = (a.0, still-append es fs a.1 b)
 
 -- ---- messages one after the other
 
-pub fits-append : (ms ns : List Message) → AllByRecursion IsMessage ms → AllByRecursion IsMessage ns
-    → AllByRecursion IsMessage (ms ++ ns)
-fits-append [] ns a b = b
-fits-append (m ∷ ms) ns a b = (a.0, fits-append ms ns a.1 b)
-
 -- a header and messages, as they are spelled
-abbrev pub text : List Target → List Message → List ℕ
-text ts ms = header_bytes (map (λ t. t.entry) ts) ++ flat_map spelling ms
+abbrev pub text : Bool → List Target → List Message → List ℕ
+text digests ts ms = header_bytes digests (map (λ t. t.entry) ts) ++ flat_map spelling ms
 
-text_more : (ts : List Target) (ms ns : List Message) → text ts ms ++ flat_map spelling ns ≡ text ts (ms ++ ns)
-text_more ts ms ns =
-    let header = header_bytes (map (λ (t : Target). t.entry) ts) in
+text_more : (digests : Bool) (ts : List Target) (ms ns : List Message)
+    → text digests ts ms ++ flat_map spelling ns ≡ text digests ts (ms ++ ns)
+text_more digests ts ms ns =
+    let header = header_bytes digests (map (λ (t : Target). t.entry) ts) in
     append_assoc header (flat_map spelling ms) (flat_map spelling ns)
     ∙ ap (λ (x : List ℕ). header ++ x) (sym (flat_map-append spelling ms ns))
 
-pub one_more : (ts : List Target) (ms : List Message) (m : Message)
-    → text ts ms ++ spelling m ≡ text ts (ms ++ m ∷ [])
-one_more ts ms m =
-    ap (λ (x : List ℕ). text ts ms ++ x) (sym (append-nil (spelling m))) ∙ text_more ts ms (m ∷ [])
+pub one_more : (digests : Bool) (ts : List Target) (ms : List Message) (m : Message)
+    → text digests ts ms ++ spelling m ≡ text digests ts (ms ++ m ∷ [])
+one_more digests ts ms m =
+    ap (λ (x : List ℕ). text digests ts ms ++ x) (sym (append-nil (spelling m))) ∙ text_more digests ts ms (m ∷ [])
 
 -- what a stream has when more was written
 pub appended : (a b : Option (List ℕ)) (xs bytes : List ℕ) → a ≡ Some xs → Appends a b bytes → b ≡ Some (xs ++ bytes)
@@ -89,60 +84,18 @@ pub none_arrives : (size block : ℕ) (image : List ℕ) → arrived size block 
 unfolding arrived
 none_arrives size block image = refl
 
--- ---- what is copied has a spelling
-
-page_fits : (size block : ℕ) (bytes : List ℕ) (page : ℕ) → block < 2 ^ 32 → 0 < size → size ≤ 2 ^ 20
-    → length bytes < 2 ^ 63 → AllByRecursion IsMessage (copied size block bytes page)
-unfolding copied
-page_fits size block bytes page few some small short =
-    cond_both (ltb (page * size) (length bytes)) _ [] (λ (ms : List Message). AllByRecursion IsMessage ms)
-    (λ there. (inside (ltb-true _ _ there), tt)) (λ past. tt)
-  where
-    inside : page * size < length bytes → IsMessage (cond (list_all (λ b. b == 0) (page_bytes size page bytes))
-        (message.ZeroPage block page) (message.Pages block page (page_bytes size page bytes)))
-    inside l =
-        let more : page ≤ page * size = le-mul_of_pos_right page some in
-        let cut = length-take size (drop (page * size) bytes) in
-        cond_both (list_all (λ b. b == 0) (page_bytes size page bytes)) (message.ZeroPage block page)
-        (message.Pages block page (page_bytes size page bytes)) IsMessage
-        (λ zeros. (few, omega arith)) (λ others. (few, omega arith, omega arith))
-
-copied_fit : (size block : ℕ) (bytes : List ℕ) → block < 2 ^ 32 → 0 < size → size ≤ 2 ^ 20 → length bytes < 2 ^ 63
-    → (ps : List ℕ) → AllByRecursion IsMessage (flat_map (copied size block bytes) ps)
-copied_fit size block bytes few some small short [] = tt
-copied_fit size block bytes few some small short (p ∷ ps) =
-    fits-append (copied size block bytes p) (flat_map (copied size block bytes) ps)
-    (page_fits size block bytes p few some small short) (copied_fit size block bytes few some small short ps)
-
--- the entry of a target
-record EntryFits (e : BlockEntry) : Type 0 where
-  short : e.len < 2 ^ 63
-  paged : 0 < e.page_size
-  small : e.page_size ≤ 2 ^ 20
-
-entry_at : (ts : List Target) (from left j : ℕ) (t : Target) → AreEntries from left (map (λ t. t.entry) ts)
-    → slice_get ts j ≡ Some t → EntryFits t.entry
-entry_at [] from left j t are at = absurd cc
-entry_at (x ∷ xs) from left zero t are at =
-    let is = are.0 in
-    subst (λ (y : Target). EntryFits y.entry) (same_Some x t at)
-    (record { short = is.short; paged = is.paged; small = is.small })
-entry_at (x ∷ xs) from left (suc j) t are at =
-    entry_at xs (x.entry.address + x.entry.len) (left - x.entry.len) j t are.1 at
-
 -- ---- a sender that has sent these messages
 
-module _ {B : Type 0} (pages_of : B → PageSet) (ts : List Target) where
+module _ {B : Type 0} (pages_of : B → PageSet) (digests : Bool) (ts : List Target) where
   -- It has what the state says, each image is what the messages left of zeros, and no block's page is lost
   pub record HasSent (m : Moment B) (s : Ends) (ms : List Message) : Type 0 where
     pub header : IsHeader (2 ^ 64 - 1) (map (λ t. t.entry) ts)
     pub targets : m.sender.rounds.targets.items ≡ ts
     pub follows : Follows pages_of m.sender.rounds m.host s
     pub followed : (block : ℕ) → block < s.count → kept.Follows s block
-    pub stream : m.stream ≡ Some (text ts ms)
-    pub hashed : Holds256 m.sender.hasher (text ts ms)
+    pub stream : m.stream ≡ Some (text digests ts ms)
+    pub hashed : HasNoted digests m.sender.hasher (text digests ts ms)
     pub fits : AllByRecursion IsMessage ms
-    pub batch_fits : AllByRecursion IsMessage s.batch
     pub images : (j : ℕ) (t : Target) → slice_get ts j ≡ Some t
         → s.images j ≡ arrived t.entry.page_size j ms (replicate t.entry.len 0)
 
@@ -167,8 +120,8 @@ module _ {B : Type 0} (pages_of : B → PageSet) (ts : List Target) where
           → slice_get old.sender.rounds.targets.items j ≡ Some t
       target_at j t at = ap (λ (xs : List Target). slice_get xs j) h.targets ∙ at
 
-      hashed_as : new.sender.hasher ≡ old.sender.hasher → Holds256 new.sender.hasher (text ts ms)
-      hashed_as e = subst (λ (x : Sha256). Holds256 x (text ts ms)) (sym e) h.hashed
+      hashed_as : new.sender.hasher ≡ old.sender.hasher → HasNoted digests new.sender.hasher (text digests ts ms)
+      hashed_as e = subst (λ (x : StreamHasher). HasNoted digests x (text digests ts ms)) (sym e) h.hashed
 
       go_write : call.WritesGuest pages_of old new → Goes ⊥ s new
       go_write d =
@@ -191,7 +144,6 @@ module _ {B : Type 0} (pages_of : B → PageSet) (ts : List Target) where
               stream = d.stream ∙ h.stream;
               hashed = hashed_as (ap (λ (x : Sender). x.hasher) d.sender);
               fits = h.fits;
-              batch_fits = subst (λ (xs : List Message). AllByRecursion IsMessage xs) (sym r.batch) h.batch_fits;
               images = λ j t at. ap (λ (f : ℕ → List ℕ). f j) r.images ∙ h.images j t at;
             };
           }
@@ -212,7 +164,6 @@ module _ {B : Type 0} (pages_of : B → PageSet) (ts : List Target) where
           stream = d.stream ∙ h.stream;
           hashed = hashed_as d.hasher;
           fits = h.fits;
-          batch_fits = h.batch_fits;
           images = h.images;
         };
       }
@@ -238,28 +189,9 @@ module _ {B : Type 0} (pages_of : B → PageSet) (ts : List Target) where
               stream = d.stream ∙ h.stream;
               hashed = hashed_as d.hasher;
               fits = h.fits;
-              batch_fits = subst (λ (xs : List Message). AllByRecursion IsMessage xs) (sym same) h.batch_fits;
               images = λ j t at. ap (λ (f : ℕ → List ℕ). f j) images ∙ h.images j t at;
             };
           }
-
-      -- the pages that wait have a spelling
-      copies_fit : (n : ℕ) (t : Target) → slice_get old.sender.rounds.targets.items old.sender.rounds.last ≡ Some t
-          → AllByRecursion IsMessage (flat_map (copied (size_of s s.last) s.last (s.sources s.last).bytes)
-          (take n s.waiting))
-      copies_fit n t there =
-          let here : slice_get old.sender.rounds.targets.items s.last ≡ Some t =
-          ap (λ (i : ℕ). slice_get old.sender.rounds.targets.items i) h.follows.last ∙ there in
-          let at : slice_get ts s.last ≡ Some t =
-          ap (λ (xs : List Target). slice_get xs s.last) (sym h.targets) ∙ here in
-          let is = h.follows.sources s.last t here in
-          let fits = entry_at ts 0 (2 ^ 64 - 1) s.last t h.header.1 at in
-          let few = h.header.0 in
-          let count = length-map ts (λ (t : Target). t.entry) in
-          let within = slice_get_within ts s.last t at in
-          copied_fit (size_of s s.last) s.last (s.sources s.last).bytes (omega arith)
-          (omega (arith, is.size, fits.paged)) (omega (arith, is.size, fits.small))
-          (omega (arith, is.len, fits.short)) (take n s.waiting)
 
       go_copy : (n : ℕ) → call.CopiesBatch old new n → Goes (Unit {0}) s new
       unfolding story AllMay AllStill
@@ -279,9 +211,6 @@ module _ {B : Type 0} (pages_of : B → PageSet) (ts : List Target) where
               stream = d.stream ∙ h.stream;
               hashed = hashed_as d.hasher;
               fits = h.fits;
-              batch_fits = fits-append s.batch
-                  (flat_map (copied (size_of s s.last) s.last (s.sources s.last).bytes) (take n s.waiting)) h.batch_fits
-                  (copies_fit n x.target x.there);
               images = h.images;
             };
           }
@@ -289,11 +218,12 @@ module _ {B : Type 0} (pages_of : B → PageSet) (ts : List Target) where
       go_send : call.SendsBatch old new → Goes (Unit {0}) s new
       unfolding story AllMay AllStill
       go_send d =
-          let same : text ts ms ++ old.sender.rounds.batch.items ≡ text ts (ms ++ s.batch) =
-          ap (λ (x : List ℕ). text ts ms ++ x) h.follows.batch ∙ text_more ts ms s.batch in
+          let sent = h.follows.messages in
+          let same : text digests ts ms ++ old.sender.rounds.batch.items ≡ text digests ts (ms ++ sent) =
+          ap (λ (x : List ℕ). text digests ts ms ++ x) h.follows.batch ∙ text_more digests ts ms sent in
           record {
             events = event.Send ∷ [];
-            messages = ms ++ s.batch;
+            messages = ms ++ sent;
             may = (tt, tt);
             still = λ quiet. (tt, tt);
             sent = record {
@@ -303,15 +233,17 @@ module _ {B : Type 0} (pages_of : B → PageSet) (ts : List Target) where
                   (send_follows pages_of old.sender.rounds new.sender.rounds old.host s h.follows d.kept d.turn d.round
                   d.none);
               followed = followed_on (event.Send ∷ []) s (tt, tt) h.followed;
-              stream = appended old.stream new.stream (text ts ms) old.sender.rounds.batch.items h.stream d.sent.written
+              stream = appended old.stream new.stream (text digests ts ms) old.sender.rounds.batch.items h.stream d.sent.written
                   ∙ ap Some same;
-              hashed = subst (λ (x : List ℕ). Holds256 new.sender.hasher x) same (d.sent.hashed (text ts ms) h.hashed);
-              fits = fits-append ms s.batch h.fits h.batch_fits;
-              batch_fits = tt;
+              hashed = subst (λ (x : List ℕ). HasNoted digests new.sender.hasher x) same (d.sent.hashed digests (text digests ts ms) h.hashed);
+              fits = fits-append ms sent h.fits h.follows.fit;
               images = λ j t at.
                   ap (λ (size : ℕ). arrived size j s.batch (s.images j)) (h.follows.sources j t (target_at j t at)).size
-                  ∙ ap (arrived t.entry.page_size j s.batch) (h.images j t at)
-                  ∙ sym (arrived-append t.entry.page_size j ms s.batch (replicate t.entry.len 0));
+                  ∙ ap (λ (xs : List Message). arrived t.entry.page_size j xs (s.images j)) (sym h.follows.pages)
+                  ∙ singles_arrive t.entry.page_size j (page_size_at old.sender.rounds.targets.items)
+                  (ap page_size_of (target_at j t at)) sent (s.images j)
+                  ∙ ap (arrived t.entry.page_size j sent) (h.images j t at)
+                  ∙ sym (arrived-append t.entry.page_size j ms sent (replicate t.entry.len 0));
             };
           }
 
@@ -330,12 +262,11 @@ module _ {B : Type 0} (pages_of : B → PageSet) (ts : List Target) where
           follows = subst (λ (w : Host B). Follows pages_of new.sender.rounds w s) (sym d.host)
               (subst (λ (r : Rounds). Follows pages_of r old.host s) (sym d.rounds) h.follows);
           followed = h.followed;
-          stream = appended old.stream new.stream (text ts ms) (spelling m) h.stream d.sent.written
-              ∙ ap Some (one_more ts ms m);
-          hashed = subst (λ (x : List ℕ). Holds256 new.sender.hasher x) (one_more ts ms m)
-              (d.sent.hashed (text ts ms) h.hashed);
+          stream = appended old.stream new.stream (text digests ts ms) (spelling m) h.stream d.sent.written
+              ∙ ap Some (one_more digests ts ms m);
+          hashed = subst (λ (x : List ℕ). HasNoted digests new.sender.hasher x) (one_more digests ts ms m)
+              (d.sent.hashed digests (text digests ts ms) h.hashed);
           fits = fits-append ms (m ∷ []) h.fits (d.fits, tt);
-          batch_fits = h.batch_fits;
           images = λ j t at.
               h.images j t at
               ∙ sym (bare_arrives t.entry.page_size j ms m (replicate t.entry.len 0) (bare t.entry.page_size j));
@@ -343,13 +274,13 @@ module _ {B : Type 0} (pages_of : B → PageSet) (ts : List Target) where
       }
 
       pub ended : call.EndsRound old new → Message
-      ended d = RoundEnd old.sender.rounds.round (sha256 (text ts ms))
+      ended d = RoundEnd old.sender.rounds.round (digest_of digests (text digests ts ms))
 
       pub end_sent : (d : call.EndsRound old new) → HasSent new (after event.EndRound s) (ms ++ ended d ∷ [])
       unfolding ended story AllMay
       end_sent d =
-          let m : Message = RoundEnd old.sender.rounds.round (sha256 (text ts ms)) in
-          let said = d.sent (text ts ms) h.hashed in
+          let m : Message = RoundEnd old.sender.rounds.round (digest_of digests (text digests ts ms)) in
+          let said = d.sent digests (text digests ts ms) h.hashed in
           let same : (after event.EndRound s).batch ≡ s.batch =
           cond_both (is_round_over s) (after_round s) s (λ t. t.batch ≡ s.batch) (λ e. refl) (λ e. refl) in
           let images : (after event.EndRound s).images ≡ s.images =
@@ -361,12 +292,11 @@ module _ {B : Type 0} (pages_of : B → PageSet) (ts : List Target) where
                 (round_follows pages_of old.sender.rounds new.sender.rounds old.host s h.follows d.kept d.idle d.through
                 d.turn d.round d.batch);
             followed = followed_on (event.EndRound ∷ []) s (tt, tt) h.followed;
-            stream = appended old.stream new.stream (text ts ms) (spelling m) h.stream said.1.written
-                ∙ ap Some (one_more ts ms m);
-            hashed = subst (λ (x : List ℕ). Holds256 new.sender.hasher x) (one_more ts ms m)
-                (said.1.hashed (text ts ms) h.hashed);
+            stream = appended old.stream new.stream (text digests ts ms) (spelling m) h.stream said.1.written
+                ∙ ap Some (one_more digests ts ms m);
+            hashed = subst (λ (x : List ℕ). HasNoted digests new.sender.hasher x) (one_more digests ts ms m)
+                (said.1.hashed digests (text digests ts ms) h.hashed);
             fits = fits-append ms (m ∷ []) h.fits (said.0, tt);
-            batch_fits = subst (λ (xs : List Message). AllByRecursion IsMessage xs) (sym same) h.batch_fits;
             images = λ j t at.
                 ap (λ (f : ℕ → List ℕ). f j) images ∙ h.images j t at
                 ∙ sym (bare_arrives t.entry.page_size j ms m (replicate t.entry.len 0) (λ x. refl));

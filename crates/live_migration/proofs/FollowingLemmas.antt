@@ -15,12 +15,13 @@ use Rattle.live_migration.specs.Frame.{Message, spelling}
 use Rattle.live_migration.specs.Leave.{IsFirst}
 use Rattle.live_migration.specs.Targets.{AreTargets}
 use Rattle.live_migration.specs.declared.sender.stream.Sender.{Sender}
-use Rattle.live_migration.specs.Image.{copied}
+use Rattle.live_migration.specs.Image.{copied, one_by_one}
 use Rattle.live_migration.specs.Rounds.{Ends, IsBeginning, IsThrough, Source, Harvest, Copy, Send, EndRound, after, is_round_over, clean, may_harvest, size_of, taken}
-use Rattle.live_migration.specs.Sending.{CopiesPages, HarvestsNext, IsIdle, source_of}
+use Rattle.live_migration.specs.Sending.{CopiesPages, HarvestsNext, IsIdle, page_size_at, page_size_of, source_of}
 use Rattle.live_migration.specs.declared.sender.pages.Target.{Target}
 use Rattle.live_migration.specs.declared.sender.rounds.Rounds.{Rounds}
 use Rattle.live_migration.proofs.OneWayLemmas.{some_bytes}
+use Rattle.live_migration.proofs.RunLemmas.{fits-append}
 
 pub slice_get-set_same : {X : Type 0} (xs : List X) (i : ℕ) (x y : X) → slice_get xs i ≡ Some x
     → slice_get (set xs i y) i ≡ Some y
@@ -134,7 +135,10 @@ module _ {B : Type 0} (pages_of : B → PageSet) where
         waiting = sym (ap (λ (n : ℕ). drop n new.waiting.items) h.start ∙ h.takes.pages_are
             ∙ ap (λ (r : ℕ). taken r (source_of h.target h.takes.tracked host)) (sym f.round)
             ∙ ap (taken s.round) source_is);
+        messages = f.messages;
+        fit = f.fit;
         batch = ap (λ (v : Vec ℕ). v.items) h.same.2 ∙ f.batch;
+        pages = ap (λ (ts : List Target). flat_map (one_by_one (page_size_at ts)) f.messages) targets_are ∙ f.pages;
         sources = λ j t at. source_at j t (ap (λ (ts : List Target). slice_get ts j) (sym targets_are) ∙ at);
         once = λ i j t u a b e. f.once i j t u (ap (λ (ts : List Target). slice_get ts i) (sym targets_are) ∙ a)
             (ap (λ (ts : List Target). slice_get ts j) (sym targets_are) ∙ b) e;
@@ -169,16 +173,19 @@ module _ {B : Type 0} (pages_of : B → PageSet) where
         waiting = ap (drop n) f.waiting ∙ drop-drop n old.next old.waiting.items
             ∙ ap (λ (k : ℕ). drop k old.waiting.items) (sym c.next)
             ∙ ap (λ (v : Vec ℕ). drop new.next v.items) (sym c.same.2);
-        batch = c.batch ∙ ap (λ (x : List ℕ). x ++ flat_map spelling (flat_map
-            (copied c.target.entry.page_size old.last (block_at host.blocks c.target.block.0))
-            (take n (drop old.next old.waiting.items)))) f.batch
-            ∙ ap (λ (g : ℕ → List Message). flat_map spelling s.batch
-            ++ flat_map spelling (flat_map g (take n (drop old.next old.waiting.items)))) pages
-            ∙ ap (λ (w : List ℕ). flat_map spelling s.batch
-            ++ flat_map spelling (flat_map (copied (size_of s s.last) s.last (s.sources s.last).bytes) (take n w)))
-            (sym f.waiting)
-            ∙ sym (flat_map-append spelling s.batch
-            (flat_map (copied (size_of s s.last) s.last (s.sources s.last).bytes) (take n s.waiting)));
+        messages = f.messages ++ c.batch.messages;
+        fit = fits-append f.messages c.batch.messages f.fit c.batch.fit;
+        batch = c.batch.spelled ∙ ap (λ (x : List ℕ). x ++ flat_map spelling c.batch.messages) f.batch
+            ∙ sym (flat_map-append spelling f.messages c.batch.messages);
+        pages = ap (λ (ts : List Target). flat_map (one_by_one (page_size_at ts)) (f.messages ++ c.batch.messages)) targets
+            ∙ flat_map-append (one_by_one (page_size_at old.targets.items)) f.messages c.batch.messages
+            ∙ ap (λ (x : List Message). x ++ flat_map (one_by_one (page_size_at old.targets.items)) c.batch.messages)
+            f.pages
+            ∙ ap (λ (x : List Message). s.batch ++ x)
+            (c.batch.copies (page_size_at old.targets.items) (ap page_size_of c.there))
+            ∙ ap (λ (g : ℕ → List Message). s.batch ++ flat_map g (take n (drop old.next old.waiting.items))) pages
+            ∙ ap (λ (w : List ℕ). s.batch
+            ++ flat_map (copied (size_of s s.last) s.last (s.sources s.last).bytes) (take n w)) (sym f.waiting);
         sources = λ j t at. f.sources j t (ap (λ (ts : List Target). slice_get ts j) (sym targets) ∙ at);
         once = λ i j t u a b e. f.once i j t u (ap (λ (ts : List Target). slice_get ts i) (sym targets) ∙ a)
             (ap (λ (ts : List Target). slice_get ts j) (sym targets) ∙ b) e;
@@ -195,7 +202,10 @@ module _ {B : Type 0} (pages_of : B → PageSet) where
     last = f.last ∙ sym k.last;
     waiting = f.waiting ∙ ap (λ (n : ℕ). drop n old.waiting.items) (sym k.next)
         ∙ ap (λ (v : Vec ℕ). drop new.next v.items) (sym k.waiting);
+    messages = [];
+    fit = tt;
     batch = none;
+    pages = refl;
     sources = λ j t at. f.sources j t (ap (λ (v : Vec Target). slice_get v.items j) (sym k.targets) ∙ at);
     once = λ i j t u a b e. f.once i j t u (ap (λ (v : Vec Target). slice_get v.items i) (sym k.targets) ∙ a)
         (ap (λ (v : Vec Target). slice_get v.items j) (sym k.targets) ∙ b) e;
@@ -211,7 +221,10 @@ module _ {B : Type 0} (pages_of : B → PageSet) where
     last = f.last ∙ sym r.kept.last;
     waiting = f.waiting ∙ ap (λ (n : ℕ). drop n old.waiting.items) (sym r.kept.next)
         ∙ ap (λ (v : Vec ℕ). drop new.next v.items) (sym r.kept.waiting);
+    messages = f.messages;
+    fit = f.fit;
     batch = r.batch ∙ f.batch;
+    pages = ap (λ (v : Vec Target). flat_map (one_by_one (page_size_at v.items)) f.messages) r.kept.targets ∙ f.pages;
     sources = λ j t at. f.sources j t (ap (λ (v : Vec Target). slice_get v.items j) (sym r.kept.targets) ∙ at);
     once = λ i j t u a b e. f.once i j t u (ap (λ (v : Vec Target). slice_get v.items i) (sym r.kept.targets) ∙ a)
         (ap (λ (v : Vec Target). slice_get v.items j) (sym r.kept.targets) ∙ b) e;
@@ -223,7 +236,8 @@ module _ {B : Type 0} (pages_of : B → PageSet) where
   is_through old host s f idle all = record {
     turn = f.turn ∙ all ∙ sym f.count;
     waiting = f.waiting ∙ drop_all old.next old.waiting.items idle.0;
-    batch = none_batched s.batch (sym f.batch ∙ idle.1);
+    batch = sym f.pages ∙ ap (flat_map (one_by_one (page_size_at old.targets.items)))
+        (none_batched f.messages (sym f.batch ∙ idle.1));
   }
 
   pub round_follows : (old new : Rounds) (host : Host B) (s : Ends) → Follows pages_of old host s
@@ -238,7 +252,10 @@ module _ {B : Type 0} (pages_of : B → PageSet) where
         last = f.last ∙ sym k.last;
         waiting = f.waiting ∙ ap (λ (n : ℕ). drop n old.waiting.items) (sym k.next)
             ∙ ap (λ (v : Vec ℕ). drop new.next v.items) (sym k.waiting);
+        messages = f.messages;
+        fit = f.fit;
         batch = ap (λ (v : Vec ℕ). v.items) same ∙ f.batch;
+        pages = ap (λ (v : Vec Target). flat_map (one_by_one (page_size_at v.items)) f.messages) k.targets ∙ f.pages;
         sources = λ j t at. f.sources j t (ap (λ (v : Vec Target). slice_get v.items j) (sym k.targets) ∙ at);
         once = λ i j t u a b e. f.once i j t u (ap (λ (v : Vec Target). slice_get v.items i) (sym k.targets) ∙ a)
             (ap (λ (v : Vec Target). slice_get v.items j) (sym k.targets) ∙ b) e;
@@ -255,7 +272,10 @@ module _ {B : Type 0} (pages_of : B → PageSet) where
     turn = b.turn ∙ sym first.turn;
     last = last;
     waiting = b.waiting ∙ sym (ap (λ (n : ℕ). drop n x.rounds.waiting.items) first.next ∙ first.waiting);
-    batch = first.batch ∙ ap (flat_map spelling) (sym b.batch);
+    messages = [];
+    fit = tt;
+    batch = first.batch;
+    pages = sym b.batch;
     sources = sources;
     once = are.blocks.once;
   }

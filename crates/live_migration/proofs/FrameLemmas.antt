@@ -1,9 +1,9 @@
 -- What is read of a payload is spelled so, and what is spelled so is read.
-use Rattle.std.proofs.Common.{◌≡◌, ℕ, ◌^◌, ◌<◌, ◌≤◌, Bool, true, false, cond, ltb, eqb, List, [], ◌∷◌, ◌++◌, length, take, drop, Result, Ok, Err, refl, sym, ap, subst, ◌∙◌, arith}
+use Rattle.std.proofs.Common.{◌≡◌, ℕ, ◌^◌, ◌<◌, ◌≤◌, ◌⊎◌, Bool, true, false, cond, ltb, eqb, ◌||◌, inl, inr, List, [], ◌∷◌, ◌++◌, length, take, drop, Result, Ok, Err, refl, sym, ap, subst, ◌∙◌, arith}
 use Rattle.std.specs.Prelude.{IfOk}
 use Rattle.std.specs.Int.{w32, w64, from_le_bytes, to_le_bytes}
 use Rattle.live_migration.specs.declared.frame.Frame.{Frame}
-use Rattle.std.proofs.lemmas.Bool.{eqb-true, ltb-false, le-ltb}
+use Rattle.std.proofs.lemmas.Bool.{or_cases, eqb-true, ltb-false, le-ltb}
 use Rattle.std.proofs.lemmas.List.{append-nil, take_at, drop_at, take-append-drop, length-append, length-take, nil_from_length}
 use Rattle.std.proofs.lemmas.Nat.{from_le_bytes-to_le_bytes_4, from_le_bytes-to_le_bytes_8}
 use Rattle.live_migration.specs.declared.refusal.Refusal.{Refusal}
@@ -57,16 +57,27 @@ zero_page_takes payload m fits e =
           (u.0.parts ∙ nothing_left b.0.1 (to_le_bytes w64 b.0.0) nothing);
     })
 
+-- a digest is there or not
+digest_fits : (n : ℕ) → (eqb n 0 || eqb n 32) ≡ true → (n ≡ 0) ⊎ (n ≡ 32)
+digest_fits n e = elim (or_cases (eqb n 0) (eqb n 32) e) [
+  | inl none ↦ inl (eqb-true n 0 none)
+  | inr some ↦ inr (eqb-true n 32 some)
+]
+
+digest_again : (n : ℕ) → (n ≡ 0) ⊎ (n ≡ 32) → (eqb n 0 || eqb n 32) ≡ true
+digest_again n (inl none) = rw none refl
+digest_again n (inr some) = rw some refl
+
 round_end_takes : (payload : List ℕ) (m : Message) → IsBytes payload → round_end_in payload ≡ Ok m
     → Spells 3 payload m
 unfolding round_end_in
 round_end_takes payload m fits e =
     let a = bind_ok (number_at w32 payload) (λ round.
-    cond (eqb (length round.1) 32) (Ok (RoundEnd round.0 round.1)) (Err FrameLength)) m e in
-    let g = guard_true (eqb (length a.0.1) 32) FrameLength (RoundEnd a.0.0 a.0.1) m a.2 in
+    cond (eqb (length round.1) 0 || eqb (length round.1) 32) (Ok (RoundEnd round.0 round.1)) (Err FrameLength)) m e in
+    let g = guard_true (eqb (length a.0.1) 0 || eqb (length a.0.1) 32) FrameLength (RoundEnd a.0.0 a.0.1) m a.2 in
     let t = number_takes w32 (2 ^ 32) wide32 payload a.0.0 a.0.1 fits a.1 in
     subst (λ (x : Message). Spells 3 payload x) g.1 (record {
-      fits = (t.1, eqb-true _ _ g.0);
+      fits = (t.1, digest_fits (length a.0.1) g.0);
       kind_is = refl;
       payload_is = t.0.parts;
     })
@@ -149,7 +160,7 @@ message_again (Pages block first bytes) is =
     ) refl
 message_again (ZeroPage block page) is = zero_page_again block page is.0 is.1
 message_again (RoundEnd round digest) is =
-    rw (number_again w32 (2 ^ 32) wide32 round digest is.0, is.1) refl
+    rw (number_again w32 (2 ^ 32) wide32 round digest is.0, digest_again (length digest) is.1) refl
 message_again (Section name bytes) is =
     let long : ltb (length (name ++ bytes)) (length name) ≡ false =
     le-ltb _ _ (omega (arith, length-append name bytes)) in

@@ -7,18 +7,26 @@ use Rattle.std.specs.Global.{Vec}
 use Rattle.std.proofs.lemmas.Bool.{eqb-true, ltb-true, ltb-false, le-ltb, lt-ltb, leb-true, le-leb, and_parts, and_from}
 use Rattle.std.proofs.lemmas.List.{append-nil, nil_from_length, flat_map_more, take_more}
 use Rattle.std.proofs.lemmas.List.Concat.{flat_map-cons}
-use Rattle.live_migration.specs.Header.{entry_bytes, header_bytes, FitsFields, IsEntry, AreEntries, IsHeader, GivesUnlessMemory, front_in, checked, entry_in, entries_in, header_in}
+use Rattle.live_migration.specs.Header.{entry_bytes, header_bytes, option_bits, FitsFields, IsEntry, AreEntries, IsHeader, GivesUnlessMemory, front_in, checked, entry_in, entries_in, header_in, parts_of}
 use Rattle.live_migration.specs.Reading.{◌>>=◌, Gives, number_at}
 use Rattle.live_migration.specs.declared.header.BlockEntry.{BlockEntry}
+use Rattle.live_migration.specs.declared.header.Header.{Header}
 use Rattle.live_migration.specs.declared.refusal.Refusal.{Refusal}
 use Rattle.live_migration.specs.declared.refusal.Refusal.TheVariants as refusal
-use Rattle.live_migration.specs.declared.refusal.Refusal.TheVariants.{Magic, Version, BlockCount, BlockLength, PageSize, Place, TooMuchMemory, FrameLength, Memory}
+use Rattle.live_migration.specs.declared.refusal.Refusal.TheVariants.{Magic, Version, Options, BlockCount, BlockLength, PageSize, Place, TooMuchMemory, FrameLength, Memory}
 use Rattle.live_migration.proofs.FieldLemmas.{IsBytes, bind_ok, guard_ok, guard_true, ok_is, Takes, Takes-then, wide32, wide64, number_takes, number_again}
 
 -- ---- the front
 
-front_bytes : ℕ → List ℕ
-front_bytes n = to_le_bytes w64 0x5441_5247_494d_4d56 ++ (to_le_bytes w32 1 ++ to_le_bytes w32 n)
+front_bytes : Bool → ℕ → List ℕ
+front_bytes d n = to_le_bytes w64 0x5441_5247_494d_4d56
+    ++ (to_le_bytes w32 2 ++ (to_le_bytes w32 (option_bits d) ++ to_le_bytes w32 n))
+
+-- the bits of an option that is told
+bits_are : (n : ℕ) → n < 2 → option_bits (eqb n 1) ≡ n
+bits_are zero l = refl
+bits_are (suc zero) l = refl
+bits_are (suc (suc n)) l = absurd (omega arith)
 
 -- a test that was passed, and what came behind it
 passed : {A : Type 0} (b : Bool) (r : Result A Refusal) (e : Refusal) (x : A) → cond b r (Err e) ≡ Ok x
@@ -26,58 +34,99 @@ passed : {A : Type 0} (b : Bool) (r : Result A Refusal) (e : Refusal) (x : A) �
 passed true r e x h = (refl, h)
 passed false r e x h = absurd cc
 
-front_takes : (bytes : List ℕ) (x : ℕ × List ℕ) → IsBytes bytes → front_in bytes ≡ Ok x
-    → Takes bytes (front_bytes x.0) x.1 × (x.0 ≤ 256)
+-- what follows the version
+options_take : (bytes : List ℕ) (x : Bool × ℕ × List ℕ) → IsBytes bytes
+    → (number_at w32 bytes >>= λ options. cond (ltb options.0 2) (number_at w32 options.1) (Err Options) >>= λ count.
+    cond (ltb 256 count.0) (Err BlockCount) (Ok (eqb options.0 1, count.0, count.1))) ≡ Ok x
+    → Takes bytes (to_le_bytes w32 (option_bits x.0) ++ to_le_bytes w32 x.1) x.2 × (x.1 ≤ 256)
+options_take bytes x fits e =
+    let b = bind_ok (number_at w32 bytes) (λ options.
+    cond (ltb options.0 2) (number_at w32 options.1) (Err Options) >>= λ count.
+    cond (ltb 256 count.0) (Err BlockCount) (Ok (eqb options.0 1, count.0, count.1))) x e in
+    let c = bind_ok (cond (ltb b.0.0 2) (number_at w32 b.0.1) (Err Options)) (λ count.
+    cond (ltb 256 count.0) (Err BlockCount) (Ok (eqb b.0.0 1, count.0, count.1))) x b.2 in
+    let made : Bool × ℕ × List ℕ = (eqb b.0.0 1, c.0.0, c.0.1) in
+    let g = guard_ok (ltb 256 c.0.0) BlockCount made x c.2 in
+    let q = passed (ltb b.0.0 2) (number_at w32 b.0.1) Options c.0 c.1 in
+    let u = number_takes w32 (2 ^ 32) wide32 bytes b.0.0 b.0.1 fits b.1 in
+    let v = number_takes w32 (2 ^ 32) wide32 b.0.1 c.0.0 c.0.1 u.0.rest_fits q.1 in
+    let u' : Takes bytes (to_le_bytes w32 (option_bits (eqb b.0.0 1))) b.0.1 =
+    subst (λ (n : ℕ). Takes bytes (to_le_bytes w32 n) b.0.1) (sym (bits_are b.0.0 (ltb-true _ _ q.0))) u.0 in
+    let uv = Takes-then bytes (to_le_bytes w32 (option_bits (eqb b.0.0 1))) b.0.1 (to_le_bytes w32 c.0.0) c.0.1 u' v.0
+    in
+    subst (λ (y : Bool × ℕ × List ℕ).
+    Takes bytes (to_le_bytes w32 (option_bits y.0) ++ to_le_bytes w32 y.1) y.2 × (y.1 ≤ 256)) g.1
+    (uv, ltb-false _ _ g.0)
+
+front_takes : (bytes : List ℕ) (x : Bool × ℕ × List ℕ) → IsBytes bytes → front_in bytes ≡ Ok x
+    → Takes bytes (front_bytes x.0 x.1) x.2 × (x.1 ≤ 256)
 unfolding front_in front_bytes
 front_takes bytes x fits e =
     let a = bind_ok (number_at w64 bytes) (λ word.
     cond (eqb word.0 0x5441_5247_494d_4d56) (number_at w32 word.1) (Err Magic) >>= λ version.
-    cond (eqb version.0 1) (number_at w32 version.1) (Err Version) >>= λ count.
-    cond (ltb 256 count.0) (Err BlockCount) (Ok count)) x e in
+    cond (eqb version.0 2) (number_at w32 version.1) (Err Version) >>= λ options.
+    cond (ltb options.0 2) (number_at w32 options.1) (Err Options) >>= λ count.
+    cond (ltb 256 count.0) (Err BlockCount) (Ok (eqb options.0 1, count.0, count.1))) x e in
     let b = bind_ok (cond (eqb a.0.0 0x5441_5247_494d_4d56) (number_at w32 a.0.1) (Err Magic)) (λ version.
-    cond (eqb version.0 1) (number_at w32 version.1) (Err Version) >>= λ count.
-    cond (ltb 256 count.0) (Err BlockCount) (Ok count)) x a.2 in
-    let c = bind_ok (cond (eqb b.0.0 1) (number_at w32 b.0.1) (Err Version)) (λ count.
-    cond (ltb 256 count.0) (Err BlockCount) (Ok count)) x b.2 in
-    let g = guard_ok (ltb 256 c.0.0) BlockCount c.0 x c.2 in
+    cond (eqb version.0 2) (number_at w32 version.1) (Err Version) >>= λ options.
+    cond (ltb options.0 2) (number_at w32 options.1) (Err Options) >>= λ count.
+    cond (ltb 256 count.0) (Err BlockCount) (Ok (eqb options.0 1, count.0, count.1))) x a.2 in
     let p = passed (eqb a.0.0 0x5441_5247_494d_4d56) (number_at w32 a.0.1) Magic b.0 b.1 in
-    let q = passed (eqb b.0.0 1) (number_at w32 b.0.1) Version c.0 c.1 in
+    let c = bind_ok (cond (eqb b.0.0 2) (number_at w32 b.0.1) (Err Version)) (λ options.
+    cond (ltb options.0 2) (number_at w32 options.1) (Err Options) >>= λ count.
+    cond (ltb 256 count.0) (Err BlockCount) (Ok (eqb options.0 1, count.0, count.1))) x b.2 in
+    let q = passed (eqb b.0.0 2) (number_at w32 b.0.1) Version c.0 c.1 in
     let t = number_takes w64 (2 ^ 64) wide64 bytes a.0.0 a.0.1 fits a.1 in
     let u = number_takes w32 (2 ^ 32) wide32 a.0.1 b.0.0 b.0.1 t.0.rest_fits p.1 in
-    let v = number_takes w32 (2 ^ 32) wide32 b.0.1 c.0.0 c.0.1 u.0.rest_fits q.1 in
+    let v = options_take b.0.1 x u.0.rest_fits (ap (λ (r : Result (ℕ × List ℕ) Refusal). r >>= λ options.
+    cond (ltb options.0 2) (number_at w32 options.1) (Err Options) >>= λ count.
+    cond (ltb 256 count.0) (Err BlockCount) (Ok (eqb options.0 1, count.0, count.1))) q.1 ∙ c.2) in
     let t' : Takes bytes (to_le_bytes w64 0x5441_5247_494d_4d56) a.0.1 =
     subst (λ (n : ℕ). Takes bytes (to_le_bytes w64 n) a.0.1) (eqb-true _ _ p.0) t.0 in
-    let u' : Takes a.0.1 (to_le_bytes w32 1) b.0.1 =
+    let u' : Takes a.0.1 (to_le_bytes w32 2) b.0.1 =
     subst (λ (n : ℕ). Takes a.0.1 (to_le_bytes w32 n) b.0.1) (eqb-true _ _ q.0) u.0 in
-    let uv = Takes-then a.0.1 (to_le_bytes w32 1) b.0.1 (to_le_bytes w32 c.0.0) c.0.1 u' v.0 in
-    let all = Takes-then bytes (to_le_bytes w64 0x5441_5247_494d_4d56) a.0.1
-    (to_le_bytes w32 1 ++ to_le_bytes w32 c.0.0) c.0.1 t' uv in
-    subst (λ (y : ℕ × List ℕ). Takes bytes (front_bytes y.0) y.1 × (y.0 ≤ 256)) g.1 (all, ltb-false _ _ g.0)
+    let rest = to_le_bytes w32 (option_bits x.0) ++ to_le_bytes w32 x.1 in
+    let uv = Takes-then a.0.1 (to_le_bytes w32 2) b.0.1 rest x.2 u' v.0 in
+    (Takes-then bytes (to_le_bytes w64 0x5441_5247_494d_4d56) a.0.1 (to_le_bytes w32 2 ++ rest) x.2 t' uv, v.1)
 
-front_again : (n : ℕ) (rest : List ℕ) → n ≤ 256
-    → front_in (to_le_bytes w64 0x5441_5247_494d_4d56 ++ (to_le_bytes w32 1 ++ (to_le_bytes w32 n ++ rest)))
-    ≡ Ok (n, rest)
+-- what was spelled of options is read
+options_again : (d : Bool) → (ltb (option_bits d) 2 ≡ true) × (eqb (option_bits d) 1 ≡ d) × (option_bits d < 2 ^ 32)
+options_again true = (refl, refl, lit< tt)
+options_again false = (refl, refl, lit< tt)
+
+-- a front, and what lies behind it
+abbrev front_text : Bool → ℕ → List ℕ → List ℕ
+front_text d n rest = to_le_bytes w64 0x5441_5247_494d_4d56
+    ++ (to_le_bytes w32 2 ++ (to_le_bytes w32 (option_bits d) ++ (to_le_bytes w32 n ++ rest)))
+
+front_again : (d : Bool) (n : ℕ) (rest : List ℕ) → n ≤ 256 → front_in (front_text d n rest) ≡ Ok (d, n, rest)
 unfolding front_in
-front_again n rest few =
+front_again d n rest few =
     let count : ltb 256 n ≡ false = le-ltb _ _ few in
+    let o = options_again d in
     rw (
       number_again w64 (2 ^ 64) wide64 0x5441_5247_494d_4d56
-          (to_le_bytes w32 1 ++ (to_le_bytes w32 n ++ rest)) (lit< tt),
-      number_again w32 (2 ^ 32) wide32 1 (to_le_bytes w32 n ++ rest) (lit< tt),
+          (to_le_bytes w32 2 ++ (to_le_bytes w32 (option_bits d) ++ (to_le_bytes w32 n ++ rest))) (lit< tt),
+      number_again w32 (2 ^ 32) wide32 2 (to_le_bytes w32 (option_bits d) ++ (to_le_bytes w32 n ++ rest)) (lit< tt),
+      number_again w32 (2 ^ 32) wide32 (option_bits d) (to_le_bytes w32 n ++ rest) o.2,
+      o.0,
       number_again w32 (2 ^ 32) wide32 n rest (omega arith),
       count,
+      o.1,
     ) refl
 
-front_many : (n : ℕ) (rest : List ℕ) → 256 < n → n < 2 ^ 32
-    → front_in (to_le_bytes w64 0x5441_5247_494d_4d56 ++ (to_le_bytes w32 1 ++ (to_le_bytes w32 n ++ rest)))
-    ≡ Err BlockCount
+front_many : (d : Bool) (n : ℕ) (rest : List ℕ) → 256 < n → n < 2 ^ 32
+    → front_in (front_text d n rest) ≡ Err BlockCount
 unfolding front_in
-front_many n rest many fits =
+front_many d n rest many fits =
     let count : ltb 256 n ≡ true = lt-ltb _ _ many in
+    let o = options_again d in
     rw (
       number_again w64 (2 ^ 64) wide64 0x5441_5247_494d_4d56
-          (to_le_bytes w32 1 ++ (to_le_bytes w32 n ++ rest)) (lit< tt),
-      number_again w32 (2 ^ 32) wide32 1 (to_le_bytes w32 n ++ rest) (lit< tt),
+          (to_le_bytes w32 2 ++ (to_le_bytes w32 (option_bits d) ++ (to_le_bytes w32 n ++ rest))) (lit< tt),
+      number_again w32 (2 ^ 32) wide32 2 (to_le_bytes w32 (option_bits d) ++ (to_le_bytes w32 n ++ rest)) (lit< tt),
+      number_again w32 (2 ^ 32) wide32 (option_bits d) (to_le_bytes w32 n ++ rest) o.2,
+      o.0,
       number_again w32 (2 ^ 32) wide32 n rest fits,
       count,
     ) refl
@@ -206,44 +255,47 @@ entries_again (e ∷ es) from left rest are =
 
 -- ---- all of it
 
-pub header_takes : (limit : ℕ) (bytes : List ℕ) (es : List BlockEntry) → IsBytes bytes → header_in limit bytes ≡ Ok es
-    → IsHeader limit es × (bytes ≡ header_bytes es)
+pub header_takes : (limit : ℕ) (bytes : List ℕ) (h : Bool × List BlockEntry) → IsBytes bytes
+    → header_in limit bytes ≡ Ok h → IsHeader limit h.1 × (bytes ≡ header_bytes h.0 h.1)
 unfolding header_in header_bytes front_bytes
-header_takes limit bytes es fits e =
-    let a = bind_ok (front_in bytes) (λ count. entries_in count.0 0 limit count.1 >>= λ x.
-    cond (eqb (length x.1) 0) (Ok x.0) (Err FrameLength)) es e in
-    let b = bind_ok (entries_in a.0.0 0 limit a.0.1) (λ x.
-    cond (eqb (length x.1) 0) (Ok x.0) (Err FrameLength)) es a.2 in
-    let g = guard_true (eqb (length b.0.1) 0) FrameLength b.0.0 es b.2 in
+header_takes limit bytes h fits e =
+    let a = bind_ok (front_in bytes) (λ front. entries_in front.1 0 limit front.2 >>= λ x.
+    cond (eqb (length x.1) 0) (Ok (front.0, x.0)) (Err FrameLength)) h e in
+    let b = bind_ok (entries_in a.0.1 0 limit a.0.2) (λ x.
+    cond (eqb (length x.1) 0) (Ok (a.0.0, x.0)) (Err FrameLength)) h a.2 in
+    let made : Bool × List BlockEntry = (a.0.0, b.0.0) in
+    let g = guard_true (eqb (length b.0.1) 0) FrameLength made h b.2 in
     let first = front_takes bytes a.0 fits a.1 in
-    let second = entries_take a.0.0 0 limit a.0.1 b.0 first.0.rest_fits b.1 in
+    let second = entries_take a.0.1 0 limit a.0.2 b.0 first.0.rest_fits b.1 in
     let nothing : b.0.1 ≡ [] = nil_from_length b.0.1 (eqb-true _ _ g.0) in
-    let tail : a.0.1 ≡ flat_map entry_bytes b.0.0 =
+    let tail : a.0.2 ≡ flat_map entry_bytes b.0.0 =
     second.0.parts ∙ ap (λ (r : List ℕ). flat_map entry_bytes b.0.0 ++ r) nothing ∙ append-nil _ in
-    let whole : bytes ≡ header_bytes b.0.0 =
-    first.0.parts ∙ ap (λ (r : List ℕ). front_bytes a.0.0 ++ r) tail
-    ∙ ap (λ (n : ℕ). front_bytes n ++ flat_map entry_bytes b.0.0) (sym second.1) in
-    subst (λ (v : List BlockEntry). IsHeader limit v × (bytes ≡ header_bytes v)) g.1
+    let whole : bytes ≡ header_bytes a.0.0 b.0.0 =
+    first.0.parts ∙ ap (λ (r : List ℕ). front_bytes a.0.0 a.0.1 ++ r) tail
+    ∙ ap (λ (n : ℕ). front_bytes a.0.0 n ++ flat_map entry_bytes b.0.0) (sym second.1)
+    ∙ simp append_assoc in
+    subst (λ (v : Bool × List BlockEntry). IsHeader limit v.1 × (bytes ≡ header_bytes v.0 v.1)) g.1
     ((omega (arith, second.1, first.1), second.2), whole)
 
-pub header_again : (limit : ℕ) (es : List BlockEntry) → IsHeader limit es → header_in limit (header_bytes es) ≡ Ok es
+pub header_again : (limit : ℕ) (d : Bool) (es : List BlockEntry) → IsHeader limit es
+    → header_in limit (header_bytes d es) ≡ Ok (d, es)
 unfolding header_in header_bytes
-header_again limit es is =
+header_again limit d es is =
     let last : entries_in (length es) 0 limit (flat_map entry_bytes es) ≡ Ok (es, []) =
     ap (entries_in (length es) 0 limit) (sym (append-nil (flat_map entry_bytes es)))
     ∙ entries_again es 0 limit [] is.1 in
-    rw (front_again (length es) (flat_map entry_bytes es) is.0, last) refl
+    rw (front_again d (length es) (flat_map entry_bytes es) is.0, last) refl
 
 -- a header of too many blocks
-pub header_many : (limit : ℕ) (es : List BlockEntry) → 256 < length es → length es < 2 ^ 32
-    → header_in limit (header_bytes es) ≡ Err BlockCount
+pub header_many : (limit : ℕ) (d : Bool) (es : List BlockEntry) → 256 < length es → length es < 2 ^ 32
+    → header_in limit (header_bytes d es) ≡ Err BlockCount
 unfolding header_in header_bytes
-header_many limit es many fits = rw (front_many (length es) (flat_map entry_bytes es) many fits) refl
+header_many limit d es many fits = rw (front_many d (length es) (flat_map entry_bytes es) many fits) refl
 
-pub header_found : (limit : ℕ) (bytes : List ℕ) (r : Result (Vec BlockEntry) Refusal) → IsBytes bytes
-    → GivesUnlessMemory (λ v. v.items) r (header_in limit bytes)
-    → IfOk r (λ v. IsHeader limit v.items × (bytes ≡ header_bytes v.items))
-header_found limit bytes (Ok v) fits given = header_takes limit bytes v.items fits given
+pub header_found : (limit : ℕ) (bytes : List ℕ) (r : Result Header Refusal) → IsBytes bytes
+    → GivesUnlessMemory parts_of r (header_in limit bytes)
+    → IfOk r (λ h. IsHeader limit h.entries.items × (bytes ≡ header_bytes h.options.digests h.entries.items))
+header_found limit bytes (Ok h) fits given = header_takes limit bytes (h.options.digests, h.entries.items) fits given
 header_found limit bytes (Err e) fits given = tt
 
 -- ---- two headers in front of the same bytes
@@ -267,13 +319,12 @@ wider_entries (e ∷ es) from left more l are =
     )
 
 -- a header, from left to right
-header_parts : (es : List BlockEntry) (x : List ℕ)
-    → header_bytes es ++ x ≡ to_le_bytes w64 0x5441_5247_494d_4d56
-    ++ (to_le_bytes w32 1 ++ (to_le_bytes w32 (length es) ++ (flat_map entry_bytes es ++ x)))
+header_parts : (d : Bool) (es : List BlockEntry) (x : List ℕ)
+    → header_bytes d es ++ x ≡ front_text d (length es) (flat_map entry_bytes es ++ x)
 unfolding header_bytes
-header_parts es x = simp append_assoc
+header_parts d es x = simp append_assoc
 
-abbrev front : ℕ × List ℕ → Result (ℕ × List ℕ) Refusal
+abbrev front : Bool × ℕ × List ℕ → Result (Bool × ℕ × List ℕ) Refusal
 front p = Ok p
 
 abbrev listed : List BlockEntry × List ℕ → Result (List BlockEntry × List ℕ) Refusal
@@ -282,22 +333,32 @@ listed p = Ok p
 same_pairs : {X Y : Type 0} (a b : X) (x y : Y) → ◌≡◌ {A = X × Y} (a, x) (b, y) → (a ≡ b) × (x ≡ y)
 same_pairs {X} {Y} a b x y e = (ap (λ (p : X × Y). p.0) e, ap (λ (p : X × Y). p.1) e)
 
--- the blocks of a header, and what lies behind it, are decided by the bytes
-pub same_header : (limit most : ℕ) (es fs : List BlockEntry) (x y : List ℕ) → IsHeader limit es → IsHeader most fs
-    → header_bytes es ++ x ≡ header_bytes fs ++ y → (es ≡ fs) × (x ≡ y)
-same_header limit most es fs x y a b e =
+same_fronts : (d e : Bool) (m n : ℕ) (x y : List ℕ) → front (d, m, x) ≡ front (e, n, y)
+    → (d ≡ e) × (m ≡ n) × (x ≡ y)
+same_fronts d e m n x y h =
+    let same : ◌≡◌ {A = Bool × ℕ × List ℕ} (d, m, x) (e, n, y) = ok_is (d, m, x) (e, n, y) h in (
+      ap (λ (p : Bool × ℕ × List ℕ). p.0) same,
+      ap (λ (p : Bool × ℕ × List ℕ). p.1) same,
+      ap (λ (p : Bool × ℕ × List ℕ). p.2) same,
+    )
+
+-- the options and blocks of a header, and what lies behind it, are decided by the bytes
+pub same_header : (limit most : ℕ) (d d' : Bool) (es fs : List BlockEntry) (x y : List ℕ) → IsHeader limit es
+    → IsHeader most fs → header_bytes d es ++ x ≡ header_bytes d' fs ++ y → (d ≡ d') × (es ≡ fs) × (x ≡ y)
+same_header limit most d d' es fs x y a b e =
     let tail = flat_map entry_bytes es ++ x in
     let tail' = flat_map entry_bytes fs ++ y in
-    let fronts : front (length es, tail) ≡ front (length fs, tail') =
-    sym (front_again (length es) tail a.0) ∙ ap front_in (sym (header_parts es x) ∙ e ∙ header_parts fs y)
-    ∙ front_again (length fs) tail' b.0 in
-    let counts = same_pairs (length es) (length fs) tail tail' (ok_is (length es, tail) (length fs, tail') fronts) in
+    let fronts : front (d, length es, tail) ≡ front (d', length fs, tail') =
+    sym (front_again d (length es) tail a.0) ∙ ap front_in (sym (header_parts d es x) ∙ e ∙ header_parts d' fs y)
+    ∙ front_again d' (length fs) tail' b.0 in
+    let counts = same_fronts d d' (length es) (length fs) tail tail' fronts in
     let lists : listed (es, x) ≡ listed (fs, y) =
     sym (entries_again es 0 (limit + most) x (wider_entries es 0 limit (limit + most) (omega arith) a.1))
-    ∙ ap (λ (n : ℕ). entries_in n 0 (limit + most) tail) counts.0
-    ∙ ap (entries_in (length fs) 0 (limit + most)) counts.1
+    ∙ ap (λ (n : ℕ). entries_in n 0 (limit + most) tail) counts.1
+    ∙ ap (entries_in (length fs) 0 (limit + most)) counts.2
     ∙ entries_again fs 0 (limit + most) y (wider_entries fs 0 most (limit + most) (omega arith) b.1) in
-    same_pairs es fs x y (ok_is (es, x) (fs, y) lists)
+    let rest = same_pairs es fs x y (ok_is (es, x) (fs, y) lists) in
+    (counts.0, rest.0, rest.1)
 
 -- ---- blocks that are checked one after the other
 
@@ -339,12 +400,16 @@ module _ (limit : ℕ) (es : List BlockEntry) (from left : ℕ) (e : BlockEntry)
 -- what it means for the header that one was refused
 pub is_refused : (limit : ℕ) (es : List BlockEntry) (f : Refusal) (r : Result (Unit {0}) Refusal) → r ≡ Err f
     → length es ≤ 256 → entries_in (length es) 0 limit (flat_map entry_bytes es) ≡ Err f
-    → (IsOk r ↔ IsHeader limit es) × Gives (λ _. es) r (header_in limit (header_bytes es))
+    → (IsOk r ↔ IsHeader limit es)
+    × ((d : Bool) → Gives (λ _. (d, es)) r (header_in limit (header_bytes d es)))
 unfolding header_in header_bytes
 is_refused limit es f r is few h =
-    let read : header_in limit (header_bytes es) ≡ Err f =
-    rw (front_again (length es) (flat_map entry_bytes es) few, h) refl in
-    let none : IsHeader limit es → ⊥ = λ are. let again = header_again limit es are in absurd cc in
+    let read : (d : Bool) → header_in limit (header_bytes d es) ≡ Err f =
+    λ d. rw (front_again d (length es) (flat_map entry_bytes es) few, h) refl in
+    let none : IsHeader limit es → ⊥ = λ are.
+    let again = header_again limit true es are in
+    let once = read true in
+    absurd cc in
     rw is (((λ ok. absurd cc), (λ are. absurd (none are))), read)
 
 -- an error that reading gives
@@ -367,6 +432,7 @@ unless_memory refusal.Order read h = h
 unless_memory refusal.Digest read h = h
 unless_memory refusal.Ended read h = h
 unless_memory refusal.Failed read h = h
+unless_memory refusal.Options read h = h
 
 -- one entry more is written
 pub entry_behind : (front out new : List ℕ) (es : List BlockEntry) (i : ℕ) (d : BlockEntry) → i < length es
@@ -377,8 +443,8 @@ entry_behind front out new es i d l e f =
     ∙ flat_map_more entry_bytes front (take i es) (get_or es i d)
     ∙ ap (λ (x : List BlockEntry). front ++ flat_map entry_bytes x) (sym (take_more es i d l))
 
-abbrev read : List BlockEntry → Result (List BlockEntry) Refusal
-read es = Ok es
+abbrev read : Bool × List BlockEntry → Result (Bool × List BlockEntry) Refusal
+read h = Ok h
 
-pub same_entries : (es fs : List BlockEntry) → read es ≡ read fs → es ≡ fs
-same_entries es fs e = cc
+pub same_entries : (d e : Bool) (es fs : List BlockEntry) → read (d, es) ≡ read (e, fs) → (d ≡ e) × (es ≡ fs)
+same_entries d e es fs h = same_pairs d e es fs (ok_is (d, es) (e, fs) h)

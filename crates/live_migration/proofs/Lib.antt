@@ -14,9 +14,11 @@ pub mod PutLemmas
 pub mod ReceivingLemmas
 pub mod ReplyLemmas
 pub mod RoundsLemmas
+pub mod RunLemmas
 pub mod SenderLemmas
 pub mod SettledLemmas
 pub mod StreamLemmas
 pub mod WholeLemmas
 pub mod WordsLemmas
 pub mod WritingLemmas
+pub mod ZeroLemmas

@@ -1,5 +1,5 @@
 -- What a write of a window leaves of the blocks of a host.
-use Rattle.std.proofs.Common.{◌≡◌, ℕ, zero, suc, ◌+◌, ◌-◌, ◌*◌, ◌<◌, ◌≤◌, Bool, true, false, cond, List, [], ◌∷◌, map, length, get_or, set, replicate, min, Some, refl, sym, ap, ◌∙◌, inl, inr, arith}
+use Rattle.std.proofs.Common.{◌≡◌, ℕ, zero, suc, ◌+◌, ◌-◌, ◌*◌, ◌<◌, ◌≤◌, Bool, true, false, cond, List, [], ◌∷◌, map, length, get_or, set, take, drop, replicate, min, Some, refl, sym, ap, ◌∙◌, inl, inr, arith}
 use Rattle.std.specs.Prelude.{MatchBool, nat_lt, slice_get}
 use Rattle.std.proofs.lemmas.Bool.{cases_lt, cases_eq, cond-true, cond-false, eq-eqb, ne_eqb}
 use Rattle.std.proofs.lemmas.List.{append-nil, ext_get_or, length-set, length-map, length-replicate, get_or-map, get_or-set_same, get_or-set_other, get_or-replicate, get_or_past}
@@ -7,14 +7,16 @@ use Rattle.std.proofs.lemmas.Option.{same_Some, slice_get_within}
 use Rattle.vm_memory_base.specs.Address.{is_within}
 use Rattle.vm_memory_base.specs.declared.bitmap.BitmapId.{BitmapId}
 use Rattle.vm_memory_base.specs.declared.bitmap.BitmapId.TheVariants.{Block, Space}
-use Rattle.vm_memory_guest.specs.Host.{Host, Cell, Shape, IsHeld, block_at, cells_from, shape_of, with_byte, written}
+use Rattle.vm_memory_guest.specs.Host.{Host, Cell, Shape, IsHeld, block_at, bytes_at, cells_from, shape_of, with_byte, written}
 use Rattle.vm_memory_guest.specs.Host as names
-use Rattle.vm_memory_guest.specs.Window.{Marks, Writes, block_window, cells}
+use Rattle.vm_memory_guest.specs.Window.{Marks, Writes, block_window, cells, cells_of}
 use Rattle.live_migration.specs.Frame.{Message, Pages, ZeroPage}
-use Rattle.live_migration.specs.Image.{placed, received}
-use Rattle.live_migration.specs.Placing.{HasPlaced, Applies}
+use Rattle.live_migration.specs.Image.{are_zero, page_bytes, placed, received}
+use Rattle.live_migration.specs.Placing.{HasPlaced, Applies, TellsNothing}
 use Rattle.live_migration.specs.declared.header.BlockEntry.{BlockEntry}
+use Rattle.vm_memory_guest.proofs.WrittenLaws.{bytes_at-block}
 use Rattle.live_migration.proofs.ImageLemmas.{get_or-placed, length-placed, is_before, is_behind, is_inside}
+use Rattle.live_migration.proofs.ZeroLemmas.{zeros_stay}
 
 -- ---- bytes that are written to the cells of a block
 
@@ -158,6 +160,27 @@ module _ {B : Type 0} (marks : B → ℕ → ℕ → B → Type 0) where
         shape = same;
       }
 
+-- the bytes of a place that is held
+pub place_bytes : {B : Type 0} (b off n : ℕ) (host : Host B) → IsHeld (shape_of host) (names.Place b off n)
+    → (off + n ≤ length (block_at host.blocks b))
+    × (bytes_at host.blocks (cells_of (block_window b off n)) ≡ take n (drop off (block_at host.blocks b)))
+place_bytes b off n host held =
+    let l : b < length host.blocks = omega (arith, held.0, length-map host.blocks (λ (x : List ℕ). length x)) in
+    let at : get_or (map length host.blocks) b 0 ≡ length (block_at host.blocks b) =
+    get_or-map length host.blocks b [] 0 l in
+    let room : off + n ≤ length (block_at host.blocks b) = omega (arith, held.1, at) in
+    (room, bytes_at-block b off n host.blocks room)
+
+-- zeros that are there are as good as placed
+pub zeros_there : {B : Type 0} (b off : ℕ) (zeros : List ℕ) (host : Host B)
+    → off + length zeros ≤ length (block_at host.blocks b) → zeros ≡ replicate (length zeros) 0
+    → are_zero (take (length zeros) (drop off (block_at host.blocks b))) ≡ true → HasPlaced host host b off zeros
+zeros_there b off zeros host room none all = record {
+  block_is = sym (zeros_stay off (length zeros) zeros (block_at host.blocks b) room none all);
+  others = λ c ne. refl;
+  shape = refl;
+}
+
 -- ---- messages
 
 module _ {B : Type 0} (base : ℕ) (entries : List BlockEntry) (old new : Host B) where
@@ -171,8 +194,8 @@ module _ {B : Type 0} (base : ℕ) (entries : List BlockEntry) (old new : Host B
       → ((e : BlockEntry) → entry ≡ e → (image : List ℕ) → length image ≡ length (block_at old.blocks (base + i))
       → received e.page_size i m image ≡ placed at bytes image)
       → ((j : ℕ) → (i ≡ j → ⊥) → (size : ℕ) (image : List ℕ) → received size j m image ≡ image)
-      → Applies base entries m old new
-  placed_applies m i at entry bytes there has own other = record {
+      → (TellsNothing base entries m old → new ≡ old) → Applies base entries m old new
+  placed_applies m i at entry bytes there has own other same = record {
     images = λ j e here. elim (cases_eq i j) [
       | inl same ↦
           let is : entry ≡ e = same_Some entry e (sym there ∙ ap (slice_get entries) same ∙ here) in
@@ -188,6 +211,7 @@ module _ {B : Type 0} (base : ℕ) (entries : List BlockEntry) (old new : Host B
       | inr behind ↦ omega (arith, slice_get_within entries i entry there)
     ]);
     shape = has.shape;
+    same = same;
   }
 
   pub pages_apply : (i first : ℕ) (entry : BlockEntry) (bytes : List ℕ) → slice_get entries i ≡ Some entry
@@ -197,7 +221,7 @@ module _ {B : Type 0} (base : ℕ) (entries : List BlockEntry) (old new : Host B
       placed_applies (Pages i first bytes) i (first * entry.page_size) entry bytes there has
       (λ e is image len. cond-true _ _ _ (eq-eqb i i refl)
       ∙ ap (λ (x : BlockEntry). placed (first * x.page_size) bytes image) (sym is))
-      (λ j ne size image. cond-false _ _ _ (ne_eqb i j ne))
+      (λ j ne size image. cond-false _ _ _ (ne_eqb i j ne)) (λ none. absurd none)
 
   -- zeros up to the end are as good as a page of them
   cut_zeros : (at n size : ℕ) (image : List ℕ) → n ≡ min size (length image - at)
@@ -237,11 +261,14 @@ module _ {B : Type 0} (base : ℕ) (entries : List BlockEntry) (old new : Host B
   pub zeros_apply : (i page n : ℕ) (entry : BlockEntry) → slice_get entries i ≡ Some entry
       → n ≡ min entry.page_size (length (block_at old.blocks (base + i)) - page * entry.page_size)
       → HasPlaced old new (base + i) (page * entry.page_size) (replicate n 0)
+      → (are_zero (page_bytes entry.page_size page (block_at old.blocks (base + i))) ≡ true → new ≡ old)
       → Applies base entries (ZeroPage i page) old new
-  zeros_apply i page n entry there cut has =
+  zeros_apply i page n entry there cut has same =
       placed_applies (ZeroPage i page) i (page * entry.page_size) entry (replicate n 0) there has
       (λ e is image len. cond-true _ _ _ (eq-eqb i i refl)
       ∙ ap (λ (x : BlockEntry). placed (page * x.page_size) (replicate x.page_size 0) image) (sym is)
       ∙ cut_zeros (page * entry.page_size) n entry.page_size image
       (cut ∙ ap (λ (l : ℕ). min entry.page_size (l - page * entry.page_size)) (sym len)))
       (λ j ne size image. cond-false _ _ _ (ne_eqb i j ne))
+      (λ told. same (ap (λ (x : BlockEntry). are_zero (page_bytes x.page_size page (block_at old.blocks (base + i))))
+      (same_Some entry told.0 (sym there ∙ told.1)) ∙ told.2))

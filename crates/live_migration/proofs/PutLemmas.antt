@@ -1,5 +1,5 @@
 -- Bytes that are put behind others.
-use Rattle.std.proofs.Common.{◌≡◌, ℕ, ◌+◌, ◌≤◌, Bool, true, false, cond, List, ◌++◌, length, take, Result, Ok, Err, OnOk, OnErr, refl, sym, ap, ◌∙◌, append_assoc, arith}
+use Rattle.std.proofs.Common.{◌≡◌, ℕ, ◌+◌, ◌≤◌, List, ◌++◌, length, take, Result, Ok, Err, OnOk, OnErr, refl, sym, ap, ◌∙◌, append_assoc, arith}
 use Rattle.std.proofs.lemmas.List.{take_at, take-take, length-append}
 use Rattle.live_migration.specs.Frame.{Pages, ZeroPage, spelling}
 
@@ -32,12 +32,16 @@ pages_len : (block first : ℕ) (bytes : List ℕ) → length (spelling (Pages b
 unfolding spelling
 pages_len block first bytes = omega arith
 
--- a page that is copied takes its bytes and the head of a frame, at most
-pub page_grows : {X E : Type 0} (r : Result X E) (old new part : List ℕ) (zeros : Bool) (number page size : ℕ)
-    → OnOk r (new ≡ old ++ spelling (cond zeros (ZeroPage number page) (Pages number page part)))
-    → OnErr r (new ≡ old) → length part ≤ size → length new ≤ length old + (20 + size)
-page_grows r old new part true number page size ok err l =
-    grows_by r old new (spelling (ZeroPage number page)) (20 + size) ok err (omega (arith, zero_page_len number page))
-page_grows r old new part false number page size ok err l =
-    grows_by r old new (spelling (Pages number page part)) (20 + size) ok err
-    (omega (arith, pages_len number page part))
+-- a page of zeros takes the head of a frame
+pub zero_grows : {X E : Type 0} (r : Result X E) (old new : List ℕ) (number page : ℕ)
+    → OnOk r (new ≡ old ++ spelling (ZeroPage number page)) → OnErr r (new ≡ old) → length new ≤ length old + 20
+zero_grows r old new number page ok err =
+    grows_by r old new (spelling (ZeroPage number page)) 20 ok err (omega (arith, zero_page_len number page))
+
+-- pages that are copied take their bytes and the head of a frame, at most
+pub run_grows : {X E : Type 0} (r : Result X E) (old new part : List ℕ) (number first most : ℕ)
+    → OnOk r (new ≡ old ++ spelling (Pages number first part)) → OnErr r (new ≡ old) → length part ≤ most
+    → length new ≤ length old + (20 + most)
+run_grows r old new part number first most ok err l =
+    grows_by r old new (spelling (Pages number first part)) (20 + most) ok err
+    (omega (arith, pages_len number first part))

@@ -1,14 +1,14 @@
 -- A sender from its beginning on, and a receiver that reads all that it wrote.
-use Rattle.std.proofs.Common.{◌≡◌, ℕ, ◌+◌, ◌-◌, ◌^◌, ◌<◌, List, [], ◌∷◌, ◌++◌, length, map, replicate, Option, Some, None, option_map, inl, inr, refl, sym, ap, subst, ◌∙◌, append-nil, arith}
+use Rattle.std.proofs.Common.{◌≡◌, ℕ, ◌+◌, ◌-◌, ◌^◌, ◌<◌, Bool, List, [], ◌∷◌, ◌++◌, length, map, replicate, Option, Some, None, option_map, inl, inr, refl, sym, ap, subst, ◌∙◌, append-nil, arith}
 use Rattle.std.specs.Io.KnownBytes.{Appends, Consumes}
 use Rattle.std.specs.Prelude.{flat_map, slice_get}
 use Rattle.std.proofs.lemmas.Bool.{cond-true}
 use Rattle.std.proofs.lemmas.List.{get_or-append-add, length-replicate}
 use Rattle.std.proofs.lemmas.Option.{get_or_from_slice_get, none-some, same_Some, slice_get-map, slice_get_cases, slice_get_within}
-use Rattle.sha2.specs.Hashers.{Holds256}
 use Rattle.vm_memory_base.specs.Pages.{PageSet}
 use Rattle.vm_memory_guest.specs.Host.{Host, block_at}
 use Rattle.live_migration.specs.Calls.{EndsPaused, HasBegun, Moment, ReadsAll}
+use Rattle.live_migration.specs.Digests.{HasNoted}
 use Rattle.live_migration.specs.Following.{IsSource}
 use Rattle.live_migration.specs.Frame as message
 use Rattle.live_migration.specs.Frame.{Message, spelling}
@@ -20,11 +20,12 @@ use Rattle.live_migration.specs.Rounds.{AllMay, Ends, Event, IsBeginning, IsThro
 use Rattle.live_migration.specs.declared.header.BlockEntry.{BlockEntry}
 use Rattle.live_migration.specs.declared.receiver.progress.Progress.{Progress}
 use Rattle.live_migration.specs.declared.sender.pages.Target.{Target}
-use Rattle.live_migration.proofs.CallsLemmas.{HasSent, all_go_on, appended, bare_arrives, end_sent, fits-append, none_arrives, one_more, text}
+use Rattle.live_migration.proofs.CallsLemmas.{HasSent, all_go_on, appended, bare_arrives, end_sent, none_arrives, one_more, text}
 use Rattle.live_migration.proofs.FollowingLemmas.{begin_follows, is_over, is_through}
 use Rattle.live_migration.proofs.HeaderLemmas.{same_header}
 use Rattle.live_migration.proofs.OneWayLemmas.{same_stream}
 use Rattle.live_migration.proofs.RoundsLemmas as kept
+use Rattle.live_migration.proofs.RunLemmas.{fits-append}
 use Rattle.live_migration.proofs.SettledLemmas.{IsSettled, settled_story}
 use Rattle.live_migration.proofs.WritingLemmas.{source_in, source_there}
 
@@ -88,10 +89,11 @@ module _ {B : Type 0} (pages_of : B → PageSet) (m : Moment B) (begun : HasBegu
     ];
   }
 
-  pub first_sent : HasSent pages_of m.sender.rounds.targets.items m first_state []
+  pub first_sent : HasSent pages_of begun.digests m.sender.rounds.targets.items m first_state []
   first_sent =
       let b = begun.begun in
-      let header : List ℕ = header_bytes (map (λ (t : Target). t.entry) m.sender.rounds.targets.items) in
+      let header : List ℕ = header_bytes begun.digests (map (λ (t : Target). t.entry) m.sender.rounds.targets.items)
+      in
       record {
         header = b.header;
         targets = refl;
@@ -99,9 +101,8 @@ module _ {B : Type 0} (pages_of : B → PageSet) (m : Moment B) (begun : HasBegu
             first_source;
         followed = λ block l. kept.beginning_follows first_state block first_begins l;
         stream = appended (Some []) m.stream [] header refl b.written ∙ ap Some (sym (append-nil header));
-        hashed = subst (λ (x : List ℕ). Holds256 m.sender.hasher x) (sym (append-nil header)) b.hashed;
+        hashed = subst (λ (x : List ℕ). HasNoted begun.digests m.sender.hasher x) (sym (append-nil header)) b.hashed;
         fits = tt;
-        batch_fits = tt;
         images = λ j t at. ap first_image at ∙ sym (none_arrives t.entry.page_size j (replicate t.entry.len 0));
       }
 
@@ -128,24 +129,25 @@ made_at old blocks entries base j e made at there =
     (slice_get-map (λ (x : BlockEntry). replicate x.len 0) entries j
     ∙ ap (option_map (λ (x : BlockEntry). replicate x.len 0)) there)
 
-module _ {B C : Type 0} (pages_of : B → PageSet) (ts : List Target) (m : Moment B) (s : Ends) (ms : List Message)
-    (h : HasSent pages_of ts m s ms) (sent : Option (List ℕ)) (p : Progress) (next : Host C)
+module _ {B C : Type 0} (pages_of : B → PageSet) (digests : Bool) (ts : List Target) (m : Moment B) (s : Ends)
+    (ms : List Message) (h : HasSent pages_of digests ts m s ms) (sent : Option (List ℕ)) (p : Progress) (next : Host C)
     (gone : Appends m.stream sent (spelling message.Go)) (r : ReadsAll sent p next)
   where
     -- each block is the image that the rounds say
     pub has_image : (j : ℕ) (t : Target) → slice_get ts j ≡ Some t → block_at next.blocks (p.base + j) ≡ s.images j
     has_image j t at =
         let all : List Message = ms ++ message.Go ∷ [] in
-        let stream : sent ≡ Some (text ts all) =
-        appended m.stream sent (text ts ms) (spelling message.Go) h.stream gone ∙ ap Some (one_more ts ms message.Go) in
-        let whole = read_whole sent r.rest (text ts all) (header_bytes p.entries.items)
+        let stream : sent ≡ Some (text digests ts all) =
+        appended m.stream sent (text digests ts ms) (spelling message.Go) h.stream gone
+        ∙ ap Some (one_more digests ts ms message.Go) in
+        let whole = read_whole sent r.rest (text digests ts all) (header_bytes r.header.digests p.entries.items)
         (flat_map spelling r.frames.messages) stream r.header.consumed r.frames.consumed in
-        let both = same_header (2 ^ 64 - 1) r.limit (map (λ (x : Target). x.entry) ts) p.entries.items
+        let both = same_header (2 ^ 64 - 1) r.limit digests r.header.digests (map (λ (x : Target). x.entry) ts) p.entries.items
         (flat_map spelling all) (flat_map spelling r.frames.messages) h.header r.header.header whole in
         let same : all ≡ r.frames.messages =
-        same_stream all r.frames.messages (fits-append ms (message.Go ∷ []) h.fits (tt, tt)) r.frames.fit both.1 in
+        same_stream all r.frames.messages (fits-append ms (message.Go ∷ []) h.fits (tt, tt)) r.frames.fit both.2 in
         let there : slice_get p.entries.items j ≡ Some t.entry =
-        ap (λ (es : List BlockEntry). slice_get es j) (sym both.0) ∙ slice_get-map (λ (x : Target). x.entry) ts j
+        ap (λ (es : List BlockEntry). slice_get es j) (sym both.1) ∙ slice_get-map (λ (x : Target). x.entry) ts j
         ∙ ap (option_map (λ (x : Target). x.entry)) at in
         r.frames.images j t.entry there
         ∙ ap (arrived t.entry.page_size j r.frames.messages)
@@ -166,21 +168,21 @@ module _ (are_listed : kept.AreListed) {B : Type 0} (pages_of : B → PageSet) (
     pub record Ended : Type 0 where
       pub state : Ends
       pub messages : List Message
-      pub sent : HasSent pages_of first.sender.rounds.targets.items last state messages
+      pub sent : HasSent pages_of begun.digests first.sender.rounds.targets.items last state messages
       pub equal : (block : ℕ) → block < state.count → state.images block ≡ (state.sources block).bytes
 
     pub ends_equal : Ended
     ends_equal =
         let ts = first.sender.rounds.targets.items in
         let s0 = first_state pages_of first begun in
-        let g = all_go_on pages_of ts are_listed w.before first w.paused s0 [] (first_sent pages_of first begun)
+        let g = all_go_on pages_of begun.digests ts are_listed w.before first w.paused s0 [] (first_sent pages_of first begun)
         w.runs in
         let s1 = story g.events s0 in
-        let k = all_go_on pages_of ts are_listed w.round w.paused w.through s1 g.messages g.sent w.goes in
+        let k = all_go_on pages_of begun.digests ts are_listed w.round w.paused w.through s1 g.messages g.sent w.goes in
         let s2 = story k.events s1 in
         let end = w.ends.1 in
-        let closed = end_sent pages_of ts are_listed w.through w.ends.0 s2 k.messages k.sent end in
-        let r = all_go_on pages_of ts are_listed w.behind w.ends.0 last (after event.EndRound s2) _ closed w.ends.2 in
+        let closed = end_sent pages_of begun.digests ts are_listed w.through w.ends.0 s2 k.messages k.sent end in
+        let r = all_go_on pages_of begun.digests ts are_listed w.behind w.ends.0 last (after event.EndRound s2) _ closed w.ends.2 in
         let through = is_through pages_of w.through.sender.rounds w.through.host s2 k.sent.follows end.idle end.through
         in
         let fresh : s1.turn ≡ 0 = g.sent.follows.turn ∙ w.begins in

@@ -1,6 +1,6 @@
 -- Writes that mark what they change are events of the rounds.
 use Rattle.std.proofs.Common.{◌≡◌, ℕ, zero, suc, ◌+◌, ◌*◌, ◌<◌, ◌≤◌, inl, inr, true, List, [], map, length, get_or, Option, Some, None, option_map, All, refl, sym, ap, subst, ◌∙◌, arith}
-use Rattle.std.specs.Prelude.{flat_map, slice_get}
+use Rattle.std.specs.Prelude.{slice_get}
 use Rattle.std.proofs.lemmas.Bool.{cases_eq, cond-true, cond-false, eq-eqb, ne_eqb, true≢false}
 use Rattle.std.proofs.lemmas.List.Elements.{All-contains}
 use Rattle.std.proofs.lemmas.Option.{get_or_from_slice_get, same_Some, slice_get-map, slice_get_cases, slice_get_within}
@@ -15,7 +15,6 @@ use Rattle.vm_memory_guest.specs.Lent.{IsDirty, IsMarked, MarksChanges}
 use Rattle.vm_memory_guest.specs.Window.{Window, bitmap_of}
 use Rattle.vm_memory_guest.proofs.WrittenLaws.{length-block_at}
 use Rattle.live_migration.specs.Following.{Follows, IsSource}
-use Rattle.live_migration.specs.Frame.{spelling}
 use Rattle.live_migration.specs.Rounds.{AllMay, Ends, IsWritten, Source, Write, after, story}
 use Rattle.live_migration.specs.Sending.{source_of}
 use Rattle.live_migration.specs.Writing.{MarksItsBlock, all_written}
@@ -261,7 +260,10 @@ module _ {B : Type 0} (pages_of : B → PageSet) (ws : List Window) (r : Rounds)
           turn = w.turn ∙ f.turn;
           last = w.last ∙ f.last;
           waiting = w.waiting ∙ f.waiting;
-          batch = f.batch ∙ ap (flat_map spelling) (sym w.batch);
+          messages = f.messages;
+          fit = f.fit;
+          batch = f.batch;
+          pages = f.pages ∙ sym w.batch;
           sources = λ j t at.
               let inside : j < 0 + s.count = omega (arith, f.count, slice_get_within r.targets.items j t at) in
               subst (λ (y : Source). IsSource pages_of t new y) (sym (w.inside j (omega arith) inside ∙ now_at j t at))

@@ -1,13 +1,12 @@
 -- The calls of a sender that succeed, one after the other, and writes of its guest between them.
-use Rattle.std.specs.Prelude.{◌≡◌, ℕ, ◌+◌, List, [], ◌∷◌, length, All, Option, Some}
+use Rattle.std.specs.Prelude.{◌≡◌, ℕ, ◌+◌, Bool, List, [], ◌∷◌, length, All, Option, Some}
 use Rattle.std.specs.List.{AllByRecursion}
-use Rattle.sha2.specs.Hashers.{Holds256}
-use Rattle.sha2.specs.Sha256.{sha256}
 use Rattle.vm_memory_base.specs.Pages.{PageSet}
 use Rattle.vm_memory_guest.specs.Dirt.{with_pages}
 use Rattle.vm_memory_guest.specs.Host.{Host}
 use Rattle.vm_memory_guest.specs.Lent.{MarksChanges}
 use Rattle.vm_memory_guest.specs.Window.{Window}
+use Rattle.live_migration.specs.Digests.{HasNoted, digest_of}
 use Rattle.live_migration.specs.Following.{KeepsRounds}
 use Rattle.live_migration.specs.Frame as message
 use Rattle.live_migration.specs.Frame.{IsMessage, Message, RoundEnd, spelling}
@@ -85,8 +84,8 @@ module _ {B : Type 0} (old new : Moment B) where
     pub host : new.host ≡ old.host
 
   pub record EndsRound : Type 0 where
-    pub sent : (bytes : List ℕ) → Holds256 old.sender.hasher bytes
-        → let m = RoundEnd old.sender.rounds.round (sha256 bytes) in
+    pub sent : (digests : Bool) (bytes : List ℕ) → HasNoted digests old.sender.hasher bytes
+        → let m = RoundEnd old.sender.rounds.round (digest_of digests bytes) in
         IsMessage m × Sends (spelling m) old.stream new.stream old.sender.hasher new.sender.hasher
     pub idle : IsIdle old.sender.rounds
     pub through : old.sender.rounds.turn ≡ length old.sender.rounds.targets.items
@@ -115,7 +114,8 @@ module _ {B : Type 0} (pages_of : B → PageSet) where
 
   -- a sender that has just begun, over a stream that had nothing
   pub record HasBegun (m : Moment B) : Type 0 where
-    pub begun : BeginsToSend (Some []) m.stream m.sender
+    pub digests : Bool
+    pub begun : BeginsToSend digests (Some []) m.stream m.sender
     pub targets : AreTargets pages_of m.host m.sender.rounds.targets.items
 
   -- A guest is paused as a round begins. This round is gone through to its end, and nothing is written from the

@@ -1,11 +1,11 @@
 -- What goes over the stream, and the one spelling of it. All numbers have their lowest byte first.
-use Rattle.std.specs.Prelude.{◌≡◌, ℕ, ◌^◌, ◌<◌, ◌≤◌, List, [], ◌∷◌, ◌++◌, length}
+use Rattle.std.specs.Prelude.{◌≡◌, ◌⊎◌, ℕ, ◌^◌, ◌<◌, ◌≤◌, List, [], ◌∷◌, ◌++◌, length}
 use Rattle.std.specs.Int.{w32, w64, to_le_bytes}
 use Rattle.live_migration.specs.declared.frame.Frame.{Frame}
 use Rattle.live_migration.specs.declared.frame.Frame.TheVariants as frame
 
 -- Pages of a block from one on, with their bytes; a page of zeros; the end of a round, with the digest of all that
--- came before it; the state of a device; the end of what is sent; and leave to run
+-- came before it, if the header asks for digests; the state of a device; the end of what is sent; and leave to run
 pub data Message : Type 0 where
   Pages : (block first : ℕ) (bytes : List ℕ) → Message
   ZeroPage : (block page : ℕ) → Message
@@ -27,7 +27,7 @@ message_of frame.Go = Go
 abbrev pub IsMessage : Message → Type 0
 IsMessage (Pages block first bytes) = (block < 2 ^ 32) × (first < 2 ^ 64) × (length bytes ≤ 2 ^ 20)
 IsMessage (ZeroPage block page) = (block < 2 ^ 32) × (page < 2 ^ 64)
-IsMessage (RoundEnd round digest) = (round < 2 ^ 32) × (length digest ≡ 32)
+IsMessage (RoundEnd round digest) = (round < 2 ^ 32) × ((length digest ≡ 0) ⊎ (length digest ≡ 32))
 IsMessage (Section name bytes) = (length name < 256) × (length bytes ≤ 2 ^ 20)
 IsMessage Done = Unit {0}
 IsMessage Go = Unit {0}

@@ -1,19 +1,29 @@
--- The header: a magic word, a version, and the blocks, each with its length, its page size and its place in guest
--- memory, ascending. All numbers have their lowest byte first.
-use Rattle.std.specs.Prelude.{◌≡◌, ℕ, zero, suc, ◌+◌, ◌-◌, ◌^◌, ◌<◌, ◌≤◌, ◌&&◌, ◌==◌, if◌then◌else◌, nat_lt, nat_le, List, [], ◌∷◌, ◌++◌, length, flat_map, Result, Ok, Err}
+-- The header: a magic word, a version, whether the ends of rounds have digests, and the blocks, each with its length, its
+-- page size and its place in guest memory, ascending. All numbers have their lowest byte first.
+use Rattle.std.specs.Prelude.{◌≡◌, ℕ, zero, suc, ◌+◌, ◌-◌, ◌^◌, ◌<◌, ◌≤◌, Bool, ◌&&◌, ◌==◌, if◌then◌else◌, nat_lt, nat_le, List, [], ◌∷◌, ◌++◌, length, flat_map, Result, Ok, Err}
 use Rattle.std.specs.Int.{w32, w64, to_le_bytes}
 use Rattle.live_migration.specs.Reading.{◌>>=◌, number_at}
 use Rattle.live_migration.specs.declared.header.BlockEntry.{BlockEntry}
+use Rattle.live_migration.specs.declared.header.Header.{Header}
 use Rattle.live_migration.specs.declared.refusal.Refusal.{Refusal}
-use Rattle.live_migration.specs.declared.refusal.Refusal.TheVariants.{Magic, Version, BlockCount, BlockLength, PageSize, Place, TooMuchMemory, FrameLength, Memory}
+use Rattle.live_migration.specs.declared.refusal.Refusal.TheVariants.{Magic, Version, Options, BlockCount, BlockLength, PageSize, Place, TooMuchMemory, FrameLength, Memory}
 
 abbrev pub entry_bytes : BlockEntry → List ℕ
 entry_bytes e = to_le_bytes w64 e.len ++ (to_le_bytes w64 e.page_size ++ to_le_bytes w64 e.address)
 
+-- whether a header asks for digests, and its blocks
+abbrev pub parts_of : Header → Bool × List BlockEntry
+parts_of h = (h.options.digests, h.entries.items)
+
+-- the options of a stream: 1 if digests are asked for, and else 0
+abbrev pub option_bits : Bool → ℕ
+option_bits digests = if digests then 1 else 0
+
 -- the magic word reads "VMMIGRAT"
-unfoldable pub header_bytes : List BlockEntry → List ℕ
-header_bytes es = to_le_bytes w64 0x5441_5247_494d_4d56
-    ++ (to_le_bytes w32 1 ++ (to_le_bytes w32 (length es) ++ flat_map entry_bytes es))
+unfoldable pub header_bytes : Bool → List BlockEntry → List ℕ
+header_bytes digests es = to_le_bytes w64 0x5441_5247_494d_4d56
+    ++ (to_le_bytes w32 2 ++ (to_le_bytes w32 (option_bits digests)
+    ++ (to_le_bytes w32 (length es) ++ flat_map entry_bytes es)))
 
 -- numbers that eight bytes hold
 pub record FitsFields (e : BlockEntry) : Type 0 where
@@ -47,13 +57,14 @@ GivesUnlessMemory view (Ok x) read = read ≡ Ok (view x)
 GivesUnlessMemory view (Err Memory) read = Unit {0}
 GivesUnlessMemory view (Err e) read = read ≡ Err e
 
--- the number of blocks
-unfoldable pub front_in : List ℕ → Result (ℕ × List ℕ) Refusal
+-- whether digests are asked for, and the number of blocks
+unfoldable pub front_in : List ℕ → Result (Bool × ℕ × List ℕ) Refusal
 front_in bytes = do
   word ← number_at w64 bytes
   version ← if word.0 == 0x5441_5247_494d_4d56 then number_at w32 word.1 else Err Magic
-  count ← if version.0 == 1 then number_at w32 version.1 else Err Version
-  if nat_lt 256 count.0 then Err BlockCount else Ok count
+  options ← if version.0 == 2 then number_at w32 version.1 else Err Version
+  count ← if nat_lt options.0 2 then number_at w32 options.1 else Err Options
+  if nat_lt 256 count.0 then Err BlockCount else Ok (options.0 == 1, count.0, count.1)
 
 -- an entry that is one
 abbrev pub checked : ℕ → ℕ → BlockEntry → Result BlockEntry Refusal
@@ -78,9 +89,9 @@ entries_in (suc n) from left bytes = do
   others ← entries_in n (first.0.address + first.0.len) (left - first.0.len) first.1
   Ok (first.0 ∷ others.0, others.1)
 
--- the blocks of a header, which is all of the bytes
-unfoldable pub header_in : ℕ → List ℕ → Result (List BlockEntry) Refusal
+-- whether digests are asked for, and the blocks of a header, which is all of the bytes
+unfoldable pub header_in : ℕ → List ℕ → Result (Bool × List BlockEntry) Refusal
 header_in limit bytes = do
-  count ← front_in bytes
-  es ← entries_in count.0 0 limit count.1
-  if length es.1 == 0 then Ok es.0 else Err FrameLength
+  front ← front_in bytes
+  es ← entries_in front.1 0 limit front.2
+  if length es.1 == 0 then Ok (front.0, es.0) else Err FrameLength

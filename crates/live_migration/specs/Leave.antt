@@ -1,18 +1,18 @@
 -- How a sender begins, and what it sends.
-use Rattle.std.specs.Prelude.{◌≡◌, ◌⊎◌, ℕ, ◌-◌, ◌^◌, List, [], ◌++◌, map, take, Option}
+use Rattle.std.specs.Prelude.{◌≡◌, ◌⊎◌, ℕ, ◌-◌, ◌^◌, Bool, List, [], ◌++◌, map, take, Option}
 use Rattle.std.specs.Io.KnownBytes.{Appends}
-use Rattle.sha2.specs.Hashers.{Holds256}
-use Rattle.sha2.specs.declared.Sha256.{Sha256}
+use Rattle.live_migration.specs.Digests.{HasNoted}
 use Rattle.live_migration.specs.Header.{IsHeader, header_bytes}
+use Rattle.live_migration.specs.declared.digest.StreamHasher.{StreamHasher}
 use Rattle.live_migration.specs.declared.header.BlockEntry.{BlockEntry}
 use Rattle.live_migration.specs.declared.sender.stream.SendStage.{SendStage}
 use Rattle.live_migration.specs.declared.sender.stream.SendStage.TheVariants as stage
 use Rattle.live_migration.specs.declared.sender.stream.Sender.{Sender}
 
--- these bytes went to the stream, and into the digest of it
-pub record Sends (bytes : List ℕ) (before after : Option (List ℕ)) (old new : Sha256) : Type 0 where
+-- these bytes went to the stream, and into the digest of it if there is one
+pub record Sends (bytes : List ℕ) (before after : Option (List ℕ)) (old new : StreamHasher) : Type 0 where
   pub written : Appends before after bytes
-  pub hashed : (sent : List ℕ) → Holds256 old sent → Holds256 new (sent ++ bytes)
+  pub hashed : (digests : Bool) (sent : List ℕ) → HasNoted digests old sent → HasNoted digests new (sent ++ bytes)
 
 -- rounds are sent
 abbrev pub IsInRounds : SendStage → Type 0
@@ -39,9 +39,9 @@ pub record IsFirst (s : Sender) : Type 0 where
 abbrev pub entries_sent : Sender → List BlockEntry
 entries_sent s = map (λ t. t.entry) s.rounds.targets.items
 
--- a sender that wrote its header
-pub record BeginsToSend (before after : Option (List ℕ)) (s : Sender) : Type 0 where
+-- a sender that wrote its header, which asks for digests or not
+pub record BeginsToSend (digests : Bool) (before after : Option (List ℕ)) (s : Sender) : Type 0 where
   pub header : IsHeader (2 ^ 64 - 1) (entries_sent s)
-  pub written : Appends before after (header_bytes (entries_sent s))
-  pub hashed : Holds256 s.hasher (header_bytes (entries_sent s))
+  pub written : Appends before after (header_bytes digests (entries_sent s))
+  pub hashed : HasNoted digests s.hasher (header_bytes digests (entries_sent s))
   pub first : IsFirst s

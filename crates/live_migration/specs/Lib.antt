@@ -1,4 +1,5 @@
 pub mod Calls
+pub mod Digests
 pub mod Following
 pub mod Frame
 pub mod Header
@@ -11,6 +12,7 @@ pub mod Replies
 pub mod Rounds
 pub mod Sending
 pub mod Stages
+pub mod Stopping
 pub mod Targets
 pub mod Words
 pub mod Writing

@@ -1,8 +1,8 @@
 -- What a message leaves of the host that receives it.
-use Rattle.std.specs.Prelude.{◌≡◌, ℕ, ◌+◌, ◌*◌, ◌%◌, ◌<◌, ◌≤◌, ◌⊎◌, List, length, slice_get, Some}
+use Rattle.std.specs.Prelude.{◌≡◌, ℕ, ◌+◌, ◌*◌, ◌%◌, ◌<◌, ◌≤◌, ◌⊎◌, true, List, length, slice_get, Some}
 use Rattle.vm_memory_guest.specs.Host.{Host, block_at, shape_of}
 use Rattle.live_migration.specs.Frame.{Message, Pages, ZeroPage}
-use Rattle.live_migration.specs.Image.{placed, received}
+use Rattle.live_migration.specs.Image.{are_zero, page_bytes, placed, received}
 use Rattle.live_migration.specs.declared.header.BlockEntry.{BlockEntry}
 
 -- pages lie in a block of a header, as whole pages or up to its end
@@ -25,10 +25,18 @@ pub record HasPlaced {B : Type 0} (old new : Host B) (block at : ℕ) (bytes : L
   pub others : (c : ℕ) → (c ≡ block → ⊥) → block_at new.blocks c ≡ block_at old.blocks c
   pub shape : shape_of new ≡ shape_of old
 
+-- a message that says of a page that is zero that it is, or that is about no page
+abbrev pub TellsNothing : {B : Type 0} → ℕ → List BlockEntry → Message → Host B → Type 0
+TellsNothing base entries (Pages block first bytes) host = ⊥
+TellsNothing base entries (ZeroPage block page) host = (e : BlockEntry) × (slice_get entries block ≡ Some e)
+    × (are_zero (page_bytes e.page_size page (block_at host.blocks (base + block))) ≡ true)
+TellsNothing base entries m host = Unit {0}
+
 -- A message to a receiver whose blocks are those of a host from base on: each block is the image that the message
--- leaves, no other block changed, and no block its length
+-- leaves, no other block changed, and no block its length. If it tells nothing, nothing changes, and no mark either
 pub record Applies {B : Type 0} (base : ℕ) (entries : List BlockEntry) (m : Message) (old new : Host B) : Type 0 where
   pub images : (j : ℕ) (e : BlockEntry) → slice_get entries j ≡ Some e
       → block_at new.blocks (base + j) ≡ received e.page_size j m (block_at old.blocks (base + j))
   pub others : (c : ℕ) → (c < base) ⊎ (base + length entries ≤ c) → block_at new.blocks c ≡ block_at old.blocks c
   pub shape : shape_of new ≡ shape_of old
+  pub same : TellsNothing base entries m old → new ≡ old

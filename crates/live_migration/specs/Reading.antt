@@ -1,5 +1,5 @@
 -- Reading from left to right, with the first fault that is met.
-use Rattle.std.specs.Prelude.{◌≡◌, ℕ, ◌^◌, List, [], ◌∷◌, length, take, drop, Result, Ok, Err, nat_lt, ◌==◌, if◌then◌else◌}
+use Rattle.std.specs.Prelude.{◌≡◌, ℕ, ◌^◌, List, [], ◌∷◌, length, take, drop, Result, Ok, Err, nat_lt, ◌==◌, ◌||◌, if◌then◌else◌}
 use Rattle.std.specs.Int.{Width, w32, w64, byte_len, from_le_bytes}
 use Rattle.live_migration.specs.declared.refusal.Refusal.{Refusal}
 use Rattle.live_migration.specs.declared.refusal.Refusal.TheVariants.{FrameKind, FrameLength}
@@ -35,7 +35,7 @@ zero_page_in payload = do
 unfoldable pub round_end_in : List ℕ → Result Message Refusal
 round_end_in payload = do
   round ← number_at w32 payload
-  if length round.1 == 32 then Ok (RoundEnd round.0 round.1) else Err FrameLength
+  if length round.1 == 0 || length round.1 == 32 then Ok (RoundEnd round.0 round.1) else Err FrameLength
 
 unfoldable pub section_in : List ℕ → Result Message Refusal
 section_in [] = Err FrameLength

@@ -1,10 +1,9 @@
 -- What a receiver took from its stream.
-use Rattle.std.specs.Prelude.{◌≡◌, ℕ, ◌+◌, ◌<◌, ◌≤◌, ◌⊎◌, List, [], ◌∷◌, ◌++◌, length, map, flat_map, replicate, slice_get, sum_by, take, Option, Some, Ok}
+use Rattle.std.specs.Prelude.{◌≡◌, ℕ, ◌+◌, ◌<◌, ◌≤◌, ◌⊎◌, Bool, List, [], ◌∷◌, ◌++◌, length, map, flat_map, replicate, slice_get, sum_by, take, Option, Some, Ok}
 use Rattle.std.specs.List.{AllByRecursion}
 use Rattle.std.specs.Io.KnownBytes.{Appends, Consumes}
-use Rattle.sha2.specs.Hashers.{Holds256}
-use Rattle.sha2.specs.Sha256.{sha256}
 use Rattle.vm_memory_guest.specs.Host.{Host, block_at, shape_of}
+use Rattle.live_migration.specs.Digests.{HasNoted, digest_of}
 use Rattle.live_migration.specs.Frame.{Message, RoundEnd, Section, IsMessage, spelling}
 use Rattle.live_migration.specs.Header.{IsHeader, header_bytes}
 use Rattle.live_migration.specs.Image.{arrived}
@@ -18,10 +17,10 @@ use Rattle.live_migration.specs.declared.refusal.Refusal.TheVariants as refusal
 use Rattle.live_migration.specs.declared.receiver.end.Guest.{Guest}
 use Rattle.live_migration.specs.declared.receiver.progress.Progress.{Progress}
 
--- the end of a round has the round's number and the digest of all that was sent before it
-abbrev pub IsRightEnd : ℕ → List ℕ → Message → Type 0
-IsRightEnd round sent (RoundEnd r digest) = (r ≡ round) × (digest ≡ sha256 sent)
-IsRightEnd round sent m = Unit {0}
+-- the end of a round has the round's number, and the digest of all that was sent before it if digests are asked for
+abbrev pub IsRightEnd : Bool → ℕ → List ℕ → Message → Type 0
+IsRightEnd digests round sent (RoundEnd r digest) = (r ≡ round) × (digest ≡ digest_of digests sent)
+IsRightEnd digests round sent m = Unit {0}
 
 -- the number of the round that is next, after a message
 abbrev pub round_after : ℕ → Message → ℕ
@@ -71,28 +70,32 @@ pub record TakesFrame {B : Type 0} (before after : Option (List ℕ)) (old new :
     pub round : new.round ≡ round_after old.round message
     pub sections : sections_told new ≡ sections_told old ++ section_in message
     pub left : new.left + sum_by cost_of (section_in message) ≡ old.left
-    pub right : (sent : List ℕ) → Holds256 old.hasher sent → IsRightEnd old.round sent message
-    pub hashed : (sent : List ℕ) → Holds256 old.hasher sent → Holds256 new.hasher (sent ++ spelling message)
+    pub right : (digests : Bool) (sent : List ℕ) → HasNoted digests old.hasher sent
+        → IsRightEnd digests old.round sent message
+    pub hashed : (digests : Bool) (sent : List ℕ) → HasNoted digests old.hasher sent
+        → HasNoted digests new.hasher (sent ++ spelling message)
 
 -- a header was read, and its blocks were made. What they do not cost of the limit is left for sections
 pub record Begins {B : Type 0} (limit : ℕ) (before after : Option (List ℕ)) (new : Progress) (host next : Host B)
     : Type 0
   where
+    pub digests : Bool
     pub header : IsHeader limit new.entries.items
-    pub consumed : Consumes before after (header_bytes new.entries.items)
+    pub consumed : Consumes before after (header_bytes digests new.entries.items)
     pub blocks : next.blocks ≡ host.blocks ++ zeroed new.entries.items
     pub base : 0 < length new.entries.items → new.base ≡ length host.blocks
     pub stage : new.stage ≡ stage.Round
     pub round : new.round ≡ 0
     pub left : new.left + memory_of new.entries.items ≡ limit
-    pub hashed : Holds256 new.hasher (header_bytes new.entries.items)
+    pub hashed : HasNoted digests new.hasher (header_bytes digests new.entries.items)
 
 -- an allocation failed after a header was read, when some of its blocks had been made
 pub record BreaksMaking (limit : ℕ) (before after : Option (List ℕ)) (error : Refusal) (old new : List (List ℕ)) : Type 0
   where
+    pub digests : Bool
     pub entries : List BlockEntry
     pub header : IsHeader limit entries
-    pub consumed : Consumes before after (header_bytes entries)
+    pub consumed : Consumes before after (header_bytes digests entries)
     pub count : ℕ
     pub made : new ≡ old ++ zeroed (take count entries)
     pub memory : error ≡ refusal.Memory

@@ -30,6 +30,7 @@ code_of refusal.Digest = 14
 code_of refusal.Ended = 15
 code_of refusal.Failed = 16
 code_of refusal.Memory = 17
+code_of refusal.Options = 18
 
 -- a reply has eight bytes: its kind, and the code of what was refused, or 0
 abbrev pub reply_bytes : Reply → List ℕ

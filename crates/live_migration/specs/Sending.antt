@@ -1,11 +1,12 @@
 -- What a sender's calls do, in the words of the rounds.
-use Rattle.std.specs.Prelude.{◌≡◌, ℕ, ◌+◌, ◌*◌, ◌^◌, ◌<◌, ◌≤◌, ◌⊎◌, ◌==◌, if◌then◌else◌, List, [], ◌∷◌, ◌++◌, length, take, drop, flat_map, slice_get, Some}
+use Rattle.std.specs.Prelude.{◌≡◌, ℕ, ◌+◌, ◌*◌, ◌^◌, ◌<◌, ◌≤◌, ◌⊎◌, ◌==◌, false, if◌then◌else◌, List, [], ◌∷◌, ◌++◌, length, take, drop, flat_map, slice_get, Option, Some, None}
+use Rattle.std.specs.List.{AllByRecursion}
 use Rattle.vm_memory_base.specs.Pages.{PageSet, Pages, cleaned, dirty_pages, marked}
 use Rattle.vm_memory_base.specs.declared.bitmap.BitmapId.TheVariants.{Block}
 use Rattle.vm_memory_guest.specs.Host.{Host, block_at}
 use Rattle.vm_memory_guest.specs.Window.{bitmap_of, with_bitmap}
-use Rattle.live_migration.specs.Frame.{spelling}
-use Rattle.live_migration.specs.Image.{copied}
+use Rattle.live_migration.specs.Frame.{IsMessage, Message, spelling}
+use Rattle.live_migration.specs.Image.{are_zero, copied, one_by_one, page_bytes}
 use Rattle.live_migration.specs.Rounds.{Source, taken}
 use Rattle.live_migration.specs.declared.sender.pages.Target.{Target}
 use Rattle.live_migration.specs.declared.sender.rounds.Rounds.{Rounds}
@@ -57,6 +58,34 @@ pub record HarvestsNext {B : Type 0} (pages_of : B → PageSet) (old new : Round
   pub last : new.last ≡ old.turn
   pub same : (new.targets ≡ old.targets) × (new.round ≡ old.round) × (new.batch ≡ old.batch)
 
+-- the size of the pages of a target
+abbrev pub page_size_of : Option Target → ℕ
+page_size_of (Some t) = t.entry.page_size
+page_size_of None = 0
+
+abbrev pub page_size_at : List Target → ℕ → ℕ
+page_size_at ts j = page_size_of (slice_get ts j)
+
+-- a block has this page, and a byte of it is not zero
+pub record IsWrittenPage (size : ℕ) (bytes : List ℕ) (page : ℕ) : Type 0 where
+  pub within : page * size < length bytes
+  pub written : are_zero (page_bytes size page bytes) ≡ false
+
+-- pages that follow one another from this on, and have bytes that are not zero
+abbrev pub IsRun : ℕ → List ℕ → ℕ → List ℕ → Type 0
+IsRun size bytes first [] = Unit {0}
+IsRun size bytes first (page ∷ pages) =
+    (page ≡ first) × IsWrittenPage size bytes first × IsRun size bytes (first + 1) pages
+
+-- Pages of a block were put after other bytes, in messages of one page or of several that follow one another: one by
+-- one these are what is sent of each page
+pub record CopiesRuns (size number : ℕ) (bytes pages old new : List ℕ) : Type 0 where
+  pub messages : List Message
+  pub fit : AllByRecursion IsMessage messages
+  pub spelled : new ≡ old ++ flat_map spelling messages
+  pub copies : (sizes : ℕ → ℕ) → sizes number ≡ size
+      → flat_map (one_by_one sizes) messages ≡ flat_map (copied size number bytes) pages
+
 -- a number of pages that waited were copied after what waits to be sent. They have at most 2^20 bytes
 pub record CopiesPages {B : Type 0} (count : ℕ) (old new : Rounds) (host : Host B) : Type 0 where
   pub target : Target
@@ -64,9 +93,8 @@ pub record CopiesPages {B : Type 0} (count : ℕ) (old new : Rounds) (host : Hos
   pub inside : old.next + count ≤ length old.waiting.items
   pub next : new.next ≡ old.next + count
   pub most : count * target.entry.page_size ≤ 2 ^ 20
-  pub batch : new.batch.items ≡ old.batch.items ++ flat_map spelling
-      (flat_map (copied target.entry.page_size old.last (block_at host.blocks target.block.0))
-      (take count (drop old.next old.waiting.items)))
+  pub batch : CopiesRuns target.entry.page_size old.last (block_at host.blocks target.block.0)
+      (take count (drop old.next old.waiting.items)) old.batch.items new.batch.items
   pub same : (new.targets ≡ old.targets) × (new.round ≡ old.round) × (new.waiting ≡ old.waiting)
       × (new.turn ≡ old.turn) × (new.last ≡ old.last)
 

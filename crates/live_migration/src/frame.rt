@@ -52,7 +52,8 @@ pub enum Frame<'a> {
         block: u32,
         page: u64,
     },
-    /// The end of a round, with the digest of all bytes of the stream before this frame.
+    /// The end of a round, with the digest of all bytes of the stream before this frame, or no bytes if the header asks
+    /// for no digests.
     RoundEnd {
         round: u32,
         digest: &'a [u8],
@@ -101,7 +102,7 @@ fn round_end_in(payload: &[u8]) -> Result<Frame<'_>, Refusal>
     ensures { Gives message_of result (round_end_in payload.now) }
 {
     let (round, digest) = u32_at(payload)?;
-    if digest.len() != 32 {
+    if digest.len() != 0 && digest.len() != 32 {
         return Err(Refusal::FrameLength);
     }
     Ok(Frame::RoundEnd { round, digest })
@@ -215,7 +216,7 @@ impl<'a> Frame<'a> {
         match *self {
             Frame::Pages { bytes, .. } => (PAGES, 12 + bytes.len() as u32),
             Frame::ZeroPage { .. } => (ZERO_PAGE, 12),
-            Frame::RoundEnd { .. } => (ROUND_END, 36),
+            Frame::RoundEnd { digest, .. } => (ROUND_END, 4 + digest.len() as u32),
             Frame::Section { name, bytes } => {
                 (SECTION, 1 + name.len() as u32 + bytes.len() as u32)
             }
@@ -256,7 +257,7 @@ impl<'a> Frame<'a> {
     }
 
     /// Appends the frame to other bytes, as it goes over the stream. `AllocError` if its allocation fails, and
-    /// then nothing changes. Its fields have to fit: at most 2^20 bytes, a digest of 32, and a name of at most 255.
+    /// then nothing changes. Its fields have to fit: at most 2^20 bytes, a digest of 32 or none, and a name of at most 255.
     pub fn encode(&self, out: &mut Vec<u8>) -> Result<(), AllocError>
         requires { IsMessage (message_of self.now) }
         ensures ok { OnOk result (out.new.items ≡ out.old.items ++ spelling (message_of self.now)) }

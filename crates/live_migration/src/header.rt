@@ -1,7 +1,7 @@
 //! The header of the stream: which blocks there are.
-ghost use Rattle.std.specs.Prelude.{◌≡◌, ◌+◌, ◌^◌, ◌<◌, ◌≤◌, ◌++◌, List, length, IfOk, IsOk, Ok, ◌↔◌};
+ghost use Rattle.std.specs.Prelude.{◌≡◌, ◌+◌, ◌^◌, ◌<◌, ◌≤◌, ◌++◌, ℕ, Bool, List, length, IfOk, IsOk, Ok, ◌↔◌};
 ghost use Rattle.std.specs.Int.{w32, w64, to_le_bytes};
-ghost use Rattle.live_migration.specs.Header.{FitsFields, GivesUnlessMemory, entry_bytes, IsHeader, checked, entries_in, entry_in, front_in, header_bytes, header_in};
+ghost use Rattle.live_migration.specs.Header.{FitsFields, GivesUnlessMemory, entry_bytes, IsHeader, checked, entries_in, entry_in, front_in, header_bytes, header_in, option_bits, parts_of};
 ghost use Rattle.live_migration.specs.Reading.{Gives};
 ghost use Rattle.live_migration.specs.declared.header.BlockEntry.{BlockEntry};
 
@@ -11,13 +11,16 @@ use std::alloc::{AllocError, Global};
 
 const MAGIC: u64 = 0x5441_5247_494d_4d56;
 
-const VERSION: u32 = 1;
+const VERSION: u32 = 2;
+
+// The bit of the options that asks for digests.
+const DIGESTS: u32 = 1;
 
 /// The greatest number of blocks.
 pub const MOST_BLOCKS: u32 = 256;
 
 /// The number of bytes before the blocks.
-pub(crate) const FRONT: usize = 16;
+pub(crate) const FRONT: usize = 20;
 
 /// The number of bytes of a block in the header.
 pub(crate) const ENTRY: usize = 24;
@@ -37,9 +40,23 @@ pub struct BlockEntry {
     pub address: u64,
 }
 
+/// What a stream may have or not, as its sender decides.
+#[derive(Clone, Copy, Debug, PartialEq, Eq, Default)]
+pub struct Options {
+    /// Whether each end of a round has the digest of all that was sent before it: SHA-256, which both ends compute.
+    pub digests: bool,
+}
+
+/// What the header of a stream says.
+#[derive(Debug, Drop)]
+pub struct Header {
+    pub options: Options,
+    pub entries: Vec<BlockEntry>,
+}
+
 #[tactic(auto, unfolding(crate::specs::Header::front_in))]
-pub(crate) fn front_in(bytes: &[u8]) -> Result<(u32, &[u8]), Refusal>
-    ensures { Gives (λ x. (x.0, x.1.now)) result (front_in bytes.now) }
+pub(crate) fn front_in(bytes: &[u8]) -> Result<(bool, u32, &[u8]), Refusal>
+    ensures { Gives (λ x. (x.0, x.1, x.2.now)) result (front_in bytes.now) }
 {
     let (word, rest) = u64_at(bytes)?;
     if word != MAGIC {
@@ -49,11 +66,15 @@ pub(crate) fn front_in(bytes: &[u8]) -> Result<(u32, &[u8]), Refusal>
     if version != VERSION {
         return Err(Refusal::Version);
     }
+    let (options, rest) = u32_at(rest)?;
+    if options > DIGESTS {
+        return Err(Refusal::Options);
+    }
     let (count, rest) = u32_at(rest)?;
     if count > MOST_BLOCKS {
         return Err(Refusal::BlockCount);
     }
-    Ok((count, rest))
+    Ok((options == DIGESTS, count, rest))
 }
 
 // A block that begins no earlier than `from`, if so many bytes are left of what is allowed.
@@ -120,28 +141,30 @@ fn entries_in(
 }
 
 #[tactic(auto, unfolding(crate::specs::Header::header_in))]
-fn header_in(alloc: Global, limit: u64, bytes: &[u8]) -> Result<Vec<BlockEntry>, Refusal>
-    ensures { GivesUnlessMemory (λ v. v.items) result (header_in limit bytes.now) }
+fn header_in(alloc: Global, limit: u64, bytes: &[u8]) -> Result<Header, Refusal>
+    ensures { GivesUnlessMemory parts_of result (header_in limit bytes.now) }
 {
-    let (count, rest) = front_in(bytes)?;
+    let (digests, count, rest) = front_in(bytes)?;
     let (entries, rest) = entries_in(alloc, count, limit, rest)?;
     if rest.len() != 0 {
         return Err(Refusal::FrameLength);
     }
-    Ok(entries)
+    let options = Options { digests };
+    Ok(Header { options, entries })
 }
 
-/// The blocks of the header that these bytes are, all of them: no other blocks have this header. The first fault from
-/// the left decides which error it is. `TooMuchMemory` if the blocks have more than `limit` bytes in all, and
-/// `Memory` if the allocation of the list fails.
-pub fn decode_header(alloc: Global, limit: u64, bytes: &[u8]) -> Result<Vec<BlockEntry>, Refusal>
+/// The header that these bytes are, all of them: no other options and blocks have it. The first fault from the left
+/// decides which error it is. `TooMuchMemory` if the blocks have more than `limit` bytes in all, and `Memory` if the
+/// allocation of the list fails.
+pub fn decode_header(alloc: Global, limit: u64, bytes: &[u8]) -> Result<Header, Refusal>
     // What is read is spelled so.
-    ensures found { IfOk result (λ v. IsHeader limit v.items × (bytes.now ≡ header_bytes v.items)) }
+    ensures found { IfOk result (λ h. IsHeader limit h.entries.items
+        × (bytes.now ≡ header_bytes h.options.digests h.entries.items)) }
     // What is spelled so is read, unless memory runs out.
-    ensures only { (es : List BlockEntry) → IsHeader limit es → bytes.now ≡ header_bytes es
-        → GivesUnlessMemory (λ v. v.items) result (Ok es) }
+    ensures only { (digests : Bool) (es : List BlockEntry) → IsHeader limit es → bytes.now ≡ header_bytes digests es
+        → GivesUnlessMemory parts_of result (Ok (digests, es)) }
     // Which fault it is.
-    ensures exact { GivesUnlessMemory (λ v. v.items) result (header_in limit bytes.now) }
+    ensures exact { GivesUnlessMemory parts_of result (header_in limit bytes.now) }
 {
     header_in(alloc, limit, bytes)
 }
@@ -150,8 +173,8 @@ pub fn decode_header(alloc: Global, limit: u64, bytes: &[u8]) -> Result<Vec<Bloc
 pub(crate) fn check_header(limit: u64, entries: &[BlockEntry]) -> Result<(), Refusal>
     ensures accepted { IsOk result ↔ IsHeader limit entries.now }
     // What `decode_header` says of the header of these blocks.
-    ensures same { length entries.now < 2 ^ 32
-        → Gives (λ _. entries.now) result (header_in limit (header_bytes entries.now)) }
+    ensures same { (digests : Bool) → length entries.now < 2 ^ 32
+        → Gives (λ _. (digests, entries.now)) result (header_in limit (header_bytes digests entries.now)) }
 {
     if entries.len() > MOST_BLOCKS as usize {
         return Err(Refusal::BlockCount);
@@ -179,23 +202,35 @@ fn entry_bytes(entry: &BlockEntry) -> [u8; ENTRY]
 }
 
 // The bytes in front of the blocks.
-fn front_bytes(count: u32) -> [u8; FRONT]
-    ensures { result ≡ to_le_bytes w64 0x5441_5247_494d_4d56 ++ (to_le_bytes w32 1 ++ to_le_bytes w32 count) }
+fn front_bytes(options: Options, count: u32) -> [u8; FRONT]
+    ensures { result ≡ to_le_bytes w64 0x5441_5247_494d_4d56
+        ++ (to_le_bytes w32 2 ++ (to_le_bytes w32 (option_bits options.digests) ++ to_le_bytes w32 count)) }
 {
     let [a, b, c, d, e, f, g, h] = MAGIC.to_le_bytes();
     let [i, j, k, l] = VERSION.to_le_bytes();
-    let [m, n, o, p] = count.to_le_bytes();
-    [a, b, c, d, e, f, g, h, i, j, k, l, m, n, o, p]
+    let [m, n, o, p] = option_bits(options).to_le_bytes();
+    let [q, r, s, t] = count.to_le_bytes();
+    [a, b, c, d, e, f, g, h, i, j, k, l, m, n, o, p, q, r, s, t]
 }
 
-/// The header of these blocks, as it goes over the stream. `AllocError` if its allocation fails.
+fn option_bits(options: Options) -> u32
+    ensures { result ≡ option_bits options.digests }
+{
+    if options.digests { DIGESTS } else { 0 }
+}
+
+/// The header of these options and blocks, as it goes over the stream. `AllocError` if its allocation fails.
 #[tactic(auto, unfolding(crate::specs::Header::header_bytes))]
-pub fn encode_header(alloc: Global, entries: &[BlockEntry]) -> Result<Vec<u8>, AllocError>
+pub fn encode_header(
+    alloc: Global,
+    options: Options,
+    entries: &[BlockEntry],
+) -> Result<Vec<u8>, AllocError>
     requires { length entries.now ≤ 256 }
-    ensures { IfOk result (λ v. v.items ≡ header_bytes entries.now) }
+    ensures { IfOk result (λ v. v.items ≡ header_bytes options.digests entries.now) }
 {
     let mut out = Vec::new(alloc);
-    out.extend_from_slice(&front_bytes(entries.len() as u32))?;
+    out.extend_from_slice(&front_bytes(options, entries.len() as u32))?;
     for entry in entries {
         out.extend_from_slice(&entry_bytes(entry))?;
     }

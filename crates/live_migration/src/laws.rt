@@ -1,5 +1,5 @@
 //! What becomes of the pages of a migration: each function here is a theorem, and does nothing.
-ghost use Rattle.std.specs.Prelude.{◌≡◌, ◌+◌, ◌*◌, ◌^◌, ◌<◌, ◌≤◌, ◌⊎◌, ℕ, List, [], ◌∷◌, ◌++◌, Option, Some, All, Contains, true, length, flat_map, slice_get};
+ghost use Rattle.std.specs.Prelude.{◌≡◌, ◌+◌, ◌*◌, ◌^◌, ◌<◌, ◌≤◌, ◌⊎◌, ℕ, Bool, List, [], ◌∷◌, ◌++◌, Option, Some, All, Contains, true, length, flat_map, slice_get};
 ghost use Rattle.std.specs.Io.KnownBytes.{Appends};
 ghost use Rattle.std.specs.List.{AllByRecursion};
 ghost use Rattle.live_migration.specs.Calls.{Call, DoAll, Does, EndsPaused, HasBegun, Moment, ReadsAll};
@@ -64,12 +64,13 @@ pub fn still_rounds_end_equal()
     dirty_pages_are_listed();
 }
 
-/// A stream means one thing: the frames of a stream are decided by its bytes, and so are the blocks of a header.
+/// A stream means one thing: the frames of a stream are decided by its bytes, and so are the options and the blocks of a
+/// header.
 pub fn streams_mean_one_thing()
     ensures frames { (ms ns : List Message) → AllByRecursion IsMessage ms → AllByRecursion IsMessage ns
         → flat_map spelling ms ≡ flat_map spelling ns → ms ≡ ns }
-    ensures header { (limit : ℕ) (es fs : List BlockEntry) → IsHeader limit es → IsHeader limit fs
-        → header_bytes es ≡ header_bytes fs → es ≡ fs }
+    ensures header { (limit : ℕ) (d e : Bool) (es fs : List BlockEntry) → IsHeader limit es → IsHeader limit fs
+        → header_bytes d es ≡ header_bytes e fs → (d ≡ e) × (es ≡ fs) }
 {}
 
 /// What is sent for pages of a block patches its image with these pages, as `Machine::sync` does: a page

@@ -1,13 +1,15 @@
 //! Pages that come into the blocks of a host.
-ghost use Rattle.std.specs.Prelude.{◌≡◌, ◌+◌, ◌-◌, ◌*◌, ◌<◌, ◌≤◌, ◌⊎◌, ◌%◌, length, replicate, min, true, IsTrue, ◌↔◌, Some, IfSome, IfNone, IfOk, OnOk, OnErr, slice_get};
-ghost use Rattle.live_migration.specs.Image.{placed};
+ghost use Rattle.std.specs.Prelude.{◌≡◌, ◌+◌, ◌-◌, ◌*◌, ◌<◌, ◌≤◌, ◌⊎◌, ◌%◌, [], ◌∷◌, length, take, drop, replicate, min, true, IsTrue, ◌↔◌, Some, IfSome, IfNone, IfOk, OnOk, OnErr, slice_get};
+ghost use Rattle.live_migration.specs.Image.{are_zero, page_bytes, placed};
 ghost use Rattle.live_migration.specs.Placing.{Applies, HasPlaced, IsInside, LieIn};
 ghost use Rattle.live_migration.specs.Frame.{message_of};
-ghost use Rattle.vm_memory_guest.specs.Host.{block_at};
+ghost use Rattle.vm_memory_guest.specs.Host as names;
+ghost use Rattle.vm_memory_guest.specs.Host.{Holds, block_at, shape_of};
 
 use crate::frame::Frame;
 use crate::header::BlockEntry;
 use crate::refusal::Refusal;
+use crate::zeros::are_zero;
 use vm_memory_base::Bitmap;
 use vm_memory_guest::{BlockId, HostMemory};
 
@@ -73,6 +75,38 @@ fn is_whole(count: u64, page_size: u64) -> bool
     page_size != 0 && count % page_size == 0
 }
 
+// Whether so many bytes of a block are zero, from a place on.
+fn has_zeros<B: Bitmap>(host: &HostMemory<B>, block: BlockId, start: usize, len: usize) -> bool
+    requires { Holds (shape_of host.now) (names.Place block.0 start len ∷ []) }
+    ensures { result ≡ are_zero (take len (drop start (block_at host.now.blocks block.0))) }
+{
+    let window = host.window(block, start, len);
+    are_zero(host.bytes(&window))
+}
+
+// Puts zeros into a block, if the host has the place. If they are there already, nothing changes: a page that is only
+// looked at takes no memory, and no mark.
+fn put_new_zeros<B: Bitmap>(
+    host: &mut HostMemory<B>,
+    block: BlockId,
+    start: usize,
+    zeros: &[u8],
+) -> Result<(), Refusal>
+    requires { zeros.now ≡ replicate (length zeros.now) 0 }
+    ensures ok { OnOk result (HasPlaced host.old host.new block.0 start zeros.now) }
+    ensures same { are_zero (take (length zeros.now) (drop start (block_at host.old.blocks block.0))) ≡ true
+        → host.new ≡ host.old }
+    ensures err { OnErr result (host.new ≡ host.old) }
+{
+    if !host.shape().has_place(block, start, zeros.len()) {
+        return Err(Refusal::Block);
+    }
+    if has_zeros(host, block, start, zeros.len()) {
+        return Ok(());
+    }
+    put_bytes(host, block, start, zeros)
+}
+
 // Puts zeros into a page of a block.
 fn put_zeros<B: Bitmap>(
     host: &mut HostMemory<B>,
@@ -85,6 +119,9 @@ fn put_zeros<B: Bitmap>(
     ensures ok { OnOk result (HasPlaced host.old host.new block.0 (page * entry.now.page_size)
         (replicate (min entry.now.page_size (entry.now.len - page * entry.now.page_size)) 0)) }
     ensures inside { OnOk result (page * entry.now.page_size < entry.now.len) }
+    ensures same { length (block_at host.old.blocks block.0) ≡ entry.now.len
+        → are_zero (page_bytes entry.now.page_size page (block_at host.old.blocks block.0)) ≡ true
+        → host.new ≡ host.old }
     ensures err { OnErr result (host.new ≡ host.old) }
 {
     let Some(start) = start_of(entry, page) else {
@@ -94,7 +131,7 @@ fn put_zeros<B: Bitmap>(
     if count > zeros.len() {
         return Err(Refusal::PageSize);
     }
-    put_bytes(host, block, start as usize, &zeros[..count])
+    put_new_zeros(host, block, start as usize, &zeros[..count])
 }
 
 // The block of this number, with its entry, if the host has it as the header says.

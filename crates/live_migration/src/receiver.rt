@@ -10,7 +10,6 @@ mod progress;
 use crate::frame::Frame;
 use crate::refusal::Refusal;
 pub use end::Guest;
-pub(crate) use progress::digest_of;
 pub use progress::{Progress, Receiver, SECTION_COST, Section};
 
 /// What a receiver waits for.

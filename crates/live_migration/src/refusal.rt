@@ -56,4 +56,7 @@ pub enum Refusal {
     /// An allocation failed.
     #[error("out of memory")]
     Memory,
+    /// The header asks for what this version has not.
+    #[error("unknown options")]
+    Options,
 }

@@ -44,6 +44,7 @@ fn code_of(refusal: Refusal) -> u8
         Refusal::Ended => 15,
         Refusal::Failed => 16,
         Refusal::Memory => 17,
+        Refusal::Options => 18,
     }
 }
 
@@ -69,6 +70,7 @@ fn refusal_of(code: u8) -> Option<Refusal>
         15 => Some(Refusal::Ended),
         16 => Some(Refusal::Failed),
         17 => Some(Refusal::Memory),
+        18 => Some(Refusal::Options),
         _ => None,
     }
 }

@@ -6,8 +6,6 @@ mod iommu;
 #[cfg(test)]
 mod machines;
 #[cfg(test)]
-mod marks;
-#[cfg(test)]
 mod rounds;
 #[cfg(test)]
 mod texts;

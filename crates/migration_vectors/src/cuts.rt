@@ -3,7 +3,7 @@
 use crate::guests::{
     Host, are_equal, dirty_count, guest_of, hear_ready, put, send_pages, take_until,
 };
-use live_migration::{Receiver, Reply, SendError, Sender, Stage};
+use live_migration::{Options, Receiver, Reply, SendError, Sender, Stage};
 use std::alloc::Global;
 use std::io::{self, ErrorKind, Write};
 use std::test::Fail;
@@ -83,7 +83,8 @@ fn tried<B: ExactBitmap, C: NewBitmap + Drop>(
         bytes: Vec::new(alloc),
         left,
     };
-    let Ok(mut sender) = Sender::begin(alloc, host, places, &mut cut) else {
+    let options = Options { digests: true };
+    let Ok(mut sender) = Sender::begin(alloc, host, places, options, &mut cut) else {
         return Ok(false);
     };
     if send_all(alloc, &mut sender, host, &mut cut).is_err() {
@@ -105,7 +106,7 @@ fn tried<B: ExactBitmap, C: NewBitmap + Drop>(
 const STREAM: usize = HEADER + FIRST_BLOCK + (20 + 20 + 0x80) + 44 + (20 + 0x80) + 11 + 44 + 8;
 
 // The bytes of the header, and of the first round's pages of the first block: two of zeros, and one that is cut.
-const HEADER: usize = 16 + 2 * 24;
+const HEADER: usize = 20 + 2 * 24;
 
 const FIRST_BLOCK: usize = 20 + 20 + 21;
 

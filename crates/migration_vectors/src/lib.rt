@@ -25,3 +25,5 @@ mod tracked;
 mod trials;
 #[cfg(test)]
 mod whole;
+#[cfg(test)]
+mod zeros;

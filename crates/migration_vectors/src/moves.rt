@@ -3,7 +3,7 @@
 use crate::guests::{
     are_equal, bytes_of, guest_of, hear_ready, len_of, put, send_pages, take_until,
 };
-use live_migration::{Receiver, Reply, Sender, Stage};
+use live_migration::{Options, Receiver, Reply, Sender, Stage};
 use std::alloc::Global;
 use std::test::Fail;
 use test_text::next_number;
@@ -57,12 +57,13 @@ fn send_all<B: ExactBitmap>(
     alloc: Global,
     host: &mut HostMemory<B>,
     places: &[(BlockId, GuestAddress)],
-    writes: usize,
+    how: (usize, Options),
     stream: &mut Vec<u8>,
 ) -> Result<Sender, Fail> {
+    let (writes, options) = how;
     let mut state = 7;
     write_some(host, places, writes, &mut state);
-    let mut sender = Sender::begin(alloc, host, places, stream)?;
+    let mut sender = Sender::begin(alloc, host, places, options, stream)?;
     hear_ready(&mut sender)?;
     for round in 0..4 {
         send_pages(alloc, &mut sender, host, places.len(), stream)?;
@@ -83,11 +84,11 @@ fn is_moved<B: ExactBitmap, C: NewBitmap + Drop>(
     alloc: Global,
     host: &mut HostMemory<B>,
     places: &[(BlockId, GuestAddress)],
-    writes: usize,
+    how: (usize, Options),
     other: &mut HostMemory<C>,
 ) -> Result<bool, Fail> {
     let mut stream = Vec::new(alloc);
-    let mut sender = send_all(alloc, host, places, writes, &mut stream)?;
+    let mut sender = send_all(alloc, host, places, how, &mut stream)?;
     put(other, BlockId(0), 4, 9);
     let mut input = stream.as_slice();
     let mut receiver = Receiver::begin(alloc, &mut input, other, 0x40_0000)?;
@@ -114,10 +115,13 @@ fn is_moved<B: ExactBitmap, C: NewBitmap + Drop>(
 #[test]
 fn guests_move(rt: HostRuntime) -> Result<(), Fail> {
     for (case, (blocks, writes)) in CASES.iter().enumerate() {
-        let (mut host, places) = guest_of(rt.alloc(), blocks)?;
-        let (mut other, _) = guest_of(rt.alloc(), &[(5, 1)])?;
-        let is_equal = is_moved(rt.alloc(), &mut host, &places, *writes, &mut other)?;
-        assert!(rt; is_equal, "case {case}");
+        for digests in [false, true] {
+            let (mut host, places) = guest_of(rt.alloc(), blocks)?;
+            let (mut other, _) = guest_of(rt.alloc(), &[(5, 1)])?;
+            let how = (*writes, Options { digests });
+            let is_equal = is_moved(rt.alloc(), &mut host, &places, how, &mut other)?;
+            assert!(rt; is_equal, "case {case}");
+        }
     }
     Ok(())
 }

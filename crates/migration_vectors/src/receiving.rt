@@ -10,6 +10,9 @@ use test_text::expect_text;
 use vm_memory_base::NewBitmap;
 use vm_memory_guest::{BlockId, HostMemory};
 
+// How done comes after the end of a round.
+const ENDS: [&str; 3] = ["e,0 4,5 4,0", "e,1 4,5 4,0", "n,1 4,5 4,0"];
+
 // Receives a stream, in a host that has a block of four bytes, over a writer that takes so many bytes. What came of it,
 // and what was replied.
 fn received<B: NewBitmap + Drop>(
@@ -76,7 +79,7 @@ fn replies_of_a_receiver(rt: HostRuntime) -> Result<(), Fail> {
         } else {
             *wanted
         };
-        let replied = if text.contains("e,0 4,5 4,0") || text.contains("e,1 4,5 4,0") {
+        let replied = if ENDS.iter().any(|end| text.contains(*end)) {
             "[129, 0, 0, 0, 0, 0, 0, 0]"
         } else {
             "[]"

@@ -2,7 +2,7 @@
 //! receiver accepts the header.
 
 use crate::guests::{Host, hear_ready, put};
-use live_migration::{Refusal, SendError, Sender};
+use live_migration::{Options, Refusal, SendError, Sender};
 use std::alloc::{AllocError, Global};
 use std::num::NonZeroUsize;
 use std::test::Fail;
@@ -109,7 +109,8 @@ fn two_rounds<B: ExactBitmap>(
     block: BlockId,
 ) -> Result<(Option<usize>, Option<usize>), Fail> {
     let mut stream = Vec::new(alloc);
-    let mut sender = Sender::begin(alloc, host, &[(block, GuestAddress(0))], &mut stream)?;
+    let places = [(block, GuestAddress(0))];
+    let mut sender = Sender::begin(alloc, host, &places, Options::default(), &mut stream)?;
     hear_ready(&mut sender)?;
     put(host, block, 3, 1);
     let first = harvest_twice(alloc, &mut sender, host, &[1])?;
@@ -144,7 +145,8 @@ fn begun_with(alloc: Global, bytes: usize) -> Result<Result<Sender, SendError>, 
     let bitmap = ExclusiveBitmap::new(alloc, bytes, size)?;
     let block = host.new_block_with(9, bitmap)?;
     let places = [(block, GuestAddress(0))];
-    Ok(Sender::begin(alloc, &host, &places, &mut Vec::new(alloc)))
+    let mut stream = Vec::new(alloc);
+    Ok(Sender::begin(alloc, &host, &places, Options::default(), &mut stream))
 }
 
 #[test]
@@ -180,7 +182,13 @@ fn refusal_of(alloc: Global, blocks: &[(usize, usize, u64)]) -> Result<Option<Re
         places.push((block, GuestAddress(*address)))?;
     }
     let mut stream = Vec::new(alloc);
-    match Sender::begin(alloc, &host, places.as_slice(), &mut stream) {
+    match Sender::begin(
+        alloc,
+        &host,
+        places.as_slice(),
+        Options::default(),
+        &mut stream,
+    ) {
         Ok(_) => Ok(None),
         Err(SendError::Header(refusal)) if stream.is_empty() => Ok(Some(refusal)),
         Err(error) => Err(error)?,

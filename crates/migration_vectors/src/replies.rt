@@ -1,6 +1,6 @@
 //! The replies that a sender awaits: which bytes are ready and accepted, and what is read.
 
-use live_migration::{SendError, Sender};
+use live_migration::{Options, SendError, Sender};
 use std::alloc::{AllocError, Global};
 use std::io::{self, ErrorKind, Read};
 use std::test::Fail;
@@ -9,7 +9,7 @@ use vm_memory_base::ExclusiveBitmap;
 use vm_memory_guest::HostMemory;
 
 // What comes, what `ready` and what `accepted` makes of it, and how many bytes are left.
-static CASES: [(&[u8], &str, &str, usize); 33] = [
+static CASES: [(&[u8], &str, &str, usize); 34] = [
     (&[128, 0, 0, 0, 0, 0, 0, 0], "ok", "Reply", 0),
     (&[128, 0, 0, 0, 0, 0, 0, 0, 129], "ok", "Reply", 1),
     (&[129, 0, 0, 0, 0, 0, 0, 0], "Reply", "ok", 0),
@@ -37,9 +37,10 @@ static CASES: [(&[u8], &str, &str, usize); 33] = [
     (&[130, 0, 0, 0, 15, 0, 0, 0], "Ended", "Ended", 0),
     (&[130, 0, 0, 0, 16, 0, 0, 0], "Failed", "Failed", 0),
     (&[130, 0, 0, 0, 17, 0, 0, 0], "Memory", "Memory", 0),
+    (&[130, 0, 0, 0, 18, 0, 0, 0], "Options", "Options", 0),
     // What is no reply.
     (&[130, 0, 0, 0, 0, 0, 0, 0], "Reply", "Reply", 0),
-    (&[130, 0, 0, 0, 18, 0, 0, 0], "Reply", "Reply", 0),
+    (&[130, 0, 0, 0, 19, 0, 0, 0], "Reply", "Reply", 0),
     (&[130, 0, 0, 0, 1, 1, 0, 0], "Reply", "Reply", 0),
     (&[128, 0, 0, 0, 1, 0, 0, 0], "Reply", "Reply", 0),
     (&[129, 0, 0, 0, 0, 0, 0, 1], "Reply", "Reply", 0),
@@ -110,7 +111,8 @@ fn accepted<R: Read>(alloc: Global, sender: &mut Sender, reader: &mut R) -> Resu
 // What comes of ready and of accepted, where both come from the same reader made anew.
 fn heard<R: Read>(alloc: Global, reader: &mut R, is_begun: bool) -> Result<String, Fail> {
     let host = HostMemory::<ExclusiveBitmap>::new(alloc);
-    let mut sender = Sender::begin(alloc, &host, &[], &mut Vec::new(alloc))?;
+    let mut header = Vec::new(alloc);
+    let mut sender = Sender::begin(alloc, &host, &[], Options::default(), &mut header)?;
     if is_begun {
         ready(alloc, &mut sender, reader)
     } else {

@@ -1,7 +1,9 @@
 //! What sections cost of a receiver's limit, however many come.
 
 use crate::guests::Host;
-use live_migration::{BlockEntry, Frame, MOST_PAGE_BYTES, Receiver, Refusal, Stage, encode_header};
+use live_migration::{
+    BlockEntry, Frame, MOST_PAGE_BYTES, Options, Receiver, Refusal, Stage, encode_header,
+};
 use std::alloc::Global;
 use std::test::Fail;
 use vm_memory_base::NewBitmap;
@@ -38,7 +40,7 @@ fn receiver_of<B: NewBitmap + Drop>(
         page_size: 1,
         address: 0,
     };
-    let header = encode_header(alloc, &[entry])?;
+    let header = encode_header(alloc, Options::default(), &[entry])?;
     let limit = left.saturating_add(1);
     Ok(Receiver::begin(alloc, &mut header.as_slice(), host, limit)?)
 }

@@ -11,10 +11,10 @@ use vm_memory_base::NewBitmap;
 use vm_memory_guest::{BlockId, HostMemory};
 
 /// A stream in words: `m` is the magic word, `4,7` a number of 32 bits, `8,7` one of 64, `x,01ff` bytes, `z,3` N
-/// zeros, `e,0` the end of a round with the digest of all before it; numbers are hexadecimal. `a` is a header of a block
-/// of 5 bytes in pages of 2 and one of 3 bytes in a page of 4. Then the bytes of both blocks, or why the receiver
-/// refused.
-pub(crate) const CASES: [(&str, &str); 70] = [
+/// zeros, `e,0` the end of a round with the digest of all before it, and `n,0` one with none; numbers are hexadecimal.
+/// `a` is a header that asks for digests, of a block of 5 bytes in pages of 2 and one of 3 bytes in a page of 4, and `b`
+/// the same that asks for none. Then the bytes of both blocks, or why the receiver refused.
+pub(crate) const CASES: [(&str, &str); 78] = [
     // Pages, one after the other and alone, zeros, cut pages, rounds, sections.
     ("a e,0 4,5 4,0 4,6 4,0", "[0, 0, 0, 0, 0] [0, 0, 0]"),
     (
@@ -33,24 +33,32 @@ pub(crate) const CASES: [(&str, &str); 70] = [
         "a 4,4 4,3 x,02 x,6162 e,0 4,1 4,f 4,1 8,0 x,070809 e,1 4,5 4,0 4,6 4,0",
         "[0, 0, 0, 0, 0] [7, 8, 9]",
     ),
+    // No digests are asked for.
+    (
+        "b 4,1 4,11 4,0 8,0 x,0102030405 n,0 4,1 4,f 4,1 8,0 x,070809 n,1 4,5 4,0 4,6 4,0",
+        "[1, 2, 3, 4, 5] [7, 8, 9]",
+    ),
     // No blocks.
-    ("m 4,1 4,0 e,0 4,5 4,0 4,6 4,0", "[] []"),
+    ("m 4,2 4,1 4,0 e,0 4,5 4,0 4,6 4,0", "[] []"),
     // The header.
-    ("8,5441524749444d57 4,1 4,0", "Magic"),
-    ("m 4,2 4,0", "Version"),
-    ("m 4,0 4,0", "Version"),
-    ("m 4,1 4,101", "BlockCount"),
-    ("m 4,1 4,ffffffff", "BlockCount"),
-    ("m 4,1 4,1 8,0 8,1 8,0", "BlockLength"),
-    ("m 4,1 4,1 8,8000000000000000 8,1 8,0", "BlockLength"),
-    ("m 4,1 4,1 8,1 8,0 8,0", "PageSize"),
-    ("m 4,1 4,1 8,1 8,100001 8,0", "PageSize"),
-    ("m 4,1 4,1 8,1 8,1 8,ffffffffffffffff", "Place"),
-    ("m 4,1 4,2 8,5 8,1 8,10 8,1 8,1 8,14", "Place"),
-    ("m 4,1 4,2 8,5 8,1 8,10 8,1 8,1 8,0", "Place"),
-    ("m 4,1 4,1 8,301 8,1 8,0", "TooMuchMemory"),
-    ("m 4,1 4,2 8,2ff 8,1 8,0 8,2 8,1 8,2ff", "TooMuchMemory"),
-    ("m 4,1 4,1 8,7fffffffffffffff 8,1 8,0", "TooMuchMemory"),
+    ("8,5441524749444d57 4,2 4,1 4,0", "Magic"),
+    ("m 4,1 4,1 4,0", "Version"),
+    ("m 4,3 4,1 4,0", "Version"),
+    ("m 4,0 4,1 4,0", "Version"),
+    ("m 4,2 4,2 4,0", "Options"),
+    ("m 4,2 4,ffffffff 4,0", "Options"),
+    ("m 4,2 4,1 4,101", "BlockCount"),
+    ("m 4,2 4,1 4,ffffffff", "BlockCount"),
+    ("m 4,2 4,1 4,1 8,0 8,1 8,0", "BlockLength"),
+    ("m 4,2 4,1 4,1 8,8000000000000000 8,1 8,0", "BlockLength"),
+    ("m 4,2 4,1 4,1 8,1 8,0 8,0", "PageSize"),
+    ("m 4,2 4,1 4,1 8,1 8,100001 8,0", "PageSize"),
+    ("m 4,2 4,1 4,1 8,1 8,1 8,ffffffffffffffff", "Place"),
+    ("m 4,2 4,1 4,2 8,5 8,1 8,10 8,1 8,1 8,14", "Place"),
+    ("m 4,2 4,1 4,2 8,5 8,1 8,10 8,1 8,1 8,0", "Place"),
+    ("m 4,2 4,1 4,1 8,301 8,1 8,0", "TooMuchMemory"),
+    ("m 4,2 4,1 4,2 8,2ff 8,1 8,0 8,2 8,1 8,2ff", "TooMuchMemory"),
+    ("m 4,2 4,1 4,1 8,7fffffffffffffff 8,1 8,0", "TooMuchMemory"),
     // Kinds, and lengths that a kind or the header does not let be. Nothing of such a frame has come.
     ("a 4,0 4,0", "FrameKind"),
     ("a 4,7 4,0", "FrameKind"),
@@ -63,6 +71,8 @@ pub(crate) const CASES: [(&str, &str); 70] = [
     ("a 4,2 4,b x,0000000000000000000000", "FrameLength"),
     ("a 4,3 4,25", "FrameLength"),
     ("a 4,3 4,23 z,23", "FrameLength"),
+    ("a 4,3 4,5 4,0 z,1", "FrameLength"),
+    ("b 4,3 4,3 z,3", "FrameLength"),
     ("a 4,4 4,100101", "FrameLength"),
     ("a 4,4 4,0", "FrameLength"),
     ("a 4,4 4,2 x,02 x,61", "FrameLength"),
@@ -98,16 +108,18 @@ pub(crate) const CASES: [(&str, &str); 70] = [
     // The digest.
     ("a 4,3 4,24 4,0 z,20", "Digest"),
     (
-        "m 4,1 4,0 4,3 4,24 4,0 x,e3b0c44298fc1c149afbf4c8996fb92427ae41e4649b934ca495991b7852b855",
+        "m 4,2 4,1 4,0 4,3 4,24 4,0 x,e3b0c44298fc1c149afbf4c8996fb92427ae41e4649b934ca495991b7852b855",
         "Digest",
     ),
+    ("a n,0", "Digest"),
+    ("b e,0", "Digest"),
     // A section costs 256 bytes and its own, here 258, of which 257 are left.
     (
-        "m 4,1 4,1 8,1ff 8,1 8,0 4,4 4,3 x,01 x,6162",
+        "m 4,2 4,1 4,1 8,1ff 8,1 8,0 4,4 4,3 x,01 x,6162",
         "TooMuchMemory",
     ),
     // Ends that come too early; each other cut is below.
-    ("m 4,1 4,2 8,5 8,2 8,1000", "Ended"),
+    ("m 4,2 4,1 4,2 8,5 8,2 8,1000", "Ended"),
     ("a", "Ended"),
     ("a 4,1 4,e 4,0 8,0 x,01", "Ended"),
     ("a e,0", "Ended"),
@@ -159,6 +171,10 @@ fn put_word(stream: &mut Vec<u8>, word: &str) -> Result<(), Fail> {
             stream.extend_from_slice(&number_of(tail).to_le_bytes()[..4])?;
             stream.extend_from_slice(&digest)?;
         }
+        Some(b'n') => {
+            stream.extend_from_slice(&[3, 0, 0, 0, 4, 0, 0, 0])?;
+            stream.extend_from_slice(&number_of(tail).to_le_bytes()[..4])?;
+        }
         _ => {}
     }
     Ok(())
@@ -168,11 +184,12 @@ fn put_word(stream: &mut Vec<u8>, word: &str) -> Result<(), Fail> {
 pub(crate) fn stream_of(alloc: Global, text: &str) -> Result<Vec<u8>, Fail> {
     let mut stream = Vec::new(alloc);
     for word in text.split_whitespace() {
-        if word == "a" {
-            for word in "m 4,1 4,2 8,5 8,2 8,1000 8,3 8,4 8,2000".split_whitespace() {
-                put_word(&mut stream, word)?;
-            }
-        } else {
+        let words = match word {
+            "a" => "m 4,2 4,1 4,2 8,5 8,2 8,1000 8,3 8,4 8,2000",
+            "b" => "m 4,2 4,0 4,2 8,5 8,2 8,1000 8,3 8,4 8,2000",
+            _ => word,
+        };
+        for word in words.split_whitespace() {
             put_word(&mut stream, word)?;
         }
     }

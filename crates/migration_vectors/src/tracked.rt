@@ -2,7 +2,7 @@
 ghost use Rattle.test_regions.specs.Markers.{IsHarvesterOf, IsMarkerOf};
 
 use crate::guests::{Host, bytes_of, hear_ready, put, take_until};
-use live_migration::{Receiver, SendError, Sender, Stage};
+use live_migration::{Options, Receiver, SendError, Sender, Stage};
 use std::alloc::Global;
 use std::num::NonZeroUsize;
 use std::sync::Arc;
@@ -124,7 +124,7 @@ fn is_moved(
     let size = NonZeroUsize::new(0x10).ok_or("a page has no bytes")?;
     let mut stream = Vec::new(alloc);
     let places = [(BlockId(0), GuestAddress(0x1000), size)];
-    let mut sender = Sender::begin_tracked(alloc, &host, &places, &mut stream)?;
+    let mut sender = Sender::begin_tracked(alloc, &host, &places, Options::default(), &mut stream)?;
     hear_ready(&mut sender)?;
     let mut sending = Sending { sender, stream };
     let is_right = are_right(

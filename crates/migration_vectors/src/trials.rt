@@ -66,9 +66,10 @@ fn shuffled(alloc: Global, state: &mut u64) -> Result<Vec<u8>, Fail> {
 }
 
 // The outcomes, by name.
-const OUTCOMES: [&str; 16] = [
+const OUTCOMES: [&str; 17] = [
     "Magic",
     "Version",
+    "Options",
     "BlockCount",
     "BlockLength",
     "PageSize",
@@ -98,7 +99,7 @@ fn counted(
     alloc: Global,
     trials: usize,
     state: &mut u64,
-    counts: &mut [usize; 16],
+    counts: &mut [usize; 17],
 ) -> Result<(), Fail> {
     let whole = stream_of(alloc, FRAMES.join(alloc, " ")?.as_str())?;
     for trial in 0..trials {
@@ -128,7 +129,7 @@ fn counted(
 
 // A tenth of the trials. Each outcome comes.
 fn tried(rt: &(impl Print + Abort), alloc: Global, seed: u64) -> Result<(), Fail> {
-    let mut counts = [0; 16];
+    let mut counts = [0; 17];
     let mut state = seed;
     counted(alloc, 10_000, &mut state, &mut counts)?;
     for (name, count) in OUTCOMES.iter().zip(&counts) {

@@ -4,7 +4,7 @@ ghost use Rattle.vm_memory_guest.specs.Host.{block_at};
 
 use crate::guests::{Host, bytes_of, guest_of, put};
 use live_migration::laws::receivers_have_what_was_sent;
-use live_migration::{Receiver, Reply, Sender};
+use live_migration::{Options, Receiver, Reply, Sender};
 use std::alloc::Global;
 use std::test::Fail;
 use vm_memory_base::{ExactBitmap, GuestAddress, NewBitmap};
@@ -22,7 +22,9 @@ fn moved<B: ExactBitmap, C: NewBitmap + Drop>(
 {
     receivers_have_what_was_sent::<B, C>();
     let mut stream = Vec::new(alloc);
-    let mut sender = Sender::begin(alloc, host, &[(block, GuestAddress(0))], &mut stream)?;
+    let options = Options { digests: true };
+    let places = [(block, GuestAddress(0))];
+    let mut sender = Sender::begin(alloc, host, &places, options, &mut stream)?;
     sender.ready(&mut Reply::Ready.encode().as_slice())?;
     sender.harvest(alloc, host)?;
     sender.copy_batch(host)?;

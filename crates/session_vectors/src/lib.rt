@@ -1,4 +1,4 @@
-//! Tests of sessions: the answer to each kind of call, by numbers.
+//! Tests of sessions: a call, and that one may go to another thread.
 #![tactic(auto)]
 
 #[cfg(test)]

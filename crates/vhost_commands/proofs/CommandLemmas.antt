@@ -1,5 +1,5 @@
 -- What messages make of a table, as a run of a machine's commands.
-use Rattle.std.proofs.Common.{◌≡◌, Bool, true, false, eqb, ℕ, List, [], ◌∷◌, ◌++◌, Option, Some, refl, sym, ap, subst, ◌∙◌, inl, inr}
+use Rattle.std.proofs.Common.{◌≡◌, Bool, true, false, eqb, ℕ, List, [], ◌∷◌, ◌++◌, Option, Some, Result, refl, sym, ap, subst, ◌∙◌, inl, inr}
 use Rattle.std.proofs.lemmas.Bool.{cond-true, eq-eqb}
 use Rattle.vm_memory_base.specs.Pages.{PageSet}
 use Rattle.vm_memory_base.specs.Table as table
@@ -12,7 +12,8 @@ use Rattle.vm_memory.specs.State.{State}
 use Rattle.vm_memory.specs.Tables.{changed_table, changes}
 use Rattle.vm_memory.specs.declared.machine.command.Reply.{Reply}
 use Rattle.vm_memory.specs.declared.machine.command.Reply.TheVariants as reply
-use Rattle.vhost_iotlb.specs.Changes.{Changes, Handles}
+use Rattle.vhost_iotlb.specs.Changes.{Applies, Changes, Handles}
+use Rattle.vhost_iotlb.specs.declared.table.Refusal.{Refusal}
 use Rattle.vhost_message.specs.declared.iotlb.IotlbMessage.{IotlbMessage}
 use Rattle.vhost_message.specs.declared.regions.MemoryRegion.{MemoryRegion}
 use Rattle.vhost_iotlb.proofs.CallLemmas.{IsCall, MadeOf, made_of}
@@ -47,27 +48,17 @@ RunsBy number s calls old new =
     Run (record s { host = old }) (commands_of number calls) (all_done calls) (record s { host = new })
 
 module _ (number : ℕ) (regions : List MemoryRegion) (s : State) where
-  pub run_of : (ms : List IotlbMessage) (calls : List TableEvent) (old new : Host PageSet)
-      → Handles number regions ms calls old new → RunsBy number s calls old new
-  run_of [] calls old new h =
-      subst (λ (cs : List TableEvent). RunsBy number s cs old new) (sym h.0)
-      (ap (λ (host : Host PageSet). record s { host = host }) h.1)
-  run_of (m ∷ ms) calls old new h =
-      let later : RunsBy number s h.2 h.3 new = run_of ms h.2 h.3 new h.6 in
-      subst (λ (cs : List TableEvent). RunsBy number s cs old new) (sym h.5)
-      (first h.1 h.2 h.3 (made_of number regions m h.0 h.1 old h.3 h.4) later)
-    where
-      first : (made rest : List TableEvent) (mid : Host PageSet) → MadeOf number regions m made old mid
-          → RunsBy number s rest mid new → RunsBy number s (made ++ rest) old new
-      first made rest mid by later = elim by [
-        | inl none ↦ (subst (λ (cs : List TableEvent). RunsBy number s (cs ++ rest) old new) (sym none.0)
-            (subst (λ (host : Host PageSet). RunsBy number s rest host new) none.1 later))
-        | inr one ↦ (subst (λ (cs : List TableEvent). RunsBy number s (cs ++ rest) old new) (sym one.made) (
-          record s { host = mid },
-          step number one.call s old mid one.is_call one.changes,
-          later,
-        ))
-      ]
+  pub run_of : (m : IotlbMessage) (answer : Result (Unit {0}) Refusal) (calls : List TableEvent)
+      (old new : Host PageSet) → Applies number regions m answer calls old new → RunsBy number s calls old new
+  run_of m answer calls old new h = elim (made_of number regions m answer calls old new h) [
+    | inl none ↦ subst (λ (cs : List TableEvent). RunsBy number s cs old new) (sym none.0)
+        (ap (λ (host : Host PageSet). record s { host = host }) none.1)
+    | inr one ↦ (subst (λ (cs : List TableEvent). RunsBy number s cs old new) (sym one.made) (
+      record s { host = new },
+      step number one.call s old new one.is_call one.changes,
+      refl,
+    ))
+  ]
 
 -- ---- the calls of the table that the commands make
 
@@ -93,12 +84,12 @@ module _ (number : ℕ) (regions : List MemoryRegion) where
   calls_are [] calls old new h =
       subst (λ (cs : List TableEvent). calls_again number cs ≡ cs) (sym h.0) refl
   calls_are (m ∷ ms) calls old new h =
-      subst (λ (cs : List TableEvent). calls_again number cs ≡ cs) (sym h.5)
-      (first h.1 h.2 h.3 (made_of number regions m h.0 h.1 old h.3 h.4) (calls_are ms h.2 h.3 new h.6))
+      subst (λ (cs : List TableEvent). calls_again number cs ≡ cs) (sym h.7)
+      (first h.1 h.2 h.3 h.4 (made_of number regions m h.0 h.1 h.3 h.4 h.6) (calls_are ms h.2 h.4 new h.8))
     where
-      first : (made rest : List TableEvent) (mid : Host PageSet) → MadeOf number regions m made old mid
+      first : (made rest : List TableEvent) (before after : Host PageSet) → MadeOf number regions m made before after
           → calls_again number rest ≡ rest → calls_again number (made ++ rest) ≡ made ++ rest
-      first made rest mid by later = elim by [
+      first made rest before after by later = elim by [
         | inl none ↦
             subst (λ (cs : List TableEvent). calls_again number (cs ++ rest) ≡ cs ++ rest) (sym none.0) later
         | inr one ↦ (subst (λ (cs : List TableEvent). calls_again number (cs ++ rest) ≡ cs ++ rest) (sym one.made)

@@ -1,9 +1,9 @@
 -- What messages make of a table, as calls of it.
-use Rattle.std.proofs.Common.{◌≡◌, ◌⊎◌, Bool, true, false, cond, eqb, ltb, ℕ, ◌+◌, ◌-◌, ◌^◌, ◌<◌, ◌≤◌, min, List, [], ◌∷◌, ◌++◌, Option, Some, None, Result, Ok, Err, refl, sym, ap, subst, ◌∙◌, inl, inr, arith}
+use Rattle.std.proofs.Common.{◌≡◌, ◌⊎◌, Bool, true, false, cond, eqb, ltb, ℕ, ◌+◌, ◌-◌, ◌^◌, ◌<◌, ◌≤◌, min, List, [], ◌∷◌, ◌++◌, Option, Some, None, Result, Ok, Err, refl, sym, ap, subst, ◌∙◌, inl, inr, arith, slice_get}
 use Rattle.std.proofs.Math.Nat.{min-le_right}
 use Rattle.std.proofs.lemmas.Bool.{le-ltb, ltb-false}
 use Rattle.vm_memory_base.specs.Table as table
-use Rattle.vm_memory_base.specs.Table.{Table, TableEvent, overruns}
+use Rattle.vm_memory_base.specs.Table.{Table, TableEvent, changed, changed_by, overruns}
 use Rattle.vm_memory_base.specs.declared.address.GuestAddress.{GuestAddress}
 use Rattle.vm_memory_base.specs.declared.iotlb.Permissions.{Permissions}
 use Rattle.vm_memory_guest.specs.Host.{Host}
@@ -15,7 +15,7 @@ use Rattle.vhost_message.specs.declared.iotlb.IotlbMessage.TheVariants.{Miss, Up
 use Rattle.vhost_iotlb.specs.declared.table.Refusal.{Refusal}
 use Rattle.vhost_iotlb.specs.declared.table.Refusal.TheVariants as refusal
 use Rattle.vhost_message.specs.declared.regions.MemoryRegion.{MemoryRegion}
-use Rattle.vm_memory_device.proofs.TableLemmas.{AreLeftBy, changed_own, one_after_the_other, same}
+use Rattle.vm_memory_device.proofs.TableLemmas.{AreLeftBy, changed_own, same}
 
 -- a call that a message can lead to
 abbrev pub IsCall : TableEvent → Type 0
@@ -179,6 +179,10 @@ module _ {B : Type 0} (number : ℕ) (regions : List MemoryRegion) where
 
 -- ---- the table that they leave
 
+changed_by-append : (xs ys : List TableEvent) (t : Table) → changed_by (xs ++ ys) t ≡ changed_by ys (changed_by xs t)
+changed_by-append [] ys t = refl
+changed_by-append (call ∷ xs) ys t = changed_by-append xs ys (changed call t)
+
 module _ {B : Type 0} (number : ℕ) (regions : List MemoryRegion) where
   one_leaves : (m : IotlbMessage) (made : List TableEvent) (old new : Host B)
       → MadeOf number regions m made old new → AreLeftBy number made old.tables new.tables
@@ -190,16 +194,16 @@ module _ {B : Type 0} (number : ℕ) (regions : List MemoryRegion) where
         (changed_own number one.call one.changes.before old.tables one.changes.there)))
   ]
 
-  pub tables_are_left : (ms : List IotlbMessage) (calls : List TableEvent) (old new : Host B)
-      → Handles number regions ms calls old new → AreLeftBy number calls old.tables new.tables
-  tables_are_left [] calls old new h =
-      subst (λ (cs : List TableEvent). AreLeftBy number cs old.tables new.tables) (sym h.0)
-      (same number old.tables new.tables (ap (λ (host : Host B). host.tables) h.1))
-  tables_are_left (m ∷ ms) calls old new h =
-      subst (λ (cs : List TableEvent). AreLeftBy number cs old.tables new.tables) (sym h.5)
-      (one_after_the_other number h.1 h.2 old.tables h.3.tables new.tables
-      (one_leaves m h.1 old h.3 (made_of number regions m h.0 h.1 old h.3 h.4))
-      (tables_are_left ms h.2 h.3 new h.6))
+  pub table_is_left : (ms : List IotlbMessage) (calls : List TableEvent) (old new : Host B) (t : Table)
+      → Handles number regions ms calls old new → slice_get old.tables number ≡ Some t
+      → slice_get new.tables number ≡ Some (changed_by calls t)
+  table_is_left [] calls old new t h there =
+      subst (λ (cs : List TableEvent). slice_get new.tables number ≡ Some (changed_by cs t)) (sym h.0) (h.1 ∙ there)
+  table_is_left (m ∷ ms) calls old new t h there =
+      let one = one_leaves m h.1 h.3 h.4 (made_of number regions m h.0 h.1 h.3 h.4 h.6) in
+      let left = table_is_left ms h.2 h.4 new (changed_by h.1 t) h.8 (one.left t (h.5 ∙ there)) in
+      subst (λ (cs : List TableEvent). slice_get new.tables number ≡ Some (changed_by cs t)) (sym h.7)
+      (left ∙ ap (λ (u : Table). Some u) (sym (changed_by-append h.1 h.2 t)))
 
 -- ---- which messages set what
 
@@ -214,17 +218,17 @@ module _ {B : Type 0} (number : ℕ) (regions : List MemoryRegion) where
   updates_are [] calls old new iova to len perm h among =
       absurd (subst (λ (cs : List TableEvent). IsAmong (table.Set iova to len perm) cs) h.0 among)
   updates_are (m ∷ ms) calls old new iova to len perm h among =
-      first h.1 h.2 h.3 (made_of number regions m h.0 h.1 old h.3 h.4)
-      (λ there. updates_are ms h.2 h.3 new iova to len perm h.6 there)
-      (subst (λ (cs : List TableEvent). IsAmong (table.Set iova to len perm) cs) h.5 among)
+      first h.1 h.2 h.3 h.4 (made_of number regions m h.0 h.1 h.3 h.4 h.6)
+      (λ there. updates_are ms h.2 h.4 new iova to len perm h.8 there)
+      (subst (λ (cs : List TableEvent). IsAmong (table.Set iova to len perm) cs) h.7 among)
     where
       more : Updated regions ms iova to len perm → Updated regions (m ∷ ms) iova to len perm
       more u = (u.0, inr u.1, u.2)
 
-      first : (made rest : List TableEvent) (mid : Host B) → MadeOf number regions m made old mid
+      first : (made rest : List TableEvent) (before after : Host B) → MadeOf number regions m made before after
           → (IsAmong (table.Set iova to len perm) rest → Updated regions ms iova to len perm)
           → IsAmong (table.Set iova to len perm) (made ++ rest) → Updated regions (m ∷ ms) iova to len perm
-      first made rest mid by later among = elim by [
+      first made rest before after by later among = elim by [
         | inl none ↦ more (later
             (subst (λ (cs : List TableEvent). IsAmong (table.Set iova to len perm) (cs ++ rest)) none.0 among))
         | inr one ↦ elim (subst (λ (cs : List TableEvent). IsAmong (table.Set iova to len perm) (cs ++ rest)) one.made

@@ -6,7 +6,6 @@ use Rattle.std.proofs.lemmas.List.Elements.{All-head, All-tail}
 use Rattle.std.proofs.lemmas.Option.{slice_get_within}
 use Rattle.std.specs.List.{All}
 use Rattle.vm_memory_base.specs.Address.{is_within}
-use Rattle.vm_memory_base.specs.Pages.{PageSet}
 use Rattle.vm_memory_base.specs.Runs.{AddressRun}
 use Rattle.vm_memory_base.specs.Table as table
 use Rattle.vm_memory_base.specs.Table.{Mapping, Table, TableEvent, canonical_list, changed, eviction, events, events_of, evicted, says, says_after, says_after_all}
@@ -82,17 +81,17 @@ module _ (number : ℕ) (regions : List MemoryRegion) (x : ℕ) where
   spares m table.InvalidateAll is off set = refl
   spares m (table.Evict iova len) is off set = absurd is
 
-  later_spare : (ms : List IotlbMessage) (calls : List TableEvent) (old new : Host PageSet)
+  later_spare : {B : Type 0} (ms : List IotlbMessage) (calls : List TableEvent) (old new : Host B)
       → Handles number regions ms calls old new → All (λ m. updates x m ≡ false) ms → Spare x calls
-  later_spare [] calls old new h off = subst (λ (cs : List TableEvent). Spare x cs) (sym h.0) tt
-  later_spare (m ∷ ms) calls old new h off =
-      let later = later_spare ms h.2 h.3 new h.6 (All-tail (λ (n : IotlbMessage). updates x n ≡ false) m ms off) in
-      subst (λ (cs : List TableEvent). Spare x cs) (sym h.5)
-      (first h.1 h.2 h.3 (made_of number regions m h.0 h.1 old h.3 h.4) later)
+  later_spare {B} [] calls old new h off = subst (λ (cs : List TableEvent). Spare x cs) (sym h.0) tt
+  later_spare {B} (m ∷ ms) calls old new h off =
+      let later = later_spare ms h.2 h.4 new h.8 (All-tail (λ (n : IotlbMessage). updates x n ≡ false) m ms off) in
+      subst (λ (cs : List TableEvent). Spare x cs) (sym h.7)
+      (first h.1 h.2 h.3 h.4 (made_of number regions m h.0 h.1 h.3 h.4 h.6) later)
     where
-      first : (made rest : List TableEvent) (mid : Host PageSet) → MadeOf number regions m made old mid
+      first : (made rest : List TableEvent) (before after : Host B) → MadeOf number regions m made before after
           → Spare x rest → Spare x (made ++ rest)
-      first made rest mid by later = elim by [
+      first made rest before after by later = elim by [
         | inl none ↦ subst (λ (cs : List TableEvent). Spare x (cs ++ rest)) (sym none.0) later
         | inr one ↦ (subst (λ (cs : List TableEvent). Spare x (cs ++ rest)) (sym one.made) (
           spares m one.call one.is_call (All-head (λ (n : IotlbMessage). updates x n ≡ false) m ms off)
@@ -140,7 +139,7 @@ module _ (number : ℕ) (regions : List MemoryRegion) (x : ℕ) where
   no_user iova (Ok len) is = absurd cc
   no_user iova (Err e) is = absurd cc
 
-  taken : (iova size : ℕ) (answer : Result (Unit {0}) Refusal) (calls : List TableEvent) (old new : Host PageSet)
+  taken : {B : Type 0} (iova size : ℕ) (answer : Result (Unit {0}) Refusal) (calls : List TableEvent) (old new : Host B)
       (t : Table) → Applies number regions (Invalidate iova size) answer calls old new
       → slice_get old.tables number ≡ Some t → x < 2 ^ 64 - 1 → unmaps iova size x ≡ true → Unmap calls
   taken iova size (Ok done) calls old new t by there fits is =
@@ -165,7 +164,7 @@ module _ (number : ℕ) (regions : List MemoryRegion) (x : ℕ) where
       ∙ after_calls rest (changed call t) x spare
   unmapped (call ∷ other ∷ calls) rest t said none one spare = absurd (omega arith)
 
-  at_most_one : (m : IotlbMessage) (made : List TableEvent) (old new : Host PageSet)
+  at_most_one : {B : Type 0} (m : IotlbMessage) (made : List TableEvent) (old new : Host B)
       → MadeOf number regions m made old new → length made ≤ 1
   at_most_one m made old new by = elim by [
     | inl none ↦ subst (λ (cs : List TableEvent). length cs ≤ 1) (sym none.0) (omega arith)
@@ -173,38 +172,38 @@ module _ (number : ℕ) (regions : List MemoryRegion) (x : ℕ) where
   ]
 
   -- an INVALIDATE and what comes after it
-  pub none_after : (iova size : ℕ) (later : List IotlbMessage) (calls : List TableEvent) (old new : Host PageSet)
+  pub none_after : {B : Type 0} (iova size : ℕ) (later : List IotlbMessage) (calls : List TableEvent) (old new : Host B)
       (t : Table) → Handles number regions (Invalidate iova size ∷ later) calls old new
       → slice_get old.tables number ≡ Some t → x < 2 ^ 64 - 1 → unmaps iova size x ≡ true
       → All (λ m. updates x m ≡ false) later → (said : Option Mapping)
       → says_after_all (events_of calls t) x said ≡ None
   none_after iova size later calls old new t h there fits is off said =
-      subst (λ (cs : List TableEvent). says_after_all (events_of cs t) x said ≡ None) (sym h.5)
-      (unmapped h.1 h.2 t said (taken iova size h.0 h.1 old h.3 t h.4 there fits is)
-      (at_most_one (Invalidate iova size) h.1 old h.3
-      (made_of number regions (Invalidate iova size) h.0 h.1 old h.3 h.4))
-      (later_spare later h.2 h.3 new h.6 off))
+      subst (λ (cs : List TableEvent). says_after_all (events_of cs t) x said ≡ None) (sym h.7)
+      (unmapped h.1 h.2 t said (taken iova size h.0 h.1 h.3 h.4 t h.6 (h.5 ∙ there) fits is)
+      (at_most_one (Invalidate iova size) h.1 h.3 h.4
+      (made_of number regions (Invalidate iova size) h.0 h.1 h.3 h.4 h.6))
+      (later_spare later h.2 h.4 new h.8 off))
 
 -- ---- messages in two parts
 
-pub record Parts (number : ℕ) (regions : List MemoryRegion) (ms ns : List IotlbMessage) (old new : Host PageSet) : Type 0
-  where
-    pub mid : Host PageSet
-    pub first : List TableEvent
-    pub rest : List TableEvent
-    pub before : Handles number regions ms first old mid
-    pub after : Handles number regions ns rest mid new
+pub record Parts {B : Type 0} (number : ℕ) (regions : List MemoryRegion) (ms ns : List IotlbMessage)
+    (old new : Host B) : Type 0 where
+  pub mid : Host B
+  pub first : List TableEvent
+  pub rest : List TableEvent
+  pub before : Handles number regions ms first old mid
+  pub after : Handles number regions ns rest mid new
 
-pub parts : (number : ℕ) (regions : List MemoryRegion) (ms ns : List IotlbMessage) (calls : List TableEvent)
-    (old new : Host PageSet) → Handles number regions (ms ++ ns) calls old new → Parts number regions ms ns old new
+pub parts : {B : Type 0} (number : ℕ) (regions : List MemoryRegion) (ms ns : List IotlbMessage) (calls : List TableEvent)
+    (old new : Host B) → Handles number regions (ms ++ ns) calls old new → Parts number regions ms ns old new
 parts number regions [] ns calls old new h =
     record { mid = old; first = []; rest = calls; before = (refl, refl); after = h }
 parts number regions (m ∷ ms) ns calls old new h =
-    let p = parts number regions ms ns h.2 h.3 new h.6 in
+    let p = parts number regions ms ns h.2 h.4 new h.8 in
     record {
       mid = p.mid;
       first = h.1 ++ p.first;
       rest = p.rest;
-      before = (h.0, h.1, p.first, h.3, h.4, refl, p.before);
+      before = (h.0, h.1, p.first, h.3, h.4, h.5, h.6, refl, p.before);
       after = p.after;
     }

@@ -3,3 +3,5 @@ pub mod CallLemmas
 pub mod HandlingLemmas
 pub mod InvalidationLemmas
 pub mod TableLemmas
+pub mod MissLemmas
+pub mod ReplyLemmas

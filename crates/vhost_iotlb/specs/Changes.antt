@@ -10,6 +10,7 @@ use Rattle.vhost_message.specs.declared.refusal.Malformed.{Malformed}
 use Rattle.vhost_message.specs.declared.refusal.Malformed.TheVariants as malformed
 use Rattle.vhost_message.specs.declared.iotlb.IotlbMessage.{IotlbMessage}
 use Rattle.vhost_message.specs.declared.iotlb.IotlbMessage.TheVariants.{Miss, Update, Invalidate, AccessFail}
+use Rattle.vhost_iotlb.specs.declared.table.DeviceTable.{DeviceTable}
 use Rattle.vhost_iotlb.specs.declared.table.Refusal.{Refusal}
 use Rattle.vhost_iotlb.specs.declared.table.Refusal.TheVariants as refusal
 use Rattle.vhost_message.specs.declared.regions.MemoryRegion.{MemoryRegion}
@@ -92,14 +93,24 @@ Applies number regions m (Err refusal.Memory) calls old new =
 Applies number regions m (Err refusal.NoTable) calls old new =
     (length old.tables ≤ number) × MakesNothing calls old new
 
--- messages came one after the other: these calls are what they made of the table
+-- the same for the table and the memory of a device, whatever the calls
+abbrev pub AppliesTo : {B : Type 0} → DeviceTable → IotlbMessage → Result (Unit {0}) Refusal → Host B → Host B → Type 0
+AppliesTo device m answer old new =
+    (calls : List TableEvent) × Applies device.table.0 device.memory m answer calls old new
+
+-- all of a host may have changed but the table of this number
+abbrev pub KeepsTable : {B : Type 0} → ℕ → Host B → Host B → Type 0
+KeepsTable number old new = slice_get new.tables number ≡ slice_get old.tables number
+
+-- messages came one after the other, and before, between and after them nothing else changed the table: these calls are
+-- what they made of it
 abbrev pub Handles : {B : Type 0} → ℕ → List MemoryRegion → List IotlbMessage → List TableEvent → Host B → Host B
     → Type 0
-Handles number regions [] calls old new = (calls ≡ []) × (new ≡ old)
+Handles number regions [] calls old new = (calls ≡ []) × KeepsTable number old new
 Handles {B} number regions (m ∷ ms) calls old new =
-    (answer : Result (Unit {0}) Refusal) × (first later : List TableEvent) × (mid : Host B)
-    × Applies number regions m answer first old mid × (calls ≡ first ++ later)
-    × Handles number regions ms later mid new
+    (answer : Result (Unit {0}) Refusal) × (first later : List TableEvent) × (before after : Host B)
+    × KeepsTable number old before × Applies number regions m answer first before after × (calls ≡ first ++ later)
+    × Handles number regions ms later after new
 
 -- one of a list
 abbrev pub IsAmong : {X : Type 0} → X → List X → Type 0

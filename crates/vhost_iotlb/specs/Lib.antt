@@ -1,4 +1,6 @@
 pub mod Changes
 pub mod Handling
 pub mod Invalidation
+pub mod Misses
 pub mod Reaches
+pub mod Replies

@@ -2,6 +2,7 @@
 ghost use Rattle.std.specs.Prelude.{◌≡◌, ◌≤◌, length, map, vec_len};
 ghost use Rattle.vm_memory_base.specs.Lookup.{range_in};
 ghost use Rattle.vm_memory_base.specs.Table.{says};
+ghost use Rattle.vm_memory_guest.specs.Host.{shape_of};
 ghost use Rattle.vhost_iotlb.specs.Reaches.{Reaches, first_of, front_of, stopped_at};
 
 use crate::request::{Outcome, Request};
@@ -100,7 +101,11 @@ impl<'a, M: GuestMemory> ReadBytes<'a, M> {
         table: TlbId,
         address: GuestAddress,
         bytes: Vec<u8>,
-    ) -> ReadBytes<'a, M> {
+    ) -> ReadBytes<'a, M>
+        ensures memory { result.memory ≡ memory.entry }
+        ensures place { (result.table ≡ table) × (result.address ≡ address) }
+        ensures bytes { (result.bytes ≡ bytes) × (result.done ≡ 0) }
+    {
         ReadBytes {
             memory,
             table,
@@ -111,13 +116,17 @@ impl<'a, M: GuestMemory> ReadBytes<'a, M> {
     }
 
     /// The bytes. Those that were read stand in front.
-    pub fn into_bytes(self) -> Vec<u8> {
+    pub fn into_bytes(self) -> Vec<u8>
+        ensures { result ≡ self.entry.bytes }
+    {
         self.bytes
     }
 }
 
 impl<M: GuestMemory> Request for ReadBytes<'_, M> {
     ghost is_done = { λ r. r.done ≡ vec_len r.bytes };
+
+    ghost tries = { λ marks r outcome s old new. new ≡ old };
 
     fn attempt<B: Bitmap>(&mut self, host: &mut HostMemory<B>) -> Outcome {
         if !host.holds(self.memory) || !host.shape().has_table(self.table) {
@@ -172,7 +181,11 @@ impl<'a, M: GuestMemory> WriteBytes<'a, M> {
         table: TlbId,
         address: GuestAddress,
         bytes: &'a [u8],
-    ) -> WriteBytes<'a, M> {
+    ) -> WriteBytes<'a, M>
+        ensures memory { result.memory ≡ memory.entry }
+        ensures place { (result.table ≡ table) × (result.address ≡ address) }
+        ensures bytes { (result.bytes ≡ bytes.entry) × (result.done ≡ 0) }
+    {
         WriteBytes {
             memory,
             table,
@@ -185,6 +198,8 @@ impl<'a, M: GuestMemory> WriteBytes<'a, M> {
 
 impl<M: GuestMemory> Request for WriteBytes<'_, M> {
     ghost is_done = { λ r. r.done ≡ length r.bytes.now };
+
+    ghost tries = { λ marks r outcome s old new. shape_of new ≡ shape_of old };
 
     fn attempt<B: Bitmap>(&mut self, host: &mut HostMemory<B>) -> Outcome {
         if !host.holds(self.memory) || !host.shape().has_table(self.table) {

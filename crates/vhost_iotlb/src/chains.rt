@@ -1,5 +1,6 @@
 //! Chains of descriptors whose bytes are read and written in tries.
-ghost use Rattle.std.specs.Prelude.{◌≡◌, ◌<◌, ◌≤◌, length, vec_len};
+ghost use Rattle.std.specs.Prelude.{◌≡◌, ◌<◌, ◌≤◌, drop, length, min, vec_len};
+ghost use Rattle.vm_memory_device.specs.Chain.{readable, text, writable};
 ghost use Rattle.vm_memory_guest.specs.Host.{shape_of, Holds};
 
 use crate::access::reach;
@@ -114,7 +115,11 @@ pub struct ReadChain<'a, M> {
 
 impl<'a, M: GuestMemory> ReadChain<'a, M> {
     /// A read into these bytes, which fills them all, through the table of this number.
-    pub fn new(memory: &'a M, table: TlbId, chain: &'a Chain, bytes: Vec<u8>) -> ReadChain<'a, M> {
+    pub fn new(memory: &'a M, table: TlbId, chain: &'a Chain, bytes: Vec<u8>) -> ReadChain<'a, M>
+        ensures place { (result.memory ≡ memory.entry) × (result.table ≡ table) }
+        ensures text { result.reader ≡ text (readable chain.entry.now) }
+        ensures bytes { (result.bytes ≡ bytes) × (result.done ≡ 0) }
+    {
         ReadChain {
             memory,
             table,
@@ -125,13 +130,17 @@ impl<'a, M: GuestMemory> ReadChain<'a, M> {
     }
 
     /// The bytes. Those that were read stand in front.
-    pub fn into_bytes(self) -> Vec<u8> {
+    pub fn into_bytes(self) -> Vec<u8>
+        ensures { result ≡ self.entry.bytes }
+    {
         self.bytes
     }
 }
 
 impl<M: GuestMemory> Request for ReadChain<'_, M> {
     ghost is_done = { λ r. r.done ≡ vec_len r.bytes };
+
+    ghost tries = { λ marks r outcome s old new. new ≡ old };
 
     fn attempt<B: Bitmap>(&mut self, host: &mut HostMemory<B>) -> Outcome {
         for _ in 0..usize::MAX {
@@ -173,7 +182,12 @@ impl<'a, M: GuestMemory> WriteChain<'a, M> {
         chain: &'a Chain,
         skipped: usize,
         bytes: &'a [u8],
-    ) -> WriteChain<'a, M> {
+    ) -> WriteChain<'a, M>
+        ensures place { (result.memory ≡ memory.entry) × (result.table ≡ table) }
+        ensures text { let room = text (writable chain.entry.now) in
+            result.writer ≡ drop (min skipped (length room)) room }
+        ensures bytes { (result.bytes ≡ bytes.entry) × (result.done ≡ 0) }
+    {
         let mut writer = chain.writer();
         writer.skip(skipped);
         WriteChain {
@@ -188,6 +202,8 @@ impl<'a, M: GuestMemory> WriteChain<'a, M> {
 
 impl<M: GuestMemory> Request for WriteChain<'_, M> {
     ghost is_done = { λ r. r.done ≡ length r.bytes.now };
+
+    ghost tries = { λ marks r outcome s old new. shape_of new ≡ shape_of old };
 
     fn attempt<B: Bitmap>(&mut self, host: &mut HostMemory<B>) -> Outcome {
         for _ in 0..usize::MAX {

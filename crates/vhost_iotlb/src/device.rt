@@ -1,7 +1,12 @@
 //! The I/O table of a device, as its front end fills it.
-ghost use Rattle.std.specs.Prelude.{◌≡◌, ◌≤◌, [], length, None, OnOk, IfOk, IfErr, IfSome, MatchResult};
-ghost use Rattle.std.specs.Io.KnownBytes.{Appends};
-ghost use Rattle.vhost_iotlb.specs.Handling.{Handles, HasHeader, IsApplied, Serves, answer_of, answer_to, asked, on_table, reply_bytes};
+ghost use Rattle.std.specs.Prelude.{◌≡◌, ◌≤◌, [], ◌==◌, false, if◌then◌else◌, length, None, Some, Ok, Err, Result, IfOk, IfErr, IfSome};
+ghost use Rattle.vhost_message.specs.Channel.{Sends};
+ghost use Rattle.vhost_iotlb.specs.Handling.{Answers, Handles, HasHeader, IsApplied, Serves, answer_of, asked, on_table, reply_bytes};
+ghost use Rattle.vhost_iotlb.specs.Misses.{AfterHandled, Asks, AsksOnce, CatchesUp, Hears, IsWhole, Tells, TriesOn, TriesOnce, Waits, WaitsFor, WaitsOn, after_reply, after_telling, after_waiting, is_nothing, waited_of};
+ghost use Rattle.vhost_message.specs.BackendReq.{backend_request};
+ghost use Rattle.vhost_message.specs.declared.backend_req.BackendReq.TheVariants.{IotlbMsg};
+ghost use Rattle.vhost_message.specs.declared.channel.ChannelError.{ChannelError};
+ghost use Rattle.vhost_message.specs.declared.iotlb.IotlbMessage.TheVariants.{AccessFail};
 ghost use Rattle.vhost_iotlb.specs.declared.device.Handled.{Handled};
 
 use crate::host::SharedHost;
@@ -16,6 +21,7 @@ use vhost_message::{
     MemoryRegions, Message, Receive, Refusal as MessageRefusal, VERSION, VHOST_USER_IOTLB_MSG,
     VHOST_USER_REPLY,
 };
+use vm_memory_base::Permissions;
 
 // How many replies to messages of its own may wait to be read: a mapping often comes before the reply to its MISS, and
 // replies that no one reads would fill the channel.
@@ -88,9 +94,18 @@ pub struct DeviceIotlb<F, O> {
 impl<F, O> Model for DeviceIotlb<F, O> {
     ghost use Rattle.vhost_iotlb.specs.Handling.{Device};
 
-    ghost Value = { Device F };
+    ghost Value = { Device F O };
 
-    ghost view = { λ d. record { table = d.table; front = d.front; coming = d.coming } };
+    ghost view = { λ d. record {
+      table = d.table;
+      front = d.front;
+      coming = d.coming;
+      own = d.own;
+      replies = d.replies;
+      awaited = d.awaited;
+      asked = d.asked;
+      limits = d.limits;
+    } };
 }
 
 // The reply to a request: 0 if it was done.
@@ -124,7 +139,7 @@ fn answer_of(header: &Header, handled: &Handled) -> Message
 
 // Applies a message to a table of a host.
 fn applied<H: SharedHost>(table: &DeviceTable, host: &mut H, message: &IotlbMessage) -> Handled
-    ensures applied { IsApplied H.applies table.now message.now host.old result host.new }
+    ensures applied { IsApplied H.lends table.now message.now host.old result host.new }
     ensures header { HasHeader result }
 {
     match host.apply(table, message) {
@@ -168,7 +183,7 @@ fn asked(message: &Message) -> Option<Result<IotlbMessage, MessageRefusal>>
 // What comes of a message.
 fn settle<H: SharedHost>(table: &DeviceTable, host: &mut H, message: Message) -> Handled
     requires { 12 ≤ length message }
-    ensures served { Serves H.applies table.now message host.old result host.new }
+    ensures served { Serves H.lends table.now message host.old result host.new }
     ensures header { HasHeader result }
 {
     let Some(request) = asked(&message) else {
@@ -189,11 +204,7 @@ fn serve<F: Write, H: SharedHost>(
     message: Message,
 ) -> Result<Handled, ChannelError>
     requires { 12 ≤ length message }
-    ensures settled { MatchResult result
-        (λ handled. Serves H.applies table.now message host.old handled host.new)
-        (λ e. (handled : Handled) × Serves H.applies table.now message host.old handled host.new) }
-    ensures answered { IfOk result (λ handled. Appends (F.contents front.old) (F.contents front.new)
-        (answer_to message handled)) }
+    ensures answers { Answers F.contents H.lends table.now message front.old host.old result front.new host.new }
     ensures header { IfOk result HasHeader }
 {
     let header = message.header();
@@ -202,10 +213,88 @@ fn serve<F: Write, H: SharedHost>(
     Ok(handled)
 }
 
+// What a look comes to for a request that waits.
+enum Waited {
+    // The front end mapped something.
+    Mapped,
+    // A message of another request came.
+    Came(Message),
+    // Neither.
+    Nothing,
+}
+
+fn waited_of(handled: Handled) -> Waited
+    requires { HasHeader handled }
+    ensures waited { result ≡ waited_of handled }
+    ensures header { IsWhole result }
+{
+    match handled {
+        Handled::Applied(IotlbMessage::Update { .. }) => Waited::Mapped,
+        Handled::Other(message) => Waited::Came(message),
+        Handled::Nothing | Handled::Applied(_) | Handled::Refused(_) | Handled::Malformed(_) => {
+            Waited::Nothing
+        }
+    }
+}
+
+// The value of a reply that came while so many were awaited, if that was the last one.
+fn last_value(awaited: u64, value: u64) -> Option<u64>
+    ensures { result ≡ (if awaited == 1 then Some value else None) }
+{
+    if awaited == 1 { Some(value) } else { None }
+}
+
+// Whether no message came.
+fn is_nothing(handled: &Handled) -> bool
+    ensures { result ≡ is_nothing handled.now }
+{
+    matches!(handled, Handled::Nothing)
+}
+
+// What a look comes to that found no message, by the reply to the MISS.
+fn after_reply(reply: Result<Option<u64>, ChannelError>) -> Result<Handled, MissError>
+    ensures answer { result ≡ after_reply reply }
+    ensures header { IfOk result HasHeader }
+{
+    match reply {
+        Ok(None) => Ok(Handled::Nothing),
+        Ok(Some(value)) => {
+            if value == 0 {
+                Ok(Handled::Nothing)
+            } else {
+                Err(MissError::Refused(value))
+            }
+        }
+        Err(error) => Err(MissError::Channel(error)),
+    }
+}
+
+// How many looks are left after a mapping came, or how the request ends.
+fn after_waiting(
+    waited: Result<Result<u32, Message>, MissError>,
+) -> Result<u32, Result<Option<Message>, MissError>>
+    ensures { result ≡ after_waiting waited }
+{
+    match waited {
+        Ok(Ok(left)) => Ok(left),
+        Ok(Err(message)) => Err(Ok(Some(message))),
+        Err(error) => Err(Err(error)),
+    }
+}
+
 impl<F: Receive + Write, O: Receive + Write> DeviceIotlb<F, O> {
     /// A table of a host, the front end's channel, and the back end's own.
     pub fn new(table: DeviceTable, front: F, own: O, limits: Limits) -> DeviceIotlb<F, O>
-        ensures { result ≡ record { table = table; front = front; coming = [] } }
+        ensures { result ≡ record {
+          table = table;
+          front = front;
+          coming = [];
+          own = own;
+          replies = [];
+          awaited = 0;
+          asked = None;
+          limits = limits;
+        } }
     {
         DeviceIotlb {
             table,
@@ -237,6 +326,7 @@ impl<F: Receive + Write, O: Receive + Write> DeviceIotlb<F, O> {
     pub fn into_parts(self) -> (DeviceTable, F, O)
         ensures table { result.0 ≡ self.table }
         ensures front { result.1 ≡ self.front }
+        ensures own { result.2 ≡ self.own }
     {
         (self.table, self.front, self.own)
     }
@@ -256,7 +346,7 @@ impl<F: Receive + Write, O: Receive + Write> DeviceIotlb<F, O> {
     ///
     /// If the reply cannot be sent, the message was applied or refused all the same.
     pub fn handle<H: SharedHost>(&mut self, host: &mut H) -> Result<Handled, ChannelError>
-        ensures handles { Handles F.gives F.contents H.applies self.old host.old result self.new host.new }
+        ensures handles { Handles F.gives F.contents H.lends self.old host.old result self.new host.new }
         ensures header { IfOk result HasHeader }
     {
         match self.coming.look(&mut self.front)? {
@@ -268,14 +358,14 @@ impl<F: Receive + Write, O: Receive + Write> DeviceIotlb<F, O> {
     /// Sends the reply to a message of another request, whatever its payload: none if it has no bytes.
     pub fn reply(&mut self, reply: &Message) -> Result<(), ChannelError>
         ensures others { self.new ≡ record self.old { front = self.new.front } }
-        ensures sent { OnOk result (Appends (F.contents self.old.front) (F.contents self.new.front) reply.now) }
+        ensures sent { Sends F.contents reply.now self.old.front result self.new.front }
     {
         reply.send(&mut self.front)
     }
 
     /// Sends a message on the back end's own channel, to which no reply comes.
     pub fn tell(&mut self, message: &Message) -> Result<(), ChannelError>
-        ensures { self.new ≡ self.old }
+        ensures { Tells O.contents message.now self.old result self.new }
     {
         message.send(&mut self.own)
     }
@@ -283,24 +373,24 @@ impl<F: Receive + Write, O: Receive + Write> DeviceIotlb<F, O> {
     // Looks at the back end's own channel, and returns the value of the reply to the last message that was sent there,
     // if it came.
     fn look_back(&mut self) -> Result<Option<u64>, ChannelError>
-        ensures { self.new ≡ self.old }
+        ensures hears { Hears O.gives O.contents self.old result self.new }
+        ensures table { self.new.table ≡ self.old.table }
     {
         let Some(reply) = self.replies.look(&mut self.own)? else {
             return Ok(None);
         };
-        let Some(left) = self.awaited.checked_sub(1) else {
+        let awaited = self.awaited;
+        if awaited == 0 {
             return Err(ChannelError::Refused(MessageRefusal::Direction));
-        };
-        self.awaited = left;
-        if left > 0 {
-            return Ok(None);
         }
-        Ok(Some(reply.value))
+        self.awaited = awaited - 1;
+        Ok(last_value(awaited, reply.value))
     }
 
     // Looks for a reply to an earlier message, if many are awaited.
     fn catch_up(&mut self) -> Result<(), ChannelError>
-        ensures { self.new ≡ self.old }
+        ensures caught_up { CatchesUp O.gives O.contents self.old result self.new }
+        ensures table { self.new.table ≡ self.old.table }
     {
         if self.awaited > MOST_AWAITED {
             self.look_back()?;
@@ -308,24 +398,37 @@ impl<F: Receive + Write, O: Receive + Write> DeviceIotlb<F, O> {
         Ok(())
     }
 
-    // Looks once at both channels while a mapping is missed. It returns what came on the front end's.
-    fn wait<H: SharedHost>(&mut self, host: &mut H) -> Result<Handled, MissError>
+    // After a look at the front end's channel: if nothing came there, it looks at the back end's own.
+    fn after_look(&mut self, handled: Handled) -> Result<Handled, MissError>
+        requires { HasHeader handled }
+        ensures looks { AfterHandled O.gives O.contents handled self.old result self.new }
         ensures table { self.new.table ≡ self.old.table }
         ensures header { IfOk result HasHeader }
     {
-        let handled = self.handle(host).map_err(MissError::Channel)?;
-        let Handled::Nothing = handled else {
-            return Ok(handled);
-        };
-        match self.look_back().map_err(MissError::Channel)? {
-            Some(0) | None => Ok(Handled::Nothing),
-            Some(value) => Err(MissError::Refused(value)),
+        if is_nothing(&handled) {
+            after_reply(self.look_back())
+        } else {
+            Ok(handled)
+        }
+    }
+
+    // Looks once at both channels while a mapping is missed. It returns what came on the front end's.
+    fn wait<H: SharedHost>(&mut self, host: &mut H) -> Result<Handled, MissError>
+        ensures waits { Waits F.gives F.contents O.gives O.contents H.lends (self.old, host.old) result
+            (self.new, host.new) }
+        ensures table { self.new.table ≡ self.old.table }
+        ensures header { IfOk result HasHeader }
+    {
+        match self.handle(host) {
+            Ok(handled) => self.after_look(handled),
+            Err(error) => Err(MissError::Channel(error)),
         }
     }
 
     // Asks for the mapping of an address.
     fn ask(&mut self, message: IotlbMessage) -> Result<(), ChannelError>
-        ensures { self.new ≡ self.old }
+        ensures asks { Asks O.gives O.contents message self.old result self.new }
+        ensures table { self.new.table ≡ self.old.table }
     {
         // One more than comes, so that no backlog stays.
         self.catch_up()?;
@@ -336,31 +439,100 @@ impl<F: Receive + Write, O: Receive + Write> DeviceIotlb<F, O> {
             .send(&mut self.own)
     }
 
-    // Asks for the mapping of an address, unless a request waits for it already, and waits until the front end maps
-    // something, for so many looks at most. It returns how many are left, or another message that comes first.
-    fn wait_for<H: SharedHost>(
+    // Asks for the mapping of an address, unless a request waits for it already.
+    fn ask_once(&mut self, message: IotlbMessage) -> Result<(), ChannelError>
+        ensures asks { AsksOnce O.gives O.contents message self.old result self.new }
+        ensures table { self.new.table ≡ self.old.table }
+    {
+        if let Some(asked) = self.asked.take() {
+            if asked == message {
+                return Ok(());
+            }
+        }
+        self.ask(message)
+    }
+
+    // Looks until the front end maps something, for so many looks at most. It returns how many are left, or another
+    // message that comes first.
+    fn wait_on<H: SharedHost>(
         &mut self,
         host: &mut H,
-        message: IotlbMessage,
+        miss: IotlbMessage,
         looks: u32,
     ) -> Result<Result<u32, Message>, MissError>
+        ensures waits { WaitsOn F.gives F.contents O.gives O.contents H.lends miss looks (self.old, host.old) result
+            (self.new, host.new) }
         ensures table { self.new.table ≡ self.old.table }
         ensures header { IfOk result (λ r. IfErr r (λ other. 12 ≤ length other)) }
     {
-        if self.asked.take() != Some(message) {
-            self.ask(message).map_err(MissError::Channel)?;
-        }
         for left in (0..looks).rev() {
-            match self.wait(host)? {
-                Handled::Applied(IotlbMessage::Update { .. }) => return Ok(Ok(left)),
-                Handled::Other(other) => {
-                    self.asked = Some(message);
-                    return Ok(Err(other));
+            match waited_of(self.wait(host)?) {
+                Waited::Mapped => return Ok(Ok(left)),
+                Waited::Came(message) => {
+                    self.asked = Some(miss);
+                    return Ok(Err(message));
                 }
-                _ => {}
+                Waited::Nothing => {}
             }
         }
         Err(MissError::Deadline)
+    }
+
+    // Asks for the mapping of an address, unless a request waits for it already, and waits until the front end maps
+    // something.
+    fn wait_for<H: SharedHost>(
+        &mut self,
+        host: &mut H,
+        miss: IotlbMessage,
+        looks: u32,
+    ) -> Result<Result<u32, Message>, MissError>
+        ensures waits { WaitsFor F.gives F.contents O.gives O.contents H.lends miss looks (self.old, host.old) result
+            (self.new, host.new) }
+        ensures table { self.new.table ≡ self.old.table }
+        ensures header { IfOk result (λ r. IfErr r (λ other. 12 ≤ length other)) }
+    {
+        match self.ask_once(miss) {
+            Ok(()) => self.wait_on(host, miss, looks),
+            Err(error) => Err(MissError::Channel(error)),
+        }
+    }
+
+    // Tells the front end that a mapping forbids an access.
+    fn forbidden(&mut self, iova: u64, access: Permissions) -> MissError
+        ensures told { (sent : Result (Unit {0}) ChannelError)
+            × Tells O.contents (backend_request (IotlbMsg (AccessFail iova access)) false) self.old sent self.new
+            × (result ≡ after_telling sent) }
+        ensures table { self.new.table ≡ self.old.table }
+    {
+        let message = BackendReq::IotlbMsg(IotlbMessage::AccessFail { iova, access }).encode(false);
+        match self.tell(&message) {
+            Ok(()) => MissError::Forbidden,
+            Err(error) => MissError::Channel(error),
+        }
+    }
+
+    // Tries a request once, and waits for what it misses. It returns how many looks are left for the next try, or how the
+    // request ends.
+    fn try_once<H: SharedHost, R: Request>(
+        &mut self,
+        host: &mut H,
+        request: &mut R,
+        looks: u32,
+    ) -> Result<u32, Result<Option<Message>, MissError>>
+        ensures tries { TriesOnce F.gives F.contents O.gives O.contents H.lends (R.tries H.B.marks) looks
+            (self.old, host.old, request.old) result (self.new, host.new, request.new) }
+        ensures done { result ≡ Err (Ok None) → R.is_done request.new }
+        ensures table { self.new.table ≡ self.old.table }
+        ensures header { IfErr result (λ end. IfOk end (λ other. IfSome other (λ message. 12 ≤ length message))) }
+    {
+        match host.attempt(request) {
+            Outcome::Done => Err(Ok(None)),
+            Outcome::Missed { iova, access } => {
+                after_waiting(self.wait_for(host, IotlbMessage::Miss { iova, access }, looks))
+            }
+            Outcome::Forbidden { iova, access } => Err(Err(self.forbidden(iova, access))),
+            Outcome::Failed => Err(Err(MissError::Failed)),
+        }
     }
 
     /// Tries a request until it is done. If it misses an address, a MISS asks the front end for it, and the request is
@@ -378,29 +550,17 @@ impl<F: Receive + Write, O: Receive + Write> DeviceIotlb<F, O> {
         host: &mut H,
         request: &mut R,
     ) -> Result<Option<Message>, MissError>
+        ensures tries { TriesOn F.gives F.contents O.gives O.contents H.lends (R.tries H.B.marks) self.old.limits.tries
+            self.old.limits.looks (self.old, host.old, request.old) result (self.new, host.new, request.new) }
         ensures done { IfOk result (λ other. other ≡ None → R.is_done request.new) }
         ensures table { self.new.table ≡ self.old.table }
         ensures header { IfOk result (λ other. IfSome other (λ message. 12 ≤ length message)) }
     {
         let mut looks = self.limits.looks;
-        for _ in 0..self.limits.tries {
-            match host.attempt(request) {
-                Outcome::Done => return Ok(None),
-                Outcome::Missed { iova, access } => {
-                    let miss = IotlbMessage::Miss { iova, access };
-                    match self.wait_for(host, miss, looks)? {
-                        Ok(left) => looks = left,
-                        Err(message) => return Ok(Some(message)),
-                    }
-                }
-                Outcome::Forbidden { iova, access } => {
-                    BackendReq::IotlbMsg(IotlbMessage::AccessFail { iova, access })
-                        .encode(false)
-                        .send(&mut self.own)
-                        .map_err(MissError::Channel)?;
-                    return Err(MissError::Forbidden);
-                }
-                Outcome::Failed => return Err(MissError::Failed),
+        for _more in (0..self.limits.tries).rev() {
+            match self.try_once(host, request, looks) {
+                Ok(left) => looks = left,
+                Err(end) => return end,
             }
         }
         Err(MissError::Tries)

@@ -3,36 +3,31 @@ use Rattle.std.proofs.Common.{◌≡◌, ◌∙◌, ◌∷◌, Bool, true, false
 use Rattle.std.proofs.lemmas.List.{drop-drop, drop_at, length-take-le, take_at}
 use Rattle.std.proofs.lemmas.Bool.{cases_lt}
 use Rattle.vm_memory_base.specs.Table.{Table}
-use Rattle.vm_memory_base.specs.declared.iotlb.Permissions.TheVariants.{Read}
+use Rattle.vm_memory_base.specs.declared.iotlb.Permissions.{Permissions}
+use Rattle.vm_memory_base.specs.declared.iotlb.Permissions.TheVariants.{Read, Write}
 use Rattle.vm_memory_guest.specs.Host.{Host, shape_of}
 use Rattle.vm_memory_guest.specs.Memory.{Memory}
 use Rattle.vm_memory_device.specs.Chain.{Entry}
 use Rattle.virtio_blk.specs.Disk.{Call, LieAt, Moves, after_write, joined, reads, writes}
-use Rattle.virtio_blk.specs.Served.{Loads, SameDisk, Stores, piece}
-use Rattle.virtio_blk.specs.Texts.{Accessed, StopsAt, StopsWithin, WritesAt, reached, text_bytes}
+use Rattle.virtio_blk.specs.Served.{AreCut, Loads, SameDisk, Stores, piece, piece_end}
+use Rattle.virtio_blk.specs.Texts.{Accessed, Stops, StopsAt, StopsWithin, WritesAt, reached, text_bytes}
 use Rattle.virtio_blk.proofs.DiskFacts.{Has, after_write-append, after_write-none, lie-append, lie-none}
 use Rattle.virtio_blk.proofs.TextFacts.{accessed-append, accessed_none, length-reached, length-text_bytes, reached-drop, text_bytes-add, writes-append, writes_none}
 
 -- ---- stops
 
 -- a text stops where what is left of it does
-pub stops-drop : (m : Memory) (tables : List Table) (es : List Entry) (n k : ℕ) → n ≤ length (reached m tables es)
-    → StopsAt m tables (drop n es) k → StopsAt m tables es (n + k)
-stops-drop m tables es n k within h = record {
-  more = omega (arith, h.more, length-drop n es);
-  stops = elim h.stops [
-    | inl on ↦ inl on
-    | inr is ↦ inr (
-        let rest = ap length (reached-drop m tables n es within) in
-        omega (arith, rest, is, length-drop n (reached m tables es)))
-  ];
-}
-
-pub stops_within-drop : (m : Memory) (tables : List Table) (es : List Entry) (n count most : ℕ)
-    → n ≤ length (reached m tables es) → count ≤ most → StopsWithin m tables (drop n es) 0 count
-    → StopsWithin m tables es n most
-stops_within-drop m tables es n count most within fits (k, low, high, stops) =
-    (n + k, omega arith, omega arith, stops-drop m tables es n k within stops)
+pub stops-drop : (m : Memory) (tables : List Table) (access : Permissions) (es : List Entry) (n count all k : ℕ)
+    (wanted : Bool) → n + count ≡ all → StopsAt m tables access (drop n es) count wanted k
+    → StopsAt m tables access es all wanted (n + k)
+stops-drop m tables access es n count all k wanted is (short, stops) =
+    let left : count - k ≡ all - (n + k) = omega arith in
+    let same : drop k (drop n es) ≡ drop (n + k) es =
+    drop-drop k n es in (
+      omega arith,
+      subst (λ j. Stops m tables access (drop (n + k) es) j wanted) left
+          (subst (λ (ls : List Entry). Stops m tables access ls (count - k) wanted) same stops),
+    )
 
 -- a disk that tells its bytes tells those of its sectors
 pub has_sectors : (all : Option (List ℕ)) (size n : ℕ) → ((bytes : List ℕ) → all ≡ Some bytes → length bytes ≡ size)
@@ -87,6 +82,7 @@ module _ {B D : Type 0} (bytes : D → Option (List ℕ)) (sectors : D → ℕ) 
     pub ends : (moved % piece ≡ 0) ⊎ (moved ≡ length es)
     pub pieces : List (List ℕ)
     pub taken : Moves calls writes sector pieces old now
+    pub cut : AreCut (length es) pieces
     pub are : joined pieces ≡ text_bytes m host es moved
     pub disk : bytes now ≡ after_write (512 * sector) (text_bytes m host es moved) (bytes old)
     pub size : sectors now ≡ sectors old
@@ -101,6 +97,7 @@ module _ {B D : Type 0} (bytes : D → Option (List ℕ)) (sectors : D → ℕ) 
     ends = inl refl;
     pieces = [];
     taken = refl;
+    cut = tt;
     are = refl;
     disk = sym (after_write-none (512 * sector) (bytes old));
     size = refl;
@@ -109,12 +106,13 @@ module _ {B D : Type 0} (bytes : D → Option (List ℕ)) (sectors : D → ℕ) 
 
   -- a piece more
   pub stored_more : (moved n : ℕ) (now next : D) (left after : List Entry) → StoredSoFar moved now left
-      → Has (bytes old) (512 * sector + moved) → n % 512 ≡ 0 → (moved + n) % piece ≡ 0 ⊎ (moved + n ≡ length es)
-      → n ≤ length (reached m host.tables left) → Accessed m host.tables Read left n → after ≡ drop n left
+      → Has (bytes old) (512 * sector + moved) → n % 512 ≡ 0 → n ≡ min (length es - moved) piece → moved < length es
+      → (moved + n) % piece ≡ 0 ⊎ (moved + n ≡ length es) → n ≤ length (reached m host.tables left)
+      → Accessed m host.tables Read left n → after ≡ drop n left
       → bytes next ≡ after_write (512 * sector + moved) (text_bytes m host left n) (bytes now)
       → calls now (writes (sector + moved / 512) (text_bytes m host left n)) true next → sectors next ≡ sectors now
       → StoredSoFar (moved + n) next after
-  stored_more moved n now next left after h has whole ends within access place disk took size =
+  stored_more moved n now next left after h has whole is short ends within access place disk took size =
       let at = 512 * sector in
       let r = reached m host.tables es in
       let rest : length (reached m host.tables left) ≡ length r - moved =
@@ -135,6 +133,13 @@ module _ {B D : Type 0} (bytes : D → Option (List ℕ)) (sectors : D → ℕ) 
           subst (λ k. calls now (writes (sector + k / 512) (text_bytes m host left n)) true next)
               (sym (ap length h.are ∙ count)) took,
         );
+        cut = (
+          h.cut,
+          omega (arith, short, ap length h.are, count),
+          length-text_bytes m host left n within
+              ∙ (let e : n ≡ min piece (length es - length (joined h.pieces)) =
+              omega (arith, is, ap length h.are, count) in e),
+        );
         are = ap (λ bs. bs ++ text_bytes m host left n) h.are
             ∙ ap (λ (ls : List Entry). text_bytes m host es moved ++ text_bytes m host ls n) h.place
             ∙ sym (text_bytes-add m host es moved n h.within);
@@ -153,31 +158,34 @@ module _ {B D : Type 0} (bytes : D → Option (List ℕ)) (sectors : D → ℕ) 
 
   -- all came
   pub stored_all : (len moved : ℕ) (now : D) (left : List Entry) → len ≡ length es → StoredSoFar moved now left
-      → len ≤ moved → Stores bytes sectors calls m host es sector len old 0 now
+      → len ≤ moved → Stores bytes sectors calls m host es sector len old 0 false now
   stored_all len moved now left all h done = record {
     moved = moved;
     pieces = h.pieces;
     last = now;
     taken = h.taken;
+    cut = subst (λ k. AreCut k h.pieces) (sym all) h.cut;
     are = h.are;
     within = h.within;
     access = h.access;
     disk = h.disk;
     size = h.size;
-    ended = inl (refl, omega (arith, h.most), refl);
+    ended = inl (refl, refl, omega (arith, h.most), refl);
   }
 
   -- a piece did not
-  pub stored_stop : (len moved n : ℕ) (now next : D) (left : List Entry) → len ≡ length es → StoredSoFar moved now left
+  pub stored_stop : (len moved n : ℕ) (wanted : Bool) (now next : D) (left : List Entry) → len ≡ length es
+      → StoredSoFar moved now left
       → moved < len → n ≡ min (len - moved) piece → bytes next ≡ bytes now → sectors next ≡ sectors now
-      → calls now (writes (sector + moved / 512) (text_bytes m host left n)) false next
-      ⊎ ((next ≡ now) × StopsWithin m host.tables left 0 n)
-      → Stores bytes sectors calls m host es sector len old 1 next
-  stored_stop len moved n now next left all h short is disk size why = record {
+      → ((wanted ≡ false) × calls now (writes (sector + moved / 512) (text_bytes m host left n)) false next)
+      ⊎ ((next ≡ now) × StopsWithin m host.tables Read left n wanted)
+      → Stores bytes sectors calls m host es sector len old 1 wanted next
+  stored_stop len moved n wanted now next left all h short is disk size why = record {
     moved = moved;
     pieces = h.pieces;
     last = now;
     taken = h.taken;
+    cut = subst (λ k. AreCut k h.pieces) (sym all) h.cut;
     are = h.are;
     within = h.within;
     access = h.access;
@@ -190,25 +198,25 @@ module _ {B D : Type 0} (bytes : D → Option (List ℕ)) (sectors : D → ℕ) 
       whole (inl e) = e
       whole (inr e) = absurd (omega (arith, e, short, all))
 
-      fits : n ≤ piece
-      fits = omega (arith, is)
-
       count : n ≡ min piece (len - moved)
       count = omega (arith, is)
 
-      reason : calls now (writes (sector + moved / 512) (text_bytes m host left n)) false next
-          ⊎ ((next ≡ now) × StopsWithin m host.tables left 0 n)
-          → calls now
-          (writes (sector + moved / 512) (text_bytes m host (drop moved es) (min piece (len - moved)))) false next
-          ⊎ ((next ≡ now) × StopsWithin m host.tables es moved piece)
-      reason (inl f) = inl (subst
-          (λ k. calls now (writes (sector + moved / 512) (text_bytes m host (drop moved es) k)) false next) count
-          (subst (λ (ls : List Entry). calls now (writes (sector + moved / 512) (text_bytes m host ls n)) false next)
-          h.place f))
+      reason : ((wanted ≡ false) × calls now (writes (sector + moved / 512) (text_bytes m host left n)) false next)
+          ⊎ ((next ≡ now) × StopsWithin m host.tables Read left n wanted)
+          → ((wanted ≡ false) × calls now
+          (writes (sector + moved / 512) (text_bytes m host (drop moved es) (min piece (len - moved)))) false next)
+          ⊎ ((next ≡ now) × StopsWithin m host.tables Read (drop moved es) (min piece (len - moved)) wanted)
+      reason (inl (none, f)) = inl (
+        none,
+        subst
+            (λ k. calls now (writes (sector + moved / 512) (text_bytes m host (drop moved es) k)) false next) count
+            (subst (λ (ls : List Entry). calls now (writes (sector + moved / 512) (text_bytes m host ls n)) false next)
+            h.place f),
+      )
       reason (inr (same, s)) = inr (
         same,
-        stops_within-drop m host.tables es moved n piece h.within fits
-            (subst (λ (ls : List Entry). StopsWithin m host.tables ls 0 n) h.place s),
+        subst (λ k. StopsWithin m host.tables Read (drop moved es) k wanted) count
+            (subst (λ (ls : List Entry). StopsWithin m host.tables Read ls n wanted) h.place s),
       )
 
 -- all that came is a front of it
@@ -228,6 +236,19 @@ front_of sent got n whole are fits =
     ∙ ap (λ k. take k (sent ++ got)) (sym size)
     ∙ ap (λ xs. take (length (sent ++ take n got)) (xs ++ got)) (sym are)
 
+-- where a piece ends that was begun behind whole ones
+last_piece : (len moved n size : ℕ) → size ≡ min (len - moved) 65536 → n < size → moved % 65536 ≡ 0
+    → moved + size ≡ piece_end len (moved + n)
+last_piece len moved n size is short whole =
+    let begun : (moved + n) / 65536 * 65536 ≡ moved = omega (arith, is, short, whole) in
+    let same : piece_end len (moved + n) ≡ min (moved + 65536) len = ap (λ k. min (k + 65536) len) begun in
+    (let e : moved + size ≡ min (moved + 65536) len = omega (arith, is, short) in e) ∙ sym same
+
+whole_before : (len moved n size : ℕ) → len + 1 ≡ size → moved + n < len
+    → (moved % piece ≡ 0) ⊎ (moved + 1 ≡ size) → moved % piece ≡ 0
+whole_before len moved n size all short (inl e) = e
+whole_before len moved n size all short (inr e) = absurd (omega (arith, e, short, all))
+
 -- ---- from a disk to a text
 
 module _ {B D : Type 0} (marks : B → ℕ → ℕ → B → Type 0) (bytes : D → Option (List ℕ)) (sectors : D → ℕ)
@@ -241,6 +262,7 @@ module _ {B D : Type 0} (marks : B → ℕ → ℕ → B → Type 0) (bytes : D 
     pub ends : (moved % piece ≡ 0) ⊎ (moved + 1 ≡ length es)
     pub pieces : List (List ℕ)
     pub given : Moves calls reads sector pieces old now
+    pub cut : AreCut (length es - 1) pieces
     pub are : joined pieces ≡ sent
     pub lie : LieAt (512 * sector) sent (bytes old)
     pub disk : SameDisk bytes sectors old now
@@ -258,6 +280,7 @@ module _ {B D : Type 0} (marks : B → ℕ → ℕ → B → Type 0) (bytes : D 
     ends = inl refl;
     pieces = [];
     given = refl;
+    cut = tt;
     are = refl;
     lie = lie-none (512 * sector) (bytes old);
     disk = (refl, refl);
@@ -300,10 +323,11 @@ module _ {B D : Type 0} (marks : B → ℕ → ℕ → B → Type 0) (bytes : D 
 
   pub loaded_more : (moved n : ℕ) (bs : List ℕ) (now next : D) (after later : Host B) (left rest : List Entry)
       → LoadedSoFar moved now after left → LoadedPiece moved n bs now next after later left rest
-      → n % 512 ≡ 0 → moved + n < length es → ((moved + n) % piece ≡ 0) ⊎ (moved + n + 1 ≡ length es)
+      → n % 512 ≡ 0 → n ≡ min (length es - 1 - moved) piece → moved < length es - 1 → moved + n < length es
+      → ((moved + n) % piece ≡ 0) ⊎ (moved + n + 1 ≡ length es)
       → calls now (reads (sector + moved / 512) bs) true next
       → LoadedSoFar (moved + n) next later rest
-  loaded_more moved n bs now next after later left rest h p whole most ends gave =
+  loaded_more moved n bs now next after later left rest h p whole is short most ends gave =
       let both = loaded_both moved n bs now next after later left rest h p in record {
         sent = h.sent ++ bs;
         count = both.2;
@@ -316,6 +340,12 @@ module _ {B D : Type 0} (marks : B → ℕ → ℕ → B → Type 0) (bytes : D 
           h.given,
           subst (λ k. calls now (reads (sector + k / 512) bs) true next) (sym (ap length h.are ∙ h.count)) gave,
         );
+        cut = (
+          h.cut,
+          omega (arith, short, ap length h.are, h.count),
+          p.count ∙ (let e : n ≡ min piece (length es - 1 - length (joined h.pieces)) =
+              omega (arith, is, ap length h.are, h.count) in e),
+        );
         are = ap (λ xs. xs ++ bs) h.are;
         lie = both.0;
         disk = both.3;
@@ -326,12 +356,12 @@ module _ {B D : Type 0} (marks : B → ℕ → ℕ → B → Type 0) (bytes : D 
       }
 
   -- what is promised of all of it
-  abbrev pub Loaded : ℕ → ℕ → ℕ → D → Host B → Type 0
-  Loaded len status moved now after = (sent : List ℕ) × (length sent ≡ moved)
-      × Loads bytes sectors calls m host es sector len old status sent now × WritesAt marks m es sent host after
+  abbrev pub Loaded : ℕ → ℕ → ℕ → Bool → D → Host B → Type 0
+  Loaded len status moved wanted now after = (sent : List ℕ) × (length sent ≡ moved)
+      × Loads bytes sectors calls m host es sector len old status wanted sent now × WritesAt marks m es sent host after
 
   pub loaded_all : (len moved : ℕ) (now : D) (after : Host B) (left : List Entry) → len + 1 ≡ length es
-      → LoadedSoFar moved now after left → len ≤ moved → Loaded len 0 moved now after
+      → LoadedSoFar moved now after left → len ≤ moved → Loaded len 0 moved false now after
   loaded_all len moved now after left all h done = (
     h.sent,
     h.count,
@@ -339,21 +369,24 @@ module _ {B D : Type 0} (marks : B → ℕ → ℕ → B → Type 0) (bytes : D 
       pieces = h.pieces;
       last = now;
       given = h.given;
+      cut = subst (λ k. AreCut k h.pieces) (let e : length es - 1 ≡ len = omega arith in e) h.cut;
       front = all_of h.sent h.pieces h.are;
       lie = h.lie;
       disk = h.disk;
-      ended = inl (refl, omega (arith, h.count, h.most), refl);
+      ended = inl (refl, refl, omega (arith, h.count, h.most), refl);
     },
     h.written,
   )
 
   -- the part of a piece that the disk gave went to the text
-  pub loaded_part : (len moved n : ℕ) (got : List ℕ) (now next : D) (after later : Host B) (left rest : List Entry)
-      → len + 1 ≡ length es → (h : LoadedSoFar moved now after left) → n ≤ length got
+  pub loaded_part : (len moved n : ℕ) (wanted : Bool) (got : List ℕ) (now next : D) (after later : Host B)
+      (left rest : List Entry) → len + 1 ≡ length es → (h : LoadedSoFar moved now after left) → n < length got
+      → length got ≡ min (len - moved) piece
       → LoadedPiece moved n (take n got) now next after later left rest → moved + n < len
-      → calls now (reads (sector + moved / 512) got) true next → StopsAt m after.tables left n
-      → Loaded len 1 (moved + n) next later
-  loaded_part len moved n got now next after later left rest all h fits p short gave s =
+      → calls now (reads (sector + moved / 512) got) true next
+      → StopsAt m after.tables Write left (length got) wanted n
+      → Loaded len 1 (moved + n) wanted next later
+  loaded_part len moved n wanted got now next after later left rest all h fits size p short gave s =
       let bs = take n got in
       let both = loaded_both moved n bs now next after later left rest h p in (
         h.sent ++ bs,
@@ -366,7 +399,13 @@ module _ {B D : Type 0} (marks : B → ℕ → ℕ → B → Type 0) (bytes : D 
             h.given,
             subst (λ k. calls now (reads (sector + k / 512) got) true next) (sym (ap length h.are ∙ h.count)) gave,
           );
-          front = front_of h.sent got n (joined h.pieces) h.are fits;
+          cut = (
+            subst (λ k. AreCut k h.pieces) (let e : length es - 1 ≡ len = omega arith in e) h.cut,
+            omega (arith, short, ap length h.are, h.count),
+            size ∙ (let e : min (len - moved) piece ≡ min piece (len - length (joined h.pieces)) =
+                omega (arith, ap length h.are, h.count) in e),
+          );
+          front = front_of h.sent got n (joined h.pieces) h.are (omega (arith, fits));
           lie = both.0;
           disk = both.3;
           ended = inr (
@@ -374,23 +413,30 @@ module _ {B D : Type 0} (marks : B → ℕ → ℕ → B → Type 0) (bytes : D 
             omega (arith, both.2),
             inr (
               refl,
-              subst (λ k. StopsAt m host.tables es k) (sym both.2)
-                  (stops-drop m host.tables es moved n (omega (arith, h.written.within, h.count))
-                  (subst (λ (ts : List Table). StopsAt m ts (drop moved es) n) h.tables
-                  (subst (λ (ls : List Entry). StopsAt m after.tables ls n) h.place s))),
+              length-append (joined h.pieces) got
+                  ∙ (let e : length (joined h.pieces) + length got ≡ moved + length got =
+                  omega (arith, ap length h.are, h.count) in e)
+                  ∙ last ∙ ap (piece_end len) (sym both.2),
+              subst (λ k. StopsAt m host.tables Write es (piece_end len k) wanted k) (sym both.2)
+                  (stops-drop m host.tables Write es moved (length got) (piece_end len (moved + n)) n wanted last
+                  (subst (λ (ts : List Table). StopsAt m ts Write (drop moved es) (length got) wanted n) h.tables
+                  (subst (λ (ls : List Entry). StopsAt m after.tables Write ls (length got) wanted n) h.place s))),
             ),
           );
         },
         both.1,
       )
+    where
+      last : moved + length got ≡ piece_end len (moved + n)
+      last = last_piece len moved n (length got) size fits (whole_before len moved n (length es) all short h.ends)
 
   -- the disk gave nothing
   pub loaded_stop : (len moved : ℕ) (spoilt : List ℕ) (now next : D) (after later : Host B) (left rest : List Entry)
-      → len + 1 ≡ length es → (h : LoadedSoFar moved now after left)
+      → len + 1 ≡ length es → (h : LoadedSoFar moved now after left) → length spoilt ≡ min (len - moved) piece
       → LoadedPiece moved 0 [] now next after later left rest → moved < len
       → calls now (reads (sector + moved / 512) spoilt) false next
-      → Loaded len 1 moved next later
-  loaded_stop len moved spoilt now next after later left rest all h p short failed =
+      → Loaded len 1 moved false next later
+  loaded_stop len moved spoilt now next after later left rest all h size p short failed =
       let both = loaded_both moved 0 [] now next after later left rest h p in (
         h.sent,
         h.count,
@@ -398,6 +444,7 @@ module _ {B D : Type 0} (marks : B → ℕ → ℕ → B → Type 0) (bytes : D 
           pieces = h.pieces;
           last = now;
           given = h.given;
+          cut = subst (λ k. AreCut k h.pieces) (let e : length es - 1 ≡ len = omega arith in e) h.cut;
           front = all_of h.sent h.pieces h.are;
           lie = h.lie;
           disk = both.3;
@@ -405,40 +452,46 @@ module _ {B D : Type 0} (marks : B → ℕ → ℕ → B → Type 0) (bytes : D 
             refl,
             omega (arith, h.count, short),
             inl (
-              ap (λ k. k % piece) h.count ∙ whole h.ends,
-              (spoilt, subst (λ k. calls now (reads (sector + k / 512) spoilt) false next) (sym h.count) failed),
+              refl,
+              sym (ap length h.are),
+              (
+                spoilt,
+                size ∙ (let e : min (len - moved) piece ≡ min piece (len - length h.sent) = omega (arith, h.count) in e),
+                subst (λ k. calls now (reads (sector + k / 512) spoilt) false next) (sym h.count) failed,
+              ),
             ),
           );
         },
         subst (λ bs. WritesAt marks m es bs host later) (append-nil h.sent) both.1,
       )
-    where
-      whole : (moved % piece ≡ 0) ⊎ (moved + 1 ≡ length es) → moved % piece ≡ 0
-      whole (inl e) = e
-      whole (inr e) = absurd (omega (arith, e, short, all))
 
   -- less than a piece came
-  pub loaded_ends : (len moved done : ℕ) (got : List ℕ) (now next : D) (after later : Host B) (left rest : List Entry)
-      → len + 1 ≡ length es → (h : LoadedSoFar moved now after left) → done ≤ length got
-      → LoadedPiece moved done (take done got) now next after later left rest → moved + done < len → (n : ℕ)
-      → ((done ≡ 0) × calls now (reads (sector + moved / 512) got) false next)
-      ⊎ (calls now (reads (sector + moved / 512) got) true next × (done < n → StopsAt m after.tables left done))
-      → done < n → Loaded len 1 (moved + done) next later
-  loaded_ends len moved done got now next after later left rest all h fits p short n call few = go call
+  pub loaded_ends : (len moved done : ℕ) (wanted : Bool) (got : List ℕ) (now next : D) (after later : Host B)
+      (left rest : List Entry) → len + 1 ≡ length es → (h : LoadedSoFar moved now after left) → done < length got
+      → length got ≡ min (len - moved) piece
+      → LoadedPiece moved done (take done got) now next after later left rest → moved + done < len
+      → ((done ≡ 0) × (wanted ≡ false) × calls now (reads (sector + moved / 512) got) false next)
+      ⊎ (calls now (reads (sector + moved / 512) got) true next
+      × (done < length got → StopsAt m after.tables Write left (length got) wanted done))
+      → Loaded len 1 (moved + done) wanted next later
+  loaded_ends len moved done wanted got now next after later left rest all h few size p short call = go call
     where
-      go : ((done ≡ 0) × calls now (reads (sector + moved / 512) got) false next)
-          ⊎ (calls now (reads (sector + moved / 512) got) true next × (done < n → StopsAt m after.tables left done))
-          → Loaded len 1 (moved + done) next later
-      go (inl (none, failed)) =
+      go : ((done ≡ 0) × (wanted ≡ false) × calls now (reads (sector + moved / 512) got) false next)
+          ⊎ (calls now (reads (sector + moved / 512) got) true next
+          × (done < length got → StopsAt m after.tables Write left (length got) wanted done))
+          → Loaded len 1 (moved + done) wanted next later
+      go (inl (none, unwanted, failed)) =
           let same : moved + done ≡ moved = omega (arith, none) in
-          subst (λ k. Loaded len 1 k next later) (sym same)
-          (loaded_stop len moved got now next after later left rest all h
+          subst (λ k. Loaded len 1 k wanted next later) (sym same)
+          (subst (λ b. Loaded len 1 moved b next later) (sym unwanted)
+          (loaded_stop len moved got now next after later left rest all h size
           (subst (λ k. LoadedPiece moved k (take k got) now next after later left rest) none p)
-          (omega (arith, short)) failed)
+          (omega (arith, short)) failed))
       go (inr (gave, stops)) =
-          loaded_part len moved done got now next after later left rest all h fits p short gave (stops few)
+          loaded_part len moved done wanted got now next after later left rest all h few size p short gave (stops few)
 
 -- a read of which something came was done
-pub gave_all : {Failed Done Stops : Type 0} {done : ℕ} → ((done ≡ 0) × Failed) ⊎ (Done × Stops) → 0 < done → Done
-gave_all (inl (none, failed)) some = absurd (omega (arith, none, some))
+pub gave_all : {Failed Why Done Stopped : Type 0} {done : ℕ} → ((done ≡ 0) × Why × Failed) ⊎ (Done × Stopped) → 0 < done
+    → Done
+gave_all (inl (none, why, failed)) some = absurd (omega (arith, none, some))
 gave_all (inr (gave, stops)) some = gave

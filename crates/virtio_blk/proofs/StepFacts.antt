@@ -21,11 +21,11 @@ use Rattle.vm_memory_device.specs.declared.chain.Segment.{Segment}
 use Rattle.virtio_blk.specs.Inside.{failed}
 use Rattle.virtio_blk.specs.Request.{request_of}
 use Rattle.virtio_blk.specs.Steps.{Begins, Finishes, Told, answer_of, gapless, header_fault, status_fault}
-use Rattle.virtio_blk.specs.Texts.{StopsAt, WritesAt, reached, text_bytes}
+use Rattle.virtio_blk.specs.Texts.{WritesAt, reached, text_bytes}
 use Rattle.virtio_blk.specs.declared.request.Request.{Request}
 use Rattle.virtio_blk.specs.declared.request.Request.TheVariants as requests
 use Rattle.virtio_blk.specs.declared.request.Terms.{Terms}
-use Rattle.virtio_blk.proofs.TextFacts.{EndsAt, Fronts, answered_count, extends-front, front_of, path_ends, stays_none, wrote_front}
+use Rattle.virtio_blk.proofs.TextFacts.{Cause, EndsAt, Fronts, answered_count, extends-front, front_of, path_ends, stays_none, wrote_front}
 
 -- ---- addresses that follow one another
 
@@ -43,7 +43,7 @@ follows-take zero e es h = tt
 follows-take (suc n) e [] h = tt
 follows-take (suc n) e (f ∷ es) h = h
 
-goes-take : (n : ℕ) (es : List Entry) → Goes es → Goes (take n es)
+pub goes-take : (n : ℕ) (es : List Entry) → Goes es → Goes (take n es)
 goes-take zero es h = tt
 goes-take (suc n) [] h = tt
 goes-take (suc n) (e ∷ es) h = (follows-take n e es h.0, goes-take n es h.1)
@@ -293,10 +293,9 @@ module _ {B : Type 0} (m : Memory) (host : Host B) (es : List Entry) where
       go (text_fault m.regions (route m host.tables) permissions.Read true (take 16 es)) a
     where
       go : (o : Option AccessFault)
-          → EndsAt m host.tables o (length header_path) (length (take 16 es)) (length (reached m host.tables (take 16 es)))
-          → length header_path ≤ 16
+          → EndsAt m host.tables o (length header_path) (length (take 16 es)) → length header_path ≤ 16
       go None h = omega (arith, h, length-take 16 es)
-      go (Some f) h = omega (arith, h.0, length-take 16 es)
+      go (Some f) h = omega (arith, h, length-take 16 es)
 
   -- what a call reaches that reads what is left of it
   header_reaching : (filled n : ℕ) (left : List Entry) (x : Extent) → Goes es → left ≡ drop filled es
@@ -430,11 +429,9 @@ module _ {B : Type 0} (m : Memory) (host : Host B) (es : List Entry) where
           (path_ends m host.tables permissions.Read true (take 16 es))
         where
           go : (o : Option AccessFault)
-              → EndsAt m host.tables o (length header_path) (length (take 16 es))
-              (length (reached m host.tables (take 16 es)))
-              → o ≡ None
+              → EndsAt m host.tables o (length header_path) (length (take 16 es)) → o ≡ None
           go None ends = refl
-          go (Some f) ends = absurd (omega (arith, all, ends.0, length-take 16 es))
+          go (Some f) ends = absurd (omega (arith, all, ends, length-take 16 es))
 
 -- ---- the status
 
@@ -477,7 +474,7 @@ module _ {B : Type 0} (marks : B → ℕ → ℕ → B → Type 0) (m : Memory) 
               (take_all 1 last_of (omega (arith, size))) moves.reached)
 
           none : (o : Option GuestMemoryError) (fault : Option AccessFault) → length x.path ≡ 1
-              → MatchOption o (length x.path ≡ 1) (λ e. (length x.path < 1) × StopsAt m old.tables last_of (length x.path))
+              → MatchOption o (length x.path ≡ 1) (Cause m old.tables permissions.Write last_of 1 x.path)
               → (o ≡ option_map error_of fault) ⊎ ((o ≡ Some errors.Memory) × IsOn m) → fault ≡ None
           none None None one ends why = refl
           none None (Some g) one ends (inl h) = absurd (cc)

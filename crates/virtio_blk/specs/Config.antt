@@ -1,17 +1,23 @@
 -- The device as its owner sees it, and the features that it offers.
-use Rattle.std.specs.Prelude.{ℕ, ◌+◌, ◌^◌, Bool, true, false, ◌==◌, ◌&&◌, not, nat_lt, List, bit_and}
+use Rattle.std.specs.Prelude.{ℕ, ◌+◌, ◌-◌, ◌^◌, min, if◌then◌else◌, Bool, true, false, ◌==◌, ◌&&◌, not, nat_lt, List, bit_and}
 use Rattle.virtio_blk.specs.declared.request.Terms.{Terms}
 
--- a device: its disk, whether it only reads that, its name of 20 bytes, and the features that were accepted
+-- a device: its disk, whether it only reads that, its name of 20 bytes, the features that were accepted, and how many
+-- chains it served with an access that there was no memory to translate
 pub record Device (D : Type 0) : Type 0 where
   pub disk : D
   pub read_only : Bool
   pub id : List ℕ
   pub acked : ℕ
+  pub starved : ℕ
 
 -- what its requests are held against
 abbrev pub terms_of : {D : Type 0} → (D → ℕ) → Device D → Terms
 terms_of sectors d = record { sectors = sectors d.disk; read_only = d.read_only; acked = d.acked }
+
+-- one chain more is counted if an allocation failed for it. The count stays at the greatest number of 64 bits
+abbrev pub counted : Bool → ℕ → ℕ
+counted wanted n = if wanted then min (n + 1) (2 ^ 64 - 1) else n
 
 -- VERSION_1, INDIRECT_DESC, EVENT_IDX and FLUSH, and RO if the device only reads
 abbrev pub offered : Bool → ℕ

@@ -1,5 +1,5 @@
 -- What the parts of a call say of one another. No public clause cites this module.
-use Rattle.std.specs.Prelude.{◌≡◌, ℕ, ◌+◌, ◌*◌, ◌%◌, ◌<◌, ◌≤◌, ◌^◌, Bool, List, length, Option, Result, Ok, Err}
+use Rattle.std.specs.Prelude.{◌≡◌, ℕ, ◌+◌, ◌*◌, ◌%◌, ◌<◌, ◌≤◌, ◌^◌, Bool, true, false, List, length, Option, Result, Ok, Err}
 use Rattle.vm_memory_guest.specs.Host.{Host}
 use Rattle.vm_memory_guest.specs.Memory as memory
 use Rattle.vm_memory_guest.specs.declared.region.error.GuestMemoryError.{GuestMemoryError}
@@ -19,6 +19,22 @@ failed (IommuError e) without = Err (IommuError e)
 failed Memory without = Err Memory
 failed e without = Ok without
 
+-- whether an error says that an allocation failed
+abbrev pub is_memory : GuestMemoryError → Bool
+is_memory Memory = true
+is_memory e = false
+
+-- what a chain asks for, and whether an allocation failed for that. If it cannot be found out, it is refused
+abbrev pub asked_of : Result Request GuestMemoryError → Request × Bool
+asked_of (Ok request) = (request, false)
+asked_of (Err e) = (Refused 1, is_memory e)
+
+-- the length of a chain that is served, and whether an allocation failed for the status. If that was not written, it is
+-- the number of bytes that were written before
+abbrev pub length_of : Result ℕ GuestMemoryError → ℕ → ℕ × Bool
+length_of (Ok n) moved = (n, false)
+length_of (Err e) moved = (moved, is_memory e)
+
 -- what has to hold to do a request, whose data lie at a text of N bytes, or go to another: they are whole
 -- sectors that the disk has, and these have bytes of 64 bits
 abbrev pub CanDo : ℕ → Request → ℕ → ℕ → Type 0
@@ -35,10 +51,10 @@ module _ {B D : Type 0} (marks : B → ℕ → ℕ → B → Type 0) (bytes : D 
     (calls : D → Call → Bool → D → Type 0) (m : memory.Memory) where
   -- a request was done: its data, N bytes, went to the front of a text, and of the device only the disk changed
   pub record Did (request : Request) (given room : List Entry) (old : Device D) (host : Host B) (status moved : ℕ)
-      (new : Device D) (after : Host B) : Type 0 where
+      (wanted : Bool) (new : Device D) (after : Host B) : Type 0 where
     pub sent : List ℕ
     pub disk : D
     pub count : length sent ≡ moved
-    pub does : Does bytes sectors calls m host request given room old status sent disk
+    pub does : Does bytes sectors calls m host request given room old status wanted sent disk
     pub written : WritesAt marks m room sent host after
     pub is : new ≡ record old { disk = disk }

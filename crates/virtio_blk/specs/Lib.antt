@@ -2,6 +2,7 @@ pub mod Config
 pub mod Disk
 pub mod Inside
 pub mod lemmas
+pub mod MemoryDisk
 pub mod Process
 pub mod Request
 pub mod Served

@@ -2,11 +2,11 @@
 use Rattle.std.specs.Prelude.{◌≡◌, ◌⊎◌, ℕ, zero, suc, ◌<◌, Bool, true, false, nat_lt, List, Option, Some, None, Result, Ok, Err, MatchResult}
 use Rattle.std.specs.Option.{option_or}
 use Rattle.vm_memory_guest.specs.Host.{Host}
-use Rattle.vm_memory_guest.specs.Memory.{Memory, IsOn}
+use Rattle.vm_memory_guest.specs.Memory.{Memory}
 use Rattle.vm_memory_device.specs.declared.chain.Segment.{Segment}
 use Rattle.virtio_queue.specs.Available.{MayWantChain, after_pop, popped}
 use Rattle.virtio_queue.specs.Fields.{Answers, Refuses}
-use Rattle.virtio_queue.specs.Notification.{EnablesIfReady, after_asked, needs_notification}
+use Rattle.virtio_queue.specs.Notification.{EnablesIfReady, MayWantNeeds, after_asked, needs_notification}
 use Rattle.virtio_queue.specs.State.{Virtqueue, with_state}
 use Rattle.virtio_queue.specs.Used.{AddsUsed, after_used}
 use Rattle.virtio_queue.specs.declared.error.QueueError.{QueueError}
@@ -107,7 +107,7 @@ module _ {B D : Type 0} (marks : B → ℕ → ℕ → B → Type 0) (bytes : D 
     pub needs : Result Bool QueueError
     pub runs : Runs most old served.count answer last
     pub more : served.more ≡ or_value false answer
-    pub asked : Answers (IsOn m) (needs_notification m last.host last.queue) needs
+    pub asked : Answers (MayWantNeeds m last.host last.queue) (needs_notification m last.host last.queue) needs
     pub interrupt : served.interrupt ≡ or_value (nat_lt 0 served.count) needs
     pub failed : served.failed ≡ option_or (error_in answer) (error_in needs)
     pub left : new ≡ record last { queue = after_asked last.queue needs }

@@ -1,14 +1,14 @@
 -- Bytes at the addresses of a text, each address by itself.
-use Rattle.std.specs.Prelude.{◌≡◌, ◌⊎◌, ℕ, ◌+◌, ◌<◌, ◌≤◌, true, List, [], ◌∷◌, length, take, drop, sum_by}
+use Rattle.std.specs.Prelude.{◌≡◌, ℕ, ◌-◌, ◌<◌, ◌≤◌, Bool, true, List, [], ◌∷◌, length, take, drop, sum_by, MatchBool}
 use Rattle.vm_memory_base.specs.Table.{Table}
 use Rattle.vm_memory_base.specs.declared.iotlb.Permissions.{Permissions}
 use Rattle.vm_memory_base.specs.declared.iotlb.Permissions.TheVariants.{Write}
 use Rattle.vm_memory_guest.specs.Access.{Reached, meets, onto}
 use Rattle.vm_memory_guest.specs.Dirt.{path_cells}
 use Rattle.vm_memory_guest.specs.Host.{Host, bytes_at}
-use Rattle.vm_memory_guest.specs.Memory.{Memory, IsOn, route}
+use Rattle.vm_memory_guest.specs.Memory.{Memory, route}
 use Rattle.vm_memory_guest.specs.Window.{Window, Writes}
-use Rattle.vm_memory_device.specs.Chain.{AreWindowsOf, Entry, text_path}
+use Rattle.vm_memory_device.specs.Chain.{AreWindowsOf, Entry, MayWantAt, text_path}
 
 module _ (m : Memory) (tables : List Table) where
   -- the bytes that the addresses of a text lead to, up to the first that leads to none
@@ -16,18 +16,23 @@ module _ (m : Memory) (tables : List Table) where
   reached [] = []
   reached (e ∷ es) = onto (meets m.regions (route m tables) e.address 0) (reached es)
 
-  -- a call over a text may stop after its first k addresses: the next one leads to no byte, or an IOMMU is on, which
-  -- may refuse the access, and whose allocation may fail
-  pub record StopsAt (es : List Entry) (k : ℕ) : Type 0 where
-    pub more : k < length es
-    pub stops : IsOn m ⊎ (length (reached es) ≡ k)
-
-  -- it may stop at one of N addresses from the first ones on
-  abbrev pub StopsWithin : List Entry → ℕ → ℕ → Type 0
-  StopsWithin es from count = (k : ℕ) × (from ≤ k) × (k < from + count) × StopsAt es k
-
 module _ (m : Memory) (tables : List Table) (access : Permissions) where
-  -- calls over a text, one after the other, each of at most N addresses, of which it moves M, are allowed
+  -- a call for at most `most` addresses of a text reaches none. The access with which it begins is refused, or its
+  -- first address leads to no byte. Or an allocation failed: an IOMMU is on, and translating the access may allocate
+  pub record Stops (es : List Entry) (most : ℕ) (wanted : Bool) : Type 0 where
+    pub some : 0 < length (take most es)
+    pub why : MatchBool wanted (MayWantAt m tables access (take most es) 0)
+        (text_path m.regions (route m tables) access true (take most es) ≡ [])
+
+  -- calls for the first so many addresses of a text end behind k of them, for such a reason
+  abbrev pub StopsAt : List Entry → ℕ → Bool → ℕ → Type 0
+  StopsAt es count wanted k = (k < count) × Stops (drop k es) (count - k) wanted
+
+  -- they end somewhere
+  abbrev pub StopsWithin : List Entry → ℕ → Bool → Type 0
+  StopsWithin es count wanted = (k : ℕ) × StopsAt es count wanted k
+
+  -- calls over a text, one behind the other, each of at most so many addresses, of which it moves so many, are allowed
   -- to access these
   abbrev pub AreAllowed : List (ℕ × ℕ) → List Entry → Type 0
   AreAllowed [] es = Unit {0}

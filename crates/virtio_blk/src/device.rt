@@ -34,6 +34,8 @@ pub struct BlockDevice<D> {
     read_only: bool,
     id: [u8; ID_LEN],
     acked: u64,
+    // How many chains it served for which an allocation failed.
+    starved: u64,
     // What is on its way between the guest and the disk.
     buffer: Vec<u8>,
 }
@@ -44,7 +46,13 @@ impl<D> Model for BlockDevice<D> {
 
     ghost Value = { Device D };
 
-    ghost view = { λ d. record { disk = d.disk; read_only = d.read_only; id = d.id; acked = d.acked } };
+    ghost view = { λ d. record {
+      disk = d.disk;
+      read_only = d.read_only;
+      id = d.id;
+      acked = d.acked;
+      starved = d.starved;
+    } };
 
     ghost invariant = { λ d. length d.buffer.items ≡ 65536 };
 }
@@ -58,7 +66,8 @@ impl<D: Disk> BlockDevice<D> {
         read_only: bool,
         id: [u8; ID_LEN],
     ) -> Result<BlockDevice<D>, AllocError>
-        ensures { IfOk result (λ d. d ≡ record { disk = disk; read_only = read_only; id = id; acked = 0 }) }
+        ensures { IfOk result
+            (λ d. d ≡ record { disk = disk; read_only = read_only; id = id; acked = 0; starved = 0 }) }
     {
         let buffer = vec![in alloc; 0u8; PIECE]?;
         Ok(BlockDevice {
@@ -67,6 +76,7 @@ impl<D: Disk> BlockDevice<D> {
             read_only,
             id,
             acked: 0,
+            starved: 0,
             buffer,
         })
     }
@@ -134,6 +144,14 @@ impl<D: Disk> BlockDevice<D> {
         ensures { result ≡ to_le_bytes w64 (D.sectors self.now.disk) }
     {
         self.disk.sectors().to_le_bytes()
+    }
+
+    /// How many chains it served, since it was made, with an access for whose translation no memory could be allocated.
+    /// Their requests failed for that, or have no status. It stays at 2^64 - 1.
+    pub fn starved(&self) -> u64
+        ensures { result ≡ self.now.starved }
+    {
+        self.starved
     }
 
     // What its requests are held against.

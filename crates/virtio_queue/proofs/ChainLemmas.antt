@@ -1,14 +1,18 @@
 -- Chains: what following `next` adds to the segments, turn by turn.
-use Rattle.std.proofs.Common.{◌≡◌, ◌∙◌, ℕ, suc, ◌+◌, ◌-◌, ◌<◌, ◌≤◌, if◌then◌else◌, true, false, List, [], ◌∷◌, ◌++◌, Some, None, Result, Ok, Err, ap, inl, inr, refl, sym, arith, append_assoc, append-nil, lt-ltb, le-ltb}
+use Rattle.std.proofs.Common.{◌≡◌, ◌⊎◌, ◌∙◌, ℕ, suc, ◌+◌, ◌*◌, ◌-◌, ◌<◌, ◌≤◌, if◌then◌else◌, true, false, List, [], ◌∷◌, ◌++◌, Option, Some, None, Result, Ok, Err, ap, inl, inr, refl, subst, sym, arith, append_assoc, append-nil, lt-ltb, le-ltb}
 use Rattle.std.proofs.lemmas.Bool.{cond_above, cond_below}
+use Rattle.vm_memory_base.specs.declared.iotlb.Permissions.TheVariants.{Read}
 use Rattle.vm_memory_device.specs.declared.chain.Segment.{Segment}
-use Rattle.virtio_queue.specs.Available.{Followed, entry, followed, prefixed}
+use Rattle.vm_memory_guest.specs.Host.{Host}
+use Rattle.vm_memory_guest.specs.Memory.{Memory}
+use Rattle.virtio_queue.specs.Available.{Followed, IsKept, MayWantChain, MayWantFollow, MayWantSegments, chain_at, chain_of, entry, followed, next_head, popped, prefixed}
 use Rattle.virtio_queue.specs.Descriptor.{has_next, is_indirect, segment_of}
-use Rattle.virtio_queue.specs.Fields.{Answers, Refuses}
+use Rattle.virtio_queue.specs.Fields.{Answers, MayWant, Refuses, descriptor_at}
 use Rattle.virtio_queue.specs.Rings.{and_then}
 use Rattle.virtio_queue.specs.declared.descriptor.Descriptor.{Descriptor}
 use Rattle.virtio_queue.specs.declared.error.QueueError.{QueueError}
 use Rattle.virtio_queue.specs.declared.error.QueueError.TheVariants as errors
+use Rattle.virtio_queue.specs.declared.state.QueueState.{QueueState}
 
 -- a call that answers something answers what is expected, and one that is refused is so as is expected
 pub answers_ok : (W : Type 0) {T : Type 0} (expected : Result T QueueError) (v : T) → Answers W expected (Ok v)
@@ -16,10 +20,11 @@ pub answers_ok : (W : Type 0) {T : Type 0} (expected : Result T QueueError) (v :
 answers_ok W expected v (inl is) = sym is
 answers_ok W expected v (inr (is, wants)) = absurd (cc)
 
-pub refused_so : (W : Type 0) {S T : Type 0} (given : Result S QueueError) (expected : Result T QueueError)
-    (e : QueueError) → Answers W given (Err e) → (given ≡ Err e → expected ≡ Err e) → Refuses (Unit {0}) expected e
-refused_so W given expected e (inl is) so = inl (so (sym is))
-refused_so W given expected e (inr (is, wants)) so = let wanted : e ≡ errors.Memory = cc in inr (wanted, tt)
+pub refused_so : (W V : Type 0) {S T : Type 0} (given : Result S QueueError) (expected : Result T QueueError)
+    (e : QueueError) → Answers W given (Err e) → (W → V) → (given ≡ Err e → expected ≡ Err e) → Refuses V expected e
+refused_so W V given expected e (inl is) may so = inl (so (sym is))
+refused_so W V given expected e (inr (is, wants)) may so =
+    let wanted : e ≡ errors.Memory = cc in inr (wanted, may wants)
 
 prefixed_none : (r : Result Followed QueueError) → prefixed [] r ≡ r
 prefixed_none (Ok f) = refl
@@ -115,3 +120,37 @@ module _ (descriptor : ℕ → Result Descriptor QueueError) (len : ℕ) where
     came_to_outside h k =
         let none : len - turns ≡ 0 = omega arith in
         rw (came.rest, none, le-ltb index len k) refl
+
+-- the first turn or a later one: then the first descriptor is kept
+module _ {B : Type 0} (m : Memory) (host : Host B) (table len first index : ℕ)
+    (begun : (index ≡ first) ⊎ ((first < len) × IsKept m host table first)) (within : index < len) where
+  pub begun_wants : MayWant m host table (16 * index) 16 Read → MayWantFollow m host table len first
+  begun_wants wants = go begun
+    where
+      go : (index ≡ first) ⊎ ((first < len) × IsKept m host table first) → MayWantFollow m host table len first
+      go (inl is) = (omega arith, inl (subst (λ i. MayWant m host table (16 * i) 16 Read) is wants))
+      go (inr (less, kept)) = (less, inr kept)
+
+  pub begun_keeps : (d : Descriptor) → descriptor_at m host table index ≡ Ok d → is_indirect d ≡ false
+      → (first < len) × IsKept m host table first
+  begun_keeps d there direct = go begun
+    where
+      go : (index ≡ first) ⊎ ((first < len) × IsKept m host table first)
+          → (first < len) × IsKept m host table first
+      go (inl is) = (omega arith, subst (λ i. IsKept m host table i) is (d, there, direct))
+      go (inr kept) = kept
+
+-- a chain that was found is refused
+pub pop_refused : {B : Type 0} (m : Memory) (host : Host B) (q : QueueState) (head : ℕ) (e : QueueError)
+    → next_head m host q ≡ Ok (Some head) → Answers (MayWantSegments m host q head) (chain_at m host q head) (Err e)
+    → Answers (MayWantChain m host q) (popped m host q) (Err e)
+pop_refused m host q head e found (inl is) =
+    inl (ap chained is ∙ sym (ap (λ (r : Result (Option ℕ) QueueError). and_then r (chain_of m host q)) found))
+  where
+    chained : Result (List Segment) QueueError → Result (Option (ℕ × List Segment)) QueueError
+    chained r = and_then r (λ ss. Ok (Some (head, ss)))
+pop_refused m host q head e found (inr (is, wants)) = inr (ap refused is, inr (Some head, found, wants))
+  where
+    refused : Result (List Segment) QueueError → Result (Option (ℕ × List Segment)) QueueError
+    refused (Ok ss) = Ok None
+    refused (Err d) = Err d

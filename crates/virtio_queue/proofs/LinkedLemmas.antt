@@ -1,8 +1,9 @@
 -- What following `next` gives is what linked descriptors tell of.
-use Rattle.std.proofs.Common.{◌≡◌, ◌∙◌, ℕ, zero, suc, ◌<◌, ◌≤◌, nat_lt, Bool, true, false, not, ◌||◌, if◌then◌else◌, List, [], ◌∷◌, length, Some, None, Result, Ok, Err, ap, refl, sym, arith}
+use Rattle.std.proofs.Common.{◌≡◌, ◌⊎◌, ◌∙◌, ℕ, zero, suc, ◌<◌, ◌≤◌, nat_lt, Bool, true, false, not, ◌||◌, if◌then◌else◌, List, [], ◌∷◌, length, Some, None, Result, Ok, Err, ap, inl, inr, refl, subst, sym, arith, lt-ltb, le-ltb}
+use borrow.Author.Tests.{ltb-true}
 use Rattle.virtio_queue.specs.Available.{Followed, entry, followed, prefixed}
 use Rattle.virtio_queue.specs.Descriptor.{has_next, is_indirect, segment_of}
-use Rattle.virtio_queue.specs.Linked.{AreLinked, is_last, told_by}
+use Rattle.virtio_queue.specs.Linked.{AreLinked, LeadsTo, is_last, told_by}
 use Rattle.virtio_queue.specs.declared.descriptor.Descriptor.{Descriptor}
 use Rattle.virtio_queue.specs.declared.error.QueueError.{QueueError}
 use Rattle.virtio_queue.specs.declared.error.QueueError.TheVariants as errors
@@ -20,14 +21,6 @@ module _ (descriptor : ℕ → Result Descriptor QueueError) (len : ℕ) where
       → followed descriptor len (suc most) i ≡ Err x
   unfolding followed
   refused_turn most i x e = rw e refl
-
-  -- an index at which a descriptor is there is in the table
-  within : (i : ℕ) (d : Descriptor) → entry descriptor len i ≡ Ok d → nat_lt i len ≡ true
-  within i d e = go (nat_lt i len) e
-    where
-      go : (b : Bool) → (if b then descriptor i else Err errors.InvalidDescriptorIndex) ≡ Ok d → b ≡ true
-      go true h = refl
-      go false h = absurd (cc)
 
   last_turn : (most i : ℕ) (d : Descriptor) → entry descriptor len i ≡ Ok d → is_last d ≡ true
       → followed descriptor len (suc most) i ≡ Ok (told_by (d ∷ []))
@@ -73,17 +66,102 @@ module _ (descriptor : ℕ → Result Descriptor QueueError) (len : ℕ) where
       p.0 ∙ ap (prefixed (segment_of d ∷ [])) (linked_are_followed most d.next (x ∷ ds) rest (omega arith))
       ∙ ap Ok (sym (direct_told d (x ∷ ds) p.1))
 
-  -- more of them are a loop
-  pub more_are_a_loop : (most i : ℕ) (ds : List Descriptor) → AreLinked descriptor len i ds → most < length ds
-      → followed descriptor len most i ≡ Err errors.DescriptorLoop
-  unfolding AreLinked followed
-  more_are_a_loop most i [] h k = absurd h
-  more_are_a_loop zero i (d ∷ []) (e, last) k = rw (within i d e) refl
-  more_are_a_loop zero i (d ∷ x ∷ ds) (e, last, rest) k = rw (within i d e) refl
-  more_are_a_loop (suc most) i (d ∷ []) h k = absurd (omega arith)
-  more_are_a_loop (suc most) i (d ∷ x ∷ ds) (e, last, rest) k =
-      let p = next_turn most i d e last in
-      p.0 ∙ ap (prefixed (segment_of d ∷ [])) (more_are_a_loop most d.next (x ∷ ds) rest (omega arith))
+  -- an index past the table
+  past : (i : ℕ) → len ≤ i → entry descriptor len i ≡ Err errors.InvalidDescriptorIndex
+  past i h = rw (le-ltb i len h) refl
+
+  -- as many as are allowed lead to one more
+  pub leads_to_loop : (most i j : ℕ) (ds : List Descriptor) → LeadsTo descriptor len i ds j → length ds ≡ most
+      → j < len → followed descriptor len most i ≡ Err errors.DescriptorLoop
+  unfolding LeadsTo followed
+  leads_to_loop zero i j [] h k s = rw (h, lt-ltb j len s) refl
+  leads_to_loop (suc most) i j [] h k s = absurd (omega (arith, k))
+  leads_to_loop zero i j (d ∷ ds) h k s = absurd (omega (arith, k))
+  leads_to_loop (suc most) i j (d ∷ ds) (e, last, rest) k s =
+      (next_turn most i d e last).0
+      ∙ ap (prefixed (segment_of d ∷ [])) (leads_to_loop most d.next j ds rest (omega (arith, k)) s)
+
+  -- fewer lead to where no descriptor can be read
+  pub leads_to_error : (most i j : ℕ) (ds : List Descriptor) (x : QueueError) → LeadsTo descriptor len i ds j
+      → length ds < most → entry descriptor len j ≡ Err x → followed descriptor len most i ≡ Err x
+  unfolding LeadsTo
+  leads_to_error zero i j ds x h k s = absurd (omega (arith, k))
+  leads_to_error (suc most) i j [] x h k s = refused_turn most i x (ap (entry descriptor len) h ∙ s)
+  leads_to_error (suc most) i j (d ∷ ds) x (e, last, rest) k s =
+      (next_turn most i d e last).0
+      ∙ ap (prefixed (segment_of d ∷ [])) (leads_to_error most d.next j ds x rest (omega (arith, k)) s)
+
+  pub leads_past : (most i j : ℕ) (ds : List Descriptor) → LeadsTo descriptor len i ds j → length ds ≤ most → len ≤ j
+      → followed descriptor len most i ≡ Err errors.InvalidDescriptorIndex
+  unfolding LeadsTo followed
+  leads_past zero i j [] h k s = rw (h, le-ltb j len s) refl
+  leads_past (suc most) i j [] h k s =
+      refused_turn most i errors.InvalidDescriptorIndex (ap (entry descriptor len) h ∙ past j s)
+  leads_past zero i j (d ∷ ds) h k s = absurd (omega (arith, k))
+  leads_past (suc most) i j (d ∷ ds) (e, last, rest) k s =
+      (next_turn most i d e last).0
+      ∙ ap (prefixed (segment_of d ∷ [])) (leads_past most d.next j ds rest (omega (arith, k)) s)
+
+  -- where following is refused
+  abbrev Ends : ℕ → QueueError → List Descriptor → ℕ → Type 0
+  Ends most x ds j = ((length ds ≡ most) × (j < len) × (x ≡ errors.DescriptorLoop))
+      ⊎ ((length ds ≤ most) × (entry descriptor len j ≡ Err x))
+
+  abbrev Leads : ℕ → ℕ → QueueError → Type 0
+  Leads most i x = (ds : List Descriptor) × (j : ℕ) × LeadsTo descriptor len i ds j × Ends most x ds j
+
+  here : (most i : ℕ) (x : QueueError) → Ends most x [] i → Leads most i x
+  unfolding LeadsTo
+  here most i x ends = ([], i, refl, ends)
+
+  one_behind : (most i : ℕ) (x : QueueError) (d : Descriptor) → entry descriptor len i ≡ Ok d → is_last d ≡ false
+      → Leads most d.next x → Leads (suc most) i x
+  unfolding LeadsTo
+  one_behind most i x d e last (ds, j, leads, ends) = (d ∷ ds, j, (e, last, leads), more ends)
+    where
+      more : Ends most x ds j → Ends (suc most) x (d ∷ ds) j
+      more (inl (all, within, is)) = inl (ap suc all, within, is)
+      more (inr (few, is)) = inr (omega (arith, few), is)
+
+  no_more : (i : ℕ) (x : QueueError) → (b : Bool) → nat_lt i len ≡ b
+      → ◌≡◌ {A = Result Followed QueueError}
+      (if b then Err errors.DescriptorLoop else Err errors.InvalidDescriptorIndex) (Err x) → Leads 0 i x
+  no_more i x true e h =
+      let is : x ≡ errors.DescriptorLoop = cc in here 0 i x (inl (refl, ltb-true i len e, is))
+  no_more i x false e h =
+      let is : x ≡ errors.InvalidDescriptorIndex = cc in
+      let outside : entry descriptor len i ≡ Err x = rw (e, is) refl in here 0 i x (inr (omega arith, outside))
+
+  behind_refused : (r : Result Followed QueueError) (d : Descriptor) (x : QueueError)
+      → prefixed (segment_of d ∷ []) r ≡ Err x → r ≡ Err x
+  behind_refused (Ok f) d x is = absurd (cc)
+  behind_refused (Err y) d x is = cc
+
+  -- a chain that is refused at its first descriptor, or behind it
+  module _ (most i : ℕ) (x : QueueError) (h : followed descriptor len (suc most) i ≡ Err x)
+      (later : (j : ℕ) → followed descriptor len most j ≡ Err x → Leads most j x) where
+    ended_refused : (d : Descriptor) → entry descriptor len i ≡ Ok d → (b : Bool) → is_last d ≡ b
+        → Leads (suc most) i x
+    ended_refused d e true last =
+        let no : ◌≡◌ {A = Result Followed QueueError} (Ok (told_by (d ∷ []))) (Err x) =
+        sym (last_turn most i d e last) ∙ h in absurd (cc)
+    ended_refused d e false last =
+        let behind = behind_refused (followed descriptor len most d.next) d x
+        (sym (next_turn most i d e last).0 ∙ h) in
+        one_behind most i x d e last (later d.next behind)
+
+    met_refused : (r : Result Descriptor QueueError) → entry descriptor len i ≡ r → Leads (suc most) i x
+    met_refused (Ok d) e = ended_refused d e (is_last d) refl
+    met_refused (Err y) e =
+        let same : ◌≡◌ {A = Result Followed QueueError} (Err y) (Err x) = sym (refused_turn most i y e) ∙ h in
+        let one : y ≡ x = cc in
+        here (suc most) i x (inr (omega arith, subst (λ z. entry descriptor len i ≡ Err z) one e))
+
+  pub refused_leads : (most i : ℕ) (x : QueueError) → followed descriptor len most i ≡ Err x → Leads most i x
+  unfolding followed
+  refused_leads zero i x h = no_more i x (nat_lt i len) refl h
+  refused_leads (suc most) i x h =
+      met_refused most i x h (λ j is. refused_leads most j x is) (entry descriptor len i) refl
 
   -- what is followed is what some linked descriptors tell of
   abbrev Linked : ℕ → ℕ → Followed → Type 0

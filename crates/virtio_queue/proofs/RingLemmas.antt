@@ -9,14 +9,14 @@ use Rattle.vm_memory_guest.specs.Access.{Access, AccessFault, allowed, first_fau
 use Rattle.vm_memory_guest.specs.Dirt.{path_cells}
 use Rattle.vm_memory_guest.specs.Error.{error_of}
 use Rattle.vm_memory_guest.specs.Host.{Host, bytes_at}
-use Rattle.vm_memory_guest.specs.Memory.{Memory, IsOn, Route, route}
+use Rattle.vm_memory_guest.specs.Memory.{Memory, Route, route}
 use Rattle.vm_memory_guest.specs.Typed.{answered, first_aligned, place_of, typed_path}
 use Rattle.vm_memory_guest.specs.Walk.{RefusesAccess, WantsMemory, items_of}
 use Rattle.vm_memory_guest.specs.Window.{Window, Writes, cells_of}
 use Rattle.vm_memory_guest.specs.declared.region.error.GuestMemoryError.{GuestMemoryError}
 use Rattle.vm_memory_guest.specs.declared.region.error.GuestMemoryError.TheVariants.{InvalidBackendAddress}
 use Rattle.virtio_queue.specs.Error.{of_access}
-use Rattle.virtio_queue.specs.Fields.{Answers, WritesBytes, is_word, loaded, place, reached_at, stored_at, told, window_at, word_at, word_window}
+use Rattle.virtio_queue.specs.Fields.{Answers, MayWant, WritesBytes, is_word, loaded, place, reached_at, stored_at, told, window_at, word_at, word_window}
 use Rattle.virtio_queue.specs.Notification.{EnablesIfReady, Waits, kick_offset, kick_places, kick_value}
 use Rattle.virtio_queue.specs.Available.{avail_idx}
 use Rattle.virtio_queue.specs.Rings.{and_then, behind}
@@ -57,9 +57,9 @@ none_allowed way a false reached is = refl
 pub window_refused : {B : Type 0} (m : Memory) (host : Host B) (base offset a : ℕ) (access : Permissions)
     (p : Result ℕ QueueError) → p ≡ place base offset 2 → p ≡ Ok a → (e : GuestMemoryError)
     → (WantsMemory m host.tables a 2 access e ⊎ RefusesAccess m host.tables a 2 access e)
-    → Answers (IsOn m) (window_at m host base offset access) (Err (of_access e))
+    → Answers (MayWant m host base offset 2 access) (window_at m host base offset access) (Err (of_access e))
 window_refused m host base offset a access p placed at e (inl (is, needs)) =
-    inr (ap (λ x. Err (of_access x)) is, needs.0)
+    inr (ap (λ x. Err (of_access x)) is, (a, sym placed ∙ at, needs))
 window_refused m host base offset a access p placed at e (inr (none, is)) =
     let way = route m host.tables in
     let reached : Access = record {

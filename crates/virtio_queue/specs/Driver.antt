@@ -1,16 +1,17 @@
 -- The driver's half of a queue: where its areas lie, and what its calls leave.
-use Rattle.std.specs.Prelude.{◌≡◌, ◌⊎◌, ℕ, ◌+◌, ◌*◌, ◌/◌, ◌^◌, nat_le, not, true, ◌==◌, ◌%◌, if◌then◌else◌, List, length, Option, Some, None, option_map, Result, Ok, Err, MatchBool, MatchResult}
+use Rattle.std.specs.Prelude.{◌≡◌, ◌⊎◌, ℕ, ◌+◌, ◌*◌, ◌/◌, ◌^◌, ◌<◌, nat_le, not, true, ◌==◌, ◌%◌, if◌then◌else◌, List, length, Option, Some, None, option_map, Result, Ok, Err, MatchBool, MatchResult}
 use Rattle.vm_memory_base.specs.declared.iotlb.Permissions.TheVariants as permissions
 use Rattle.vm_memory_guest.specs.Access.{Access, windows}
 use Rattle.vm_memory_guest.specs.Error.{error_of}
 use Rattle.vm_memory_guest.specs.Host.{Host}
-use Rattle.vm_memory_guest.specs.Memory.{Memory, IsOn}
+use Rattle.vm_memory_guest.specs.Memory.{Memory}
 use Rattle.vm_memory_guest.specs.Transfer.{all_of, ended}
+use Rattle.vm_memory_guest.specs.Walk.{NeedsPieces}
 use Rattle.vm_memory_guest.specs.Window.{Writes}
 use Rattle.vm_memory_guest.specs.declared.region.error.GuestMemoryError.{GuestMemoryError}
 use Rattle.vm_memory_guest.specs.declared.region.error.GuestMemoryError.TheVariants.{PartialBuffer}
-use Rattle.virtio_queue.specs.Fields.{pair_at, place, reached_at, told, word_at, StoresWord}
-use Rattle.virtio_queue.specs.Rings.{and_then, behind, slot}
+use Rattle.virtio_queue.specs.Fields.{pair_at, place, reached_at, told, word_at, MayWant, StoresWord}
+use Rattle.virtio_queue.specs.Rings.{WantsThen, and_then, behind, slot}
 use Rattle.virtio_queue.specs.State.{Virtqueue, is_size, new_state}
 use Rattle.virtio_queue.specs.declared.driver.DriverQueue.{DriverQueue}
 use Rattle.virtio_queue.specs.declared.driver.QueueField.{QueueField}
@@ -61,6 +62,10 @@ offset_of d AvailEvent = 4 + 8 * d.size
 abbrev pub field_at : {B : Type 0} → Memory → Host B → DriverQueue → QueueField → Result ℕ QueueError
 field_at m host d field = word_at m host (ring_of d field) (offset_of d field)
 
+-- to read it may fail to allocate
+abbrev pub MayWantField : {B : Type 0} → Memory → Host B → DriverQueue → QueueField → Type 0
+MayWantField m host d field = MayWant m host (ring_of d field) (offset_of d field) 2 permissions.Read
+
 module _ {B : Type 0} (m : Memory) (host : Host B) where
   -- the entry that is taken next, if the device has published one
   abbrev pub next_entry : DriverQueue → Result (Option (ℕ × ℕ)) QueueError
@@ -68,6 +73,11 @@ module _ {B : Type 0} (m : Memory) (host : Host B) where
       else and_then (field_at m host d UsedIdx) (λ idx.
       if idx == d.next_used then Ok None
       else and_then (pair_at m host d.used_ring (4 + 8 * slot d.size d.next_used)) (λ entry. Ok (Some entry)))
+
+  -- to take it may fail to allocate: for the device's index, or for the entry, if there is one
+  abbrev pub MayWantNext : DriverQueue → Type 0
+  MayWantNext d = (0 < d.size) × WantsThen (MayWantField m host d UsedIdx) (field_at m host d UsedIdx) (λ idx.
+      (idx ≡ d.next_used → ⊥) × MayWant m host d.used_ring (4 + 8 * slot d.size d.next_used) 8 permissions.Read)
 
 abbrev pub after_take : DriverQueue → Result (Option (ℕ × ℕ)) QueueError → DriverQueue
 after_take d (Ok (Some entry)) = record d { next_used = behind d.next_used }
@@ -87,7 +97,7 @@ module _ {B : Type 0} (marks : B → ℕ → ℕ → B → Type 0) (m : Memory) 
   abbrev pub PutsAt : ℕ → List ℕ → Host B → Result (Unit {0}) QueueError → Host B → Type 0
   PutsAt a bytes old answer new = let x = reached_at m old a (length bytes) permissions.Write in
       ((answer ≡ told (written_all (length bytes) x)) × Writes marks (windows x.path) bytes old new)
-      ⊎ ((answer ≡ Err errors.Memory) × IsOn m × (new ≡ old))
+      ⊎ ((answer ≡ Err errors.Memory) × NeedsPieces m old.tables a (length bytes) permissions.Write × (new ≡ old))
 
   -- the same at an offset from an address, if there is such a place
   abbrev pub Puts : ℕ → ℕ → List ℕ → Host B → Result (Unit {0}) QueueError → Host B → Type 0

@@ -7,10 +7,11 @@ use Rattle.vm_memory_guest.specs.Access.{Access, access_of, windows}
 use Rattle.vm_memory_guest.specs.Dirt.{path_cells}
 use Rattle.vm_memory_guest.specs.Error.{error_of}
 use Rattle.vm_memory_guest.specs.Host.{Host, bytes_at}
-use Rattle.vm_memory_guest.specs.Memory.{Memory, IsOn, route}
+use Rattle.vm_memory_guest.specs.Memory.{Memory, route}
 use Rattle.vm_memory_guest.specs.Queries.{is_whole}
 use Rattle.vm_memory_guest.specs.Transfer.{all_of, ended}
 use Rattle.vm_memory_guest.specs.Typed.{answered, place_of, typed_path}
+use Rattle.vm_memory_guest.specs.Walk.{NeedsPieces}
 use Rattle.vm_memory_guest.specs.Window.{Window, Writes, cells_of}
 use Rattle.vm_memory_guest.specs.declared.region.error.GuestMemoryError.{GuestMemoryError}
 use Rattle.vm_memory_guest.specs.declared.region.error.GuestMemoryError.TheVariants.{PartialBuffer}
@@ -40,6 +41,12 @@ place base offset n = if nat_le (base + offset + n) (2 ^ 64) then Ok (base + off
 -- what an access of n bytes at an address reaches
 abbrev pub reached_at : {B : Type 0} → Memory → Host B → ℕ → ℕ → Permissions → Access
 reached_at m host a n access = access_of m.regions (route m host.tables) a n access
+
+-- an access of a field of n bytes that lies so far behind an address may fail to allocate: it is made through an IOMMU
+-- that is on and allows it
+abbrev pub MayWant : {B : Type 0} → Memory → Host B → ℕ → ℕ → ℕ → Permissions → Type 0
+MayWant m host base offset n access =
+    (a : ℕ) × (place base offset n ≡ Ok a) × NeedsPieces m host.tables a n access
 
 -- ---- reading
 
@@ -118,4 +125,4 @@ module _ {B : Type 0} (marks : B → ℕ → ℕ → B → Type 0) (m : Memory) 
   StoresWord base offset value old answer new = MatchResult answer
       (λ _. (w : Window) × (word_window m old base offset ≡ Ok w)
       × Writes marks (w ∷ []) (to_le_bytes w16 value) old new)
-      (λ e. Refuses (IsOn m) (word_window m old base offset) e × (new ≡ old))
+      (λ e. Refuses (MayWant m old base offset 2 permissions.Write) (word_window m old base offset) e × (new ≡ old))

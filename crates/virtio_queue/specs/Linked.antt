@@ -17,6 +17,13 @@ AreLinked descriptor len i (d ∷ []) = (entry descriptor len i ≡ Ok d) × (is
 AreLinked descriptor len i (d ∷ e ∷ ds) =
     (entry descriptor len i ≡ Ok d) × (is_last d ≡ false) × AreLinked descriptor len d.next (e ∷ ds)
 
+-- these descriptors lead from an index to another one: `next` of each is the index of the one after it, `next` of the
+-- last one is the other index, and none of them ends the part of a chain
+unfoldable pub LeadsTo : (ℕ → Result Descriptor QueueError) → ℕ → ℕ → List Descriptor → ℕ → Type 0
+LeadsTo descriptor len i [] j = i ≡ j
+LeadsTo descriptor len i (d ∷ ds) j =
+    (entry descriptor len i ≡ Ok d) × (is_last d ≡ false) × LeadsTo descriptor len d.next ds j
+
 -- what they describe: the segments of direct ones, and the indirect one
 abbrev pub told_by : List Descriptor → Followed
 told_by [] = record { segments = []; indirect = None }

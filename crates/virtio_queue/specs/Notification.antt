@@ -2,12 +2,12 @@
 use Rattle.std.specs.Prelude.{◌≡◌, ℕ, ◌+◌, ◌*◌, nat_lt, Bool, true, not, ◌==◌, if◌then◌else◌, Option, Some, None, Result, Ok, Err, MatchBool, MatchResult}
 use Rattle.vm_memory_base.specs.declared.iotlb.Permissions.TheVariants as permissions
 use Rattle.vm_memory_guest.specs.Host.{Host}
-use Rattle.vm_memory_guest.specs.Memory.{Memory, IsOn}
+use Rattle.vm_memory_guest.specs.Memory.{Memory}
 use Rattle.vm_memory_guest.specs.Window.{Window}
 use Rattle.virtio_queue.specs.Available.{avail_idx}
 use Rattle.virtio_queue.specs.Descriptor.{has_flag}
-use Rattle.virtio_queue.specs.Fields.{stored_at, window_at, word_at, word_window, Refuses, StoresWord}
-use Rattle.virtio_queue.specs.Rings.{ahead, and_then, before}
+use Rattle.virtio_queue.specs.Fields.{stored_at, window_at, word_at, word_window, MayWant, Refuses, StoresWord}
+use Rattle.virtio_queue.specs.Rings.{WantsThen, ahead, and_then, before}
 use Rattle.virtio_queue.specs.State.{Virtqueue}
 use Rattle.virtio_queue.specs.declared.error.QueueError.{QueueError}
 use Rattle.virtio_queue.specs.declared.error.QueueError.TheVariants as errors
@@ -29,6 +29,15 @@ module _ {B : Type 0} (m : Memory) (host : Host B) where
   abbrev pub needs_notification : Virtqueue → Result Bool QueueError
   needs_notification q =
       if q.state.ready then wants_notification q.state q.added else Err errors.QueueNotReady
+
+  -- to find out may fail to allocate, where it is not known without a look
+  abbrev pub MayWantEvent : QueueState → Option ℕ → Type 0
+  MayWantEvent q None = ⊥
+  MayWantEvent q (Some n) =
+      MayWant m host q.avail_ring (if q.event_idx_enabled then 4 + 2 * q.size else 0) 2 permissions.Read
+
+  abbrev pub MayWantNeeds : Virtqueue → Type 0
+  MayWantNeeds q = (q.state.ready ≡ true) × MayWantEvent q.state q.added
 
   -- whether the driver has published more than was popped
   abbrev pub has_more : QueueState → Result Bool QueueError
@@ -52,6 +61,11 @@ abbrev pub kick_places : {B : Type 0} → Memory → Host B → QueueState → R
 kick_places m host q = and_then (word_window m host q.used_ring (kick_offset q)) (λ kick.
     and_then (window_at m host q.avail_ring 2 permissions.Read) (λ idx. Ok (kick, idx)))
 
+-- to look both up may fail to allocate
+abbrev pub MayWantKick : {B : Type 0} → Memory → Host B → QueueState → Type 0
+MayWantKick m host q = WantsThen (MayWant m host q.used_ring (kick_offset q) 2 permissions.Write)
+    (word_window m host q.used_ring (kick_offset q)) (λ kick. MayWant m host q.avail_ring 2 2 permissions.Read)
+
 -- what a device waits for: the driver finds in memory when to notify it, the value that asks for a notification of the
 -- next head, and has published no head beyond those that were popped
 pub record Waits {B : Type 0} (m : Memory) (host : Host B) (q : QueueState) : Type 0 where
@@ -65,7 +79,7 @@ module _ {B : Type 0} (marks : B → ℕ → ℕ → B → Type 0) (m : Memory) 
   Enables old answer new = MatchResult answer
       (λ more. StoresWord marks m q.used_ring (kick_offset q) (kick_value q) old (Ok tt) new
       × (has_more m new q ≡ Ok more))
-      (λ e. Refuses (IsOn m) (kick_places m old q) e × (new ≡ old))
+      (λ e. Refuses (MayWantKick m old q) (kick_places m old q) e × (new ≡ old))
 
   -- a queue that is not ready is refused, and nothing changes
   abbrev pub EnablesIfReady : Host B → Result Bool QueueError → Host B → Type 0

@@ -1,5 +1,5 @@
 -- Rings: which slot an index has, and how indices go on. They count modulo 2^16.
-use Rattle.std.specs.Prelude.{ℕ, ◌+◌, ◌-◌, ◌%◌, ◌^◌, nat_lt, ◌==◌, if◌then◌else◌, Option, Some, None, Result, Ok, Err}
+use Rattle.std.specs.Prelude.{◌≡◌, ◌⊎◌, ℕ, ◌+◌, ◌-◌, ◌%◌, ◌^◌, nat_lt, ◌==◌, if◌then◌else◌, Option, Some, None, Result, Ok, Err}
 use Rattle.virtio_queue.specs.declared.error.QueueError.{QueueError}
 use Rattle.virtio_queue.specs.declared.error.QueueError.TheVariants.{InvalidAvailRingIndex}
 
@@ -7,6 +7,10 @@ use Rattle.virtio_queue.specs.declared.error.QueueError.TheVariants.{InvalidAvai
 abbrev pub and_then : {S T E : Type 0} → Result S E → (S → Result T E) → Result T E
 and_then (Ok x) f = f x
 and_then (Err e) f = Err e
+
+-- one of two steps may fail to allocate: the first, or the second if the first gives something
+abbrev pub WantsThen : {S : Type 0} → Type 0 → Result S QueueError → (S → Type 0) → Type 0
+WantsThen {S} first given second = first ⊎ ((x : S) × (given ≡ Ok x) × second x)
 
 -- the index after one, and the one before it
 abbrev pub behind : ℕ → ℕ

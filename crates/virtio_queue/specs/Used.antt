@@ -1,15 +1,16 @@
 -- What the device gives back: the used ring, and whether a queue's areas lie in memory.
-use Rattle.std.specs.Prelude.{◌≡◌, ℕ, ◌+◌, ◌*◌, nat_le, not, ◌&&◌, min, if◌then◌else◌, List, ◌++◌, option_map, Bool, Result, Ok, Err, MatchResult}
+use Rattle.std.specs.Prelude.{◌≡◌, ◌⊎◌, ℕ, ◌+◌, ◌*◌, ◌<◌, nat_le, true, not, ◌&&◌, min, if◌then◌else◌, List, ◌++◌, option_map, Bool, Result, Ok, Err, MatchResult}
 use Rattle.std.specs.Int.{w32, to_le_bytes}
 use Rattle.vm_memory_base.specs.declared.iotlb.Permissions.TheVariants as permissions
 use Rattle.vm_memory_guest.specs.Access.{allowed, refusal}
 use Rattle.vm_memory_guest.specs.Error.{error_of}
 use Rattle.vm_memory_guest.specs.Host.{Host}
-use Rattle.vm_memory_guest.specs.Memory.{Memory, IsOn, route}
+use Rattle.vm_memory_guest.specs.Memory.{Memory, route}
+use Rattle.vm_memory_guest.specs.Walk.{NeedsPieces}
 use Rattle.vm_memory_guest.specs.Window.{Window}
 use Rattle.virtio_queue.specs.Error.{of_access}
-use Rattle.virtio_queue.specs.Fields.{lies_whole, place, word_at, word_window, Refuses, StoresWord, WritesBytes}
-use Rattle.virtio_queue.specs.Rings.{and_then, behind, slot}
+use Rattle.virtio_queue.specs.Fields.{lies_whole, place, word_at, word_window, MayWant, Refuses, StoresWord, WritesBytes}
+use Rattle.virtio_queue.specs.Rings.{WantsThen, and_then, behind, slot}
 use Rattle.virtio_queue.specs.State.{Virtqueue}
 use Rattle.virtio_queue.specs.declared.error.QueueError.{QueueError}
 use Rattle.virtio_queue.specs.declared.error.QueueError.TheVariants as errors
@@ -25,9 +26,23 @@ module _ {B : Type 0} (m : Memory) (host : Host B) where
   abbrev pub valid : QueueState → Result Bool QueueError
   valid q = if q.ready then Ok (areas_lie_whole q) else Err errors.QueueNotReady
 
+  -- that may fail to allocate: each of the three, where those in front of it lie whole
+  abbrev pub MayWantAreas : QueueState → Type 0
+  MayWantAreas q = NeedsPieces m host.tables q.desc_table (16 * q.size) permissions.Read
+      ⊎ ((lies_whole m host q.desc_table (16 * q.size) permissions.Read ≡ true)
+      × (NeedsPieces m host.tables q.avail_ring (6 + 2 * q.size) permissions.Read
+      ⊎ ((lies_whole m host q.avail_ring (6 + 2 * q.size) permissions.Read ≡ true)
+      × NeedsPieces m host.tables q.used_ring (6 + 8 * q.size) permissions.Write)))
+
+  abbrev pub MayWantValid : QueueState → Type 0
+  MayWantValid q = (q.ready ≡ true) × MayWantAreas q
+
   -- the device's index, as it lies in the ring
   abbrev pub used_idx : QueueState → Result ℕ QueueError
   used_idx q = if q.ready then word_at m host q.used_ring 2 else Err errors.QueueNotReady
+
+  abbrev pub MayWantUsedIdx : QueueState → Type 0
+  MayWantUsedIdx q = (q.ready ≡ true) × MayWant m host q.used_ring 2 2 permissions.Read
 
   -- why an entry cannot be written at an address: its translation is refused, or it does not lie whole in memory
   abbrev pub entry_fault : ℕ → QueueError
@@ -45,6 +60,15 @@ module _ {B : Type 0} (m : Memory) (host : Host B) where
   abbrev pub used_places : QueueState → ℕ → Result (ℕ × Window) QueueError
   used_places q head =
       and_then (entry_place q head) (λ a. and_then (word_window m host q.used_ring 2) (λ w. Ok (a, w)))
+
+  -- returning a head may fail to allocate: for its entry, or, where that can be written, for the index
+  abbrev pub MayWantEntry : QueueState → ℕ → Type 0
+  MayWantEntry q head = (q.ready ≡ true) × (head < q.size)
+      × MayWant m host q.used_ring (4 + 8 * slot q.size q.next_used) 8 permissions.Write
+
+  abbrev pub MayWantUsed : QueueState → ℕ → Type 0
+  MayWantUsed q head = WantsThen (MayWantEntry q head) (entry_place q head)
+      (λ a. MayWant m host q.used_ring 2 2 permissions.Write)
 
 -- the bytes of an entry: a head and how many bytes the device wrote, each with its lowest byte first
 abbrev pub entry_bytes : ℕ → ℕ → List ℕ
@@ -64,7 +88,7 @@ module _ {B : Type 0} (marks : B → ℕ → ℕ → B → Type 0) (m : Memory) 
   abbrev pub AddsUsed : Host B → Result (Unit {0}) QueueError → Host B → Type 0
   AddsUsed old answer new = MatchResult answer
       (λ _. (mid : Host B) × WritesEntry old mid × StoresIndex mid new)
-      (λ e. Refuses (IsOn m) (used_places m old q head) e × (new ≡ old))
+      (λ e. Refuses (MayWantUsed m old q head) (used_places m old q head) e × (new ≡ old))
 
 -- one entry more is counted, up to 65536
 abbrev pub one_more : ℕ → ℕ

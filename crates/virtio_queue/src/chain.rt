@@ -1,7 +1,7 @@
 //! Chains: what following `next` from a head gives.
 ghost use Rattle.std.specs.Prelude.{◌≡◌, Ok, MatchResult};
 ghost use Rattle.vm_memory_guest.specs.Host.{shape_of, Holds};
-ghost use Rattle.virtio_queue.specs.Available.{chain_at, followed_in, indirect_len, indirect_segments, segments_at};
+ghost use Rattle.virtio_queue.specs.Available.{MayWantFollow, MayWantSegments, MayWantTable, chain_at, followed_in, indirect_len, indirect_segments, segments_at};
 ghost use Rattle.virtio_queue.specs.ChainInside.{Adds, Follows};
 ghost use Rattle.virtio_queue.specs.Fields.{Answers, Refuses};
 
@@ -25,8 +25,8 @@ fn follow<M: GuestMemory, B: Bitmap>(
     segments: &mut Vec<Segment>,
 ) -> Result<Option<Descriptor>, QueueError>
     requires { Holds (shape_of host.now) (M.names mem.now) }
-    ensures { Follows (followed_in (M.memory mem.now) host.now table len first) segments.old.items result
-        segments.new.items }
+    ensures { let m = M.memory mem.now in Follows (MayWantFollow m host.now table len first)
+        (followed_in m host.now table len first) segments.old.items result segments.new.items }
 {
     let mut index = first;
     for _step in 0..len {
@@ -72,8 +72,8 @@ fn follow_indirect<M: GuestMemory, B: Bitmap>(
     segments: &mut Vec<Segment>,
 ) -> Result<(), QueueError>
     requires { Holds (shape_of host.now) (M.names mem.now) }
-    ensures { Adds (indirect_segments (M.memory mem.now) host.now descriptor.now) segments.old.items result
-        segments.new.items }
+    ensures { let m = M.memory mem.now in Adds (MayWantTable m host.now descriptor.now)
+        (indirect_segments m host.now descriptor.now) segments.old.items result segments.new.items }
 {
     let len = indirect_len(descriptor)?;
     match follow(mem, host, descriptor.addr, len, 0, segments)? {
@@ -91,8 +91,9 @@ fn segments_at<M: GuestMemory, B: Bitmap>(
     head: u16,
 ) -> Result<Vec<Segment>, QueueError>
     requires { Holds (shape_of host.now) (M.names mem.now) }
-    ensures { let expected = segments_at (M.memory mem.now) host.now state.now head in
-        MatchResult result (λ segments. expected ≡ Ok segments.items) (Refuses (Unit {0}) expected) }
+    ensures { let m = M.memory mem.now in let expected = segments_at m host.now state.now head in
+        MatchResult result (λ segments. expected ≡ Ok segments.items)
+        (Refuses (MayWantSegments m host.now state.now head) expected) }
 {
     let mut segments = Vec::new(alloc);
     let table = state.desc_table;
@@ -112,7 +113,8 @@ pub(crate) fn chain_at<M: GuestMemory, B: Bitmap>(
     head: u16,
 ) -> Result<Chain, QueueError>
     requires { Holds (shape_of host.now) (M.names mem.now) }
-    ensures { Answers (Unit {0}) (chain_at (M.memory mem.now) host.now state.now head) result }
+    ensures { let m = M.memory mem.now in
+        Answers (MayWantSegments m host.now state.now head) (chain_at m host.now state.now head) result }
 {
     match Chain::new(segments_at(alloc, mem, host, state, head)?) {
         Ok(chain) => Ok(chain),

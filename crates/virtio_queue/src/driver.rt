@@ -1,8 +1,7 @@
 //! The driver's half of a queue.
 ghost use Rattle.std.specs.Prelude.{◌≡◌, ◌+◌, ◌*◌, ◌<◌, ◌^◌};
 ghost use Rattle.vm_memory_guest.specs.Host.{shape_of, Holds};
-ghost use Rattle.vm_memory_guest.specs.Memory.{IsOn};
-ghost use Rattle.virtio_queue.specs.Driver.{Publishes, Puts, after_publish, after_take, device_of, field_at, layout_of, next_entry, offset_of, ring_of};
+ghost use Rattle.virtio_queue.specs.Driver.{MayWantField, MayWantNext, Publishes, Puts, after_publish, after_take, device_of, field_at, layout_of, next_entry, offset_of, ring_of};
 ghost use Rattle.virtio_queue.specs.Fields.{Answers, StoresWord};
 
 use crate::descriptor::Descriptor;
@@ -123,7 +122,8 @@ impl DriverQueue {
         field: QueueField,
     ) -> Result<u16, QueueError>
         requires { Holds (shape_of host.now) (M.names mem.now) }
-        ensures { let m = M.memory mem.now in Answers (IsOn m) (field_at m host.now self.now field) result }
+        ensures { let m = M.memory mem.now in
+            Answers (MayWantField m host.now self.now field) (field_at m host.now self.now field) result }
     {
         let (ring, offset) = self.place(field);
         load_word(mem, host, ring, offset)
@@ -194,7 +194,8 @@ impl DriverQueue {
         host: &HostMemory<B>,
     ) -> Result<Option<(u32, u32)>, QueueError>
         requires { Holds (shape_of host.now) (M.names mem.now) }
-        ensures taken { let m = M.memory mem.now in Answers (IsOn m) (next_entry m host.now self.old) result }
+        ensures taken { let m = M.memory mem.now in
+            Answers (MayWantNext m host.now self.old) (next_entry m host.now self.old) result }
         ensures moved { self.new ≡ after_take self.old result }
     {
         if self.size == 0 {

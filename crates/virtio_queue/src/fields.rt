@@ -1,14 +1,14 @@
 //! The fields of a queue in guest memory: each is read or written by one access.
-ghost use Rattle.std.specs.Prelude.{◌≡◌, ◌+◌, ◌<◌, ◌^◌, ◌++◌, ◌∷◌, [], true, option_map, All, Ok, IfOk, IsTrue, MatchResult, OnOk};
+ghost use Rattle.std.specs.Prelude.{◌≡◌, ◌+◌, ◌*◌, ◌<◌, ◌^◌, ◌++◌, ◌∷◌, [], true, option_map, All, Ok, IfOk, IsTrue, MatchResult, OnOk};
 ghost use Rattle.std.specs.Int.{w16, w32, from_le_bytes, to_le_bytes};
-ghost use Rattle.vm_memory_base.specs.declared.iotlb.Permissions.TheVariants.{Write};
+ghost use Rattle.vm_memory_base.specs.declared.iotlb.Permissions.TheVariants.{Read, Write};
 ghost use Rattle.vm_memory_guest.specs.Error.{error_of};
 ghost use Rattle.vm_memory_guest.specs.Host.{bytes_at, shape_of, Holds};
-ghost use Rattle.vm_memory_guest.specs.Memory.{IsOn};
 ghost use Rattle.vm_memory_guest.specs.Typed.{first_aligned};
+ghost use Rattle.vm_memory_guest.specs.Walk.{NeedsPieces};
 ghost use Rattle.vm_memory_guest.specs.Window.{Writes, cells_of, window_names};
 ghost use Rattle.virtio_queue.specs.Driver.{Puts};
-ghost use Rattle.virtio_queue.specs.Fields.{Answers, StoresWord, WritesBytes, descriptor_at, is_word, lies_whole, pair_at, place, stored_at, told, window_at, word_at};
+ghost use Rattle.virtio_queue.specs.Fields.{Answers, MayWant, StoresWord, WritesBytes, descriptor_at, is_word, lies_whole, pair_at, place, stored_at, told, window_at, word_at};
 
 use crate::descriptor::Descriptor;
 use crate::error::QueueError;
@@ -47,7 +47,8 @@ pub(crate) fn load_word<M: GuestMemory, B: Bitmap>(
 ) -> Result<u16, QueueError>
     requires held { Holds (shape_of host.now) (M.names mem.now) }
     requires near { offset + 2 < 2 ^ 32 }
-    ensures { let m = M.memory mem.now in Answers (IsOn m) (word_at m host.now base offset) result }
+    ensures { let m = M.memory mem.now in
+        Answers (MayWant m host.now base offset 2 Read) (word_at m host.now base offset) result }
 {
     loads_and_stores_are_by_bytes::<()>();
     let addr = GuestAddress(place(base, offset, 2)?);
@@ -66,7 +67,8 @@ pub(crate) fn descriptor_at<M: GuestMemory, B: Bitmap>(
     index: u16,
 ) -> Result<Descriptor, QueueError>
     requires { Holds (shape_of host.now) (M.names mem.now) }
-    ensures { let m = M.memory mem.now in Answers (IsOn m) (descriptor_at m host.now table index) result }
+    ensures { let m = M.memory mem.now in
+        Answers (MayWant m host.now table (16 * index) 16 Read) (descriptor_at m host.now table index) result }
 {
     accesses_are_by_bytes::<()>();
     windows_of_accesses_are_their_paths();
@@ -141,7 +143,7 @@ pub(crate) fn window_at<M: GuestMemory, B: Bitmap>(
     requires held { Holds (shape_of host.now) (M.names mem.now) }
     requires near { offset + 2 < 2 ^ 32 }
     ensures window { let m = M.memory mem.now in
-        Answers (IsOn m) (window_at m host.now base offset access) result }
+        Answers (MayWant m host.now base offset 2 access) (window_at m host.now base offset access) result }
     ensures held { IfOk result (λ w. Holds (shape_of host.now) (window_names w)) }
     ensures word { IfOk result (λ w. is_word w ≡ true) }
 {
@@ -195,7 +197,7 @@ pub(crate) fn write_pair<M: GuestMemory, B: Bitmap>(
     requires whole { IsTrue (lies_whole (M.memory mem.now) host.old addr 8 Write) }
     ensures written { let m = M.memory mem.now in MatchResult result
         (λ _. WritesBytes B.marks m addr (to_le_bytes w32 first ++ to_le_bytes w32 second) host.old host.new)
-        (λ e. (e ≡ QueueError.Memory) × IsOn m × (host.new ≡ host.old)) }
+        (λ e. (e ≡ QueueError.Memory) × NeedsPieces m host.old.tables addr 8 Write × (host.new ≡ host.old)) }
     ensures shape { shape_of host.new ≡ shape_of host.old }
 {
     accesses_are_by_bytes::<()>();
@@ -237,7 +239,8 @@ pub(crate) fn read_pair<M: GuestMemory, B: Bitmap>(
 ) -> Result<(u32, u32), QueueError>
     requires held { Holds (shape_of host.now) (M.names mem.now) }
     requires near { offset + 8 < 2 ^ 32 }
-    ensures { let m = M.memory mem.now in Answers (IsOn m) (pair_at m host.now base offset) result }
+    ensures { let m = M.memory mem.now in
+        Answers (MayWant m host.now base offset 8 Read) (pair_at m host.now base offset) result }
 {
     accesses_are_by_bytes::<()>();
     windows_of_accesses_are_their_paths();
@@ -258,8 +261,8 @@ pub(crate) fn lies_whole<M: GuestMemory, B: Bitmap>(
 ) -> Result<bool, QueueError>
     requires held { Holds (shape_of host.now) (M.names mem.now) }
     requires some { 0 < count }
-    ensures { let m = M.memory mem.now in
-        Answers (IsOn m) (Ok (lies_whole m host.now addr count access)) result }
+    ensures { let m = M.memory mem.now in Answers (NeedsPieces m host.now.tables addr count access)
+        (Ok (lies_whole m host.now addr count access)) result }
 {
     if addr > u64::MAX - (count - 1) {
         return Ok(false);

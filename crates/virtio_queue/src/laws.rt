@@ -1,5 +1,5 @@
 //! What becomes of the heads and entries of a queue: each function here is a theorem, and does nothing.
-ghost use Rattle.std.specs.Prelude.{◌≡◌, ◌<◌, ◌≤◌, ◌^◌, ℕ, true, List, All, length, take, slice_get, IsTrue, Result, Ok, Err};
+ghost use Rattle.std.specs.Prelude.{◌≡◌, ◌⊎◌, ◌<◌, ◌≤◌, ◌^◌, ℕ, true, List, All, length, take, slice_get, IsTrue, Result, Ok, Err};
 ghost use Rattle.std.specs.Int.{w16, to_le_bytes};
 ghost use Rattle.vm_memory_base.specs.declared.iotlb.Permissions.TheVariants.{Write};
 ghost use Rattle.vm_memory_guest.specs.Access.{Reached};
@@ -8,17 +8,17 @@ ghost use Rattle.vm_memory_guest.specs.Host.{Host};
 ghost use Rattle.vm_memory_guest.specs.Memory.{Memory};
 ghost use Rattle.vm_memory_guest.specs.Region.{IsRegion};
 ghost use Rattle.vm_memory_guest.specs.Typed.{typed_path};
-ghost use Rattle.virtio_queue.specs.Available.{Followed, avail_idx, followed, head_in, next_head};
+ghost use Rattle.virtio_queue.specs.Available.{Followed, avail_idx, entry, followed, head_in, next_head};
 ghost use Rattle.virtio_queue.specs.Fields.{StoresWord, place, reached_at};
 ghost use Rattle.virtio_queue.specs.History.{Entry, Event, Return, Rings, Story, AllMay, after, beginning, empty_rings, entry_to_take, head_to_pop, story};
-ghost use Rattle.virtio_queue.specs.Linked.{AreLinked, told_by};
+ghost use Rattle.virtio_queue.specs.Linked.{AreLinked, LeadsTo, told_by};
 ghost use Rattle.virtio_queue.specs.Notification.{is_among};
 ghost use Rattle.virtio_queue.specs.Rings.{ahead, slot};
 ghost use Rattle.virtio_queue.specs.State.{Virtqueue, is_size};
 ghost use Rattle.virtio_queue.specs.Used.{WritesEntry, after_used, entry_bytes, entry_place};
 ghost use Rattle.virtio_queue.specs.declared.descriptor.Descriptor.{Descriptor};
 ghost use Rattle.virtio_queue.specs.declared.error.QueueError.{QueueError};
-ghost use Rattle.virtio_queue.specs.declared.error.QueueError.TheVariants.{DescriptorLoop};
+ghost use Rattle.virtio_queue.specs.declared.error.QueueError.TheVariants.{DescriptorLoop, InvalidDescriptorIndex};
 ghost use Rattle.virtio_queue.specs.declared.state.QueueState.{QueueState};
 
 use vm_memory_base::{Bitmap, ExactBitmap};
@@ -26,16 +26,33 @@ use vm_memory_guest::laws::accesses::accesses_are_by_bytes;
 use vm_memory_guest::laws::typed::loads_and_stores_are_by_bytes;
 
 /// What following `next` from an index gives is what some linked descriptors describe, and no other: at most as many as
-/// is allowed, which is the length of the table. If more are linked, they are a loop.
+/// is allowed, which is the length of the table.
 pub fn chains_are_linked_descriptors()
     ensures followed { (descriptor : ℕ → Result Descriptor QueueError) (len most i : ℕ) (f : Followed)
         → followed descriptor len most i ≡ Ok f
         → (ds : List Descriptor) × AreLinked descriptor len i ds × (length ds ≤ most) × (f ≡ told_by ds) }
     ensures linked { (descriptor : ℕ → Result Descriptor QueueError) (len most i : ℕ) (ds : List Descriptor)
         → AreLinked descriptor len i ds → length ds ≤ most → followed descriptor len most i ≡ Ok (told_by ds) }
-    ensures endless { (descriptor : ℕ → Result Descriptor QueueError) (len most i : ℕ) (ds : List Descriptor)
-        → AreLinked descriptor len i ds → most < length ds
+{}
+
+/// What is refused while `next` is followed. If as many descriptors as are allowed lead to one more index of the table,
+/// and none of them is the last, it is a loop, whatever lies there. If they lead past the table, or fewer lead to an
+/// index at which no descriptor can be read, the error is the one of that index. Nothing else is refused.
+pub fn chains_are_refused_where_they_lead()
+    ensures endless { (descriptor : ℕ → Result Descriptor QueueError) (len most i j : ℕ) (ds : List Descriptor)
+        → LeadsTo descriptor len i ds j → length ds ≡ most → j < len
         → followed descriptor len most i ≡ Err DescriptorLoop }
+    ensures failing { (descriptor : ℕ → Result Descriptor QueueError) (len most i j : ℕ) (ds : List Descriptor)
+        (e : QueueError) → LeadsTo descriptor len i ds j → length ds < most → entry descriptor len j ≡ Err e
+        → followed descriptor len most i ≡ Err e }
+    ensures outside { (descriptor : ℕ → Result Descriptor QueueError) (len most i j : ℕ) (ds : List Descriptor)
+        → LeadsTo descriptor len i ds j → length ds ≤ most → len ≤ j
+        → followed descriptor len most i ≡ Err InvalidDescriptorIndex }
+    ensures refused { (descriptor : ℕ → Result Descriptor QueueError) (len most i : ℕ) (e : QueueError)
+        → followed descriptor len most i ≡ Err e
+        → (ds : List Descriptor) × (j : ℕ) × LeadsTo descriptor len i ds j
+        × (((length ds ≡ most) × (j < len) × (e ≡ DescriptorLoop))
+        ⊎ ((length ds ≤ most) × (entry descriptor len j ≡ Err e))) }
 {}
 
 /// A store of a number of 16 bits, in a host with exact bitmaps, is the write of its bytes, one after the other, and so

@@ -34,9 +34,9 @@ use vm_memory_base::GuestAddress;
 #[derive(Drop)]
 pub struct Queue {
     state: QueueState,
-    // How many entries were added since `needs_notification` was last asked, where it is known, and 65536 if more.
+    // How many entries were added since `needs_notification` was last asked, if it is known, and 65536 if more.
     added: Option<u32>,
-    // What keeps its accesses of guest memory in order: docs/VIRTQUEUE.md, "Order".
+    // What keeps its accesses of guest memory in order: the crate's README.md, "Order".
     barrier: BarrierWord,
 }
 

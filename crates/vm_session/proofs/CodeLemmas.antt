@@ -1,23 +1,17 @@
 -- What calls of a kind are answered.
-use Rattle.std.proofs.Common.{◌≡◌, Bool, true, false, IsTrue, List, ℕ, Option, Some, MatchOption, refl, sym, inl, subst, slice_get, slice_set, get_or, length, ◌<◌, ◌≤◌}
+use Rattle.std.proofs.Common.{◌≡◌, Bool, false, IsTrue, List, ℕ, Option, Some, MatchOption, refl, sym, subst, slice_get, slice_set, get_or, length, ◌<◌, ◌≤◌}
 use Rattle.std.proofs.lemmas.Bool.{false≢true}
 use Rattle.std.proofs.lemmas.Option.{slice_get_past, slice_get_read}
 use Rattle.vm_memory.specs.State.{State}
-use Rattle.vm_memory.specs.declared.machine.command.Command as commands
 use Rattle.vm_session.specs.Kinds.{is_access, is_message, is_queue, is_work, kinds, marks, sets_up}
 use Rattle.vm_session.specs.QueueCodes.{no_such}
 use Rattle.vm_session.specs.Queues.{OnBoth, Refuses, WorksOn}
-use Rattle.vm_session.specs.Session.{Answers, AnswersIf, AnswersKind, AnswersMade, AnswersOf, AnswersOther, AnswersSent, DoesIf, DoesListed, Served}
+use Rattle.vm_session.specs.Session.{Answers, AnswersIf, AnswersKind, AnswersMade, AnswersOf, AnswersOther, AnswersSent, Served}
 use Rattle.vm_session.specs.SessionState.{DeviceQueue, SessionState}
 use Rattle.vm_session.specs.declared.call.Answer.{Answer}
 use Rattle.vm_session.specs.declared.call.Call.{Call}
 use Rattle.vm_session.specs.declared.call.Kind.{Kind}
 use Rattle.vm_session.specs.declared.call.Kind.TheVariants as kind
-
-pub served-listed : (b : Bool) (old : State) (o : Option commands.Command) (out : List ℕ) (a : Answer) (out' : List ℕ)
-    (new : State) → DoesIf b old o out a out' new → DoesListed old o out a out' new
-served-listed true old o out a out' new h = h
-served-listed false old o out a out' new h = inl h
 
 -- a call that accesses bytes sets nothing up
 no-setup : (kind : Kind) → IsTrue (is_access kind) → sets_up kind ≡ false

@@ -161,6 +161,7 @@ module _ (call : Call) (head : ℕ) (chain : List Segment) where
             ((a ≡ unfinished (length input) told) × (q' ≡ q) × (new ≡ mid)) → Keeps q head chain q'
         whole told mid true k = returns_keeps q mid a q' new k ends
         whole told mid false k = same_keeps q q' head chain k.1
+
         at : (b : Bool) → MatchBool b (Completes marks m call input q old a q' new)
             ((a ≡ bad_call) × (q' ≡ q) × (new ≡ old)) → Keeps q head chain q'
         at true k = whole k.0 k.1 (k.0.code == 0 && k.0.count == length input) k.3

@@ -175,6 +175,7 @@ module _ {B : Type 0} (marks : B → ℕ → ℕ → B → Type 0) (pages : B �
             ((a ≡ unfinished (length input) told) × (q' ≡ q) × (seen new ≡ seen mid))
         whole told mid true k = returns_seen q call.third call.value mid a q' new k
         whole told mid false k = (k.0, k.1, ap seen k.2)
+
         at : (b : Bool) → MatchBool b (Completes marks m call input q old a q' new)
             ((a ≡ bad_call) × (q' ≡ q) × (new ≡ old))
             → MatchBool b (Completes marks_pages m call input q (seen old) a q' (seen new))

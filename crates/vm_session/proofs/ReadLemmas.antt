@@ -1,27 +1,37 @@
 -- Reads into the front of an output, and stores of values that are too wide.
-use Rattle.std.proofs.Common.{◌≡◌, ◌∙◌, ◌⊎◌, ◌<◌, ◌≤◌, ℕ, Bool, false, cond, is_ok, is_some, List, ◌++◌, length, take, drop, slice_get, Option, Some, None, IsSome, IsSomeAnd, Result, Ok, Err, IfOk, refl, sym, ap, subst, inl, inr, length-take-le, take-append-drop}
+use Rattle.std.proofs.Common.{◌≡◌, ◌∙◌, ◌⊎◌, ◌<◌, ◌≤◌, ℕ, ◌==◌, if◌then◌else◌, Bool, true, false, cond, option_map, is_ok, is_some, List, ◌++◌, length, take, drop, slice_get, Option, Some, None, IsSome, IsSomeAnd, Result, Ok, Err, IfOk, refl, sym, ap, subst, inl, inr, length-take-le, take-append-drop}
 use Rattle.std.proofs.Math.Nat.{lt_irrefl}
+use Rattle.std.proofs.lemmas.Bool.{false≢true}
 use Rattle.std.specs.Int.{to_le_bytes}
 use Rattle.vm_memory_base.specs.declared.address.GuestAddress.{GuestAddress}
 use Rattle.vm_memory_base.specs.Table.{Table}
 use Rattle.vm_memory_base.specs.declared.iotlb.Permissions.{Permissions}
 use Rattle.vm_memory_base.specs.declared.iotlb.Permissions.TheVariants as permissions
+use Rattle.vm_memory_guest.specs.Access.{AccessFault, NoRegion, NoHostBytes, Refused}
+use Rattle.vm_memory_guest.specs.Dirt.{bytes_read}
+use Rattle.vm_memory_guest.specs.Error.{error_of}
 use Rattle.vm_memory_guest.specs.Memory.{Memory}
+use Rattle.vm_memory_guest.specs.Transfer.{ended}
+use Rattle.vm_memory_guest.specs.declared.region.error.GuestMemoryError.{GuestMemoryError}
+use Rattle.vm_memory_guest.specs.declared.region.error.GuestMemoryError.TheVariants as errors
+use Rattle.vm_memory_device.specs.Reach.{reached_by}
 use Rattle.vm_memory_guest.specs.Walk.{NeedsPieces}
 use Rattle.vm_memory.specs.Calls.{ReadsInto, buffer_after}
 use Rattle.vm_memory.specs.Machine.{Step, outcome}
+use Rattle.vm_memory.specs.Commands.{MayWant}
 use Rattle.vm_memory.specs.Effect.{apply, if_there, leaves, Replies}
-use Rattle.vm_memory.specs.Reply.{checks, replied, reply_of_refusal}
+use Rattle.vm_memory.specs.Reply.{all_moved, checks, reads, reads_whole, replied, reply_of, reply_of_error, reply_of_refusal}
 use Rattle.vm_memory.specs.State.{State}
 use Rattle.vm_memory.specs.Typed.{fits_width, integer_of, stores, stores_bytes}
 use Rattle.vm_memory.specs.declared.machine.command.Width.{Width}
+use Rattle.vm_memory.specs.declared.machine.command.Command as commands
 use Rattle.vm_memory.specs.declared.machine.command.Command.TheVariants as command
 use Rattle.vm_memory.specs.declared.machine.command.Reply.{Reply}
 use Rattle.vm_memory.specs.declared.machine.command.Reply.TheVariants as reply
 use Rattle.vm_memory.specs.declared.machine.refusal.Refusal.{Refusal}
 use Rattle.vm_memory.specs.declared.machine.refusal.Refusal.TheVariants as refusal
 use Rattle.vm_session.specs.Answers.{answer_of, counted}
-use Rattle.vm_session.specs.Session.{Does, FillsFrom}
+use Rattle.vm_session.specs.Session.{Does, read_into}
 use Rattle.vm_session.specs.declared.call.Answer.{Answer}
 
 -- a memory that is translated for some bytes is there, and there are bytes
@@ -35,12 +45,102 @@ counted_as : (result : Result ℕ Refusal) (buf : List ℕ) → IfOk result (λ 
 counted_as (Ok count) buf h = ap counted (sym (length-take-le count buf h))
 counted_as (Err e) buf h = refl
 
-fills : (now : State) (memory : ℕ) (addr : GuestAddress) (n : ℕ) (r : Reply) (out buf : List ℕ)
-    → (buf ≡ buffer_after now memory addr.0 (take n out)) ⊎ ((r ≡ reply.Memory) × (buf ≡ take n out))
-    → FillsFrom now memory addr.0 n r out (buf ++ drop n out)
-fills now memory addr n r out buf (inl h) = inl (ap (λ b. b ++ drop n out) h)
-fills now memory addr n r out buf (inr h) =
-    inr (h.0, ap (λ b. b ++ drop n out) (h.1) ∙ take-append-drop n out)
+-- ---- the reply that an allocation failed
+
+abbrev is_memory : Reply → Bool
+is_memory reply.Memory = true
+is_memory r = false
+
+abbrev is_wanting : GuestMemoryError → Bool
+is_wanting errors.Memory = true
+is_wanting e = false
+
+-- it is that of no other error
+told_wanting : (e : GuestMemoryError) → is_wanting e ≡ false → is_memory (reply_of_error e) ≡ false
+told_wanting errors.Memory h = h
+told_wanting e h = refl
+
+fault_told : (f : AccessFault) → is_wanting (error_of f) ≡ false
+fault_told (NoRegion a) = refl
+fault_told NoHostBytes = refl
+fault_told (Refused iova len reason) = refl
+
+-- a read that reached so many bytes
+module _ (told : ℕ → Reply) (done : Unit {0} → Reply) (tells : (n : ℕ) → is_memory (told n) ≡ false)
+    (does : is_memory (done tt) ≡ false) (n count : ℕ) where
+  told_if : (b : Bool) (f : AccessFault)
+      → is_memory (reply_of told (if b then Err (error_of f) else Ok count)) ≡ false
+  told_if true f = told_wanting (error_of f) (fault_told f)
+  told_if false f = tells count
+
+  told_some : (o : Option AccessFault) → is_memory (reply_of told (ended count (option_map error_of o))) ≡ false
+  told_some None = tells count
+  told_some (Some f) = told_if (count == 0) f
+
+  whole_if : (b : Bool) (total : ℕ)
+      → is_memory (reply_of done (if b then Ok tt else Err (errors.PartialBuffer n total))) ≡ false
+  whole_if true total = does
+  whole_if false total = refl
+
+  done_if : (b : Bool) (f : AccessFault)
+      → is_memory (reply_of done (all_moved n (if b then Err (error_of f) else Ok count))) ≡ false
+  done_if true f = told_wanting (error_of f) (fault_told f)
+  done_if false f = whole_if (count == n) count
+
+  told_whole : (o : Option AccessFault)
+      → is_memory (reply_of done (all_moved n (ended count (option_map error_of o)))) ≡ false
+  told_whole None = whole_if (count == n) count
+  told_whole (Some f) = done_if (count == 0) f
+
+-- no read of the model replies it
+read_replies : (now : State) (a n : ℕ) (o : Option Memory)
+    → is_memory (apply now (if_there o (λ m. Replies (reads m now.host a n)))).0 ≡ false
+read_replies now a n None = refl
+read_replies now a n (Some m) =
+    let reached = reached_by m now.host.tables a n permissions.Read in
+    told_some (λ count. reply.Bytes (bytes_read reached.path now.host)) (λ done. reply.Done) (λ _. refl) refl n
+    (length reached.path) reached.fault
+
+fill_replies : (now : State) (a n : ℕ) (o : Option Memory)
+    → is_memory (apply now (if_there o (λ m. Replies (reads_whole m now.host a n)))).0 ≡ false
+fill_replies now a n None = refl
+fill_replies now a n (Some m) =
+    let reached = reached_by m now.host.tables a n permissions.Read in
+    told_whole (λ count. reply.Done) (λ done. reply.Bytes (bytes_read reached.path now.host)) (λ _. refl) refl n
+    (length reached.path) reached.fault
+
+-- ---- reads
+
+-- the output has what the buffer has: what the read reached, or, if an allocation failed, what it was
+module _ (now : State) (memory a n : ℕ) (out buf : List ℕ) where
+  abbrev Filled : Reply → Type 0
+  Filled r = ((is_memory r ≡ false) × (buf ≡ buffer_after now memory a (take n out)))
+      ⊎ ((is_memory r ≡ true) × (buf ≡ take n out))
+
+  filled : (r : Reply) → Filled r → buf ++ drop n out ≡ read_into now memory a n r out
+  filled reply.Memory (inl h) = absurd (false≢true (sym h.0))
+  filled reply.Memory (inr h) = ap (λ b. b ++ drop n out) h.1 ∙ take-append-drop n out
+  filled r (inl h) = ap (λ b. b ++ drop n out) h.1
+  filled r (inr h) = absurd (false≢true h.0)
+
+  -- what a call of a machine that reads into the buffer says of it
+  read_fills : {T : Type 0} (c : commands.Command) (told : T → Reply) (result : Result T Refusal)
+      → is_memory (outcome now c).0 ≡ false → ReadsInto now memory a c told (take n out) result buf
+      → Filled (replied told result)
+  read_fills c told result never (inl h) = inl (ap (λ (p : Reply × State). is_memory p.0) h.0 ∙ never, h.1)
+  read_fills c told result never (inr h) = inr (ap (λ x. is_memory (replied told x)) h.0, h.2)
+
+  -- its command is a step
+  read_steps : {T : Type 0} (c : commands.Command) (told : T → Reply) (result : Result T Refusal)
+      → (IsSome (slice_get now.memories memory) × (0 < length (take n out)) → MayWant now c)
+      → ReadsInto now memory a c told (take n out) result buf → Step now c (replied told result) now
+  read_steps c told result wants (inl h) = inl h.0
+  read_steps c told result wants (inr h) =
+      inr (
+        ap (replied told) h.0,
+        wants (translated (slice_get now.memories memory) now.host.tables a (length (take n out)) permissions.Read h.1),
+        refl,
+      )
 
 pub read_does : (now : State) (memory : ℕ) (addr : GuestAddress) (n : ℕ) (out buf : List ℕ)
     (result : Result ℕ Refusal) (a : Answer) → n ≤ length out → length buf ≡ length (take n out)
@@ -49,54 +149,50 @@ pub read_does : (now : State) (memory : ℕ) (addr : GuestAddress) (n : ℕ) (ou
     → IfOk result (λ count. count ≤ length (take n out)) → a ≡ answer_of (replied reply.Count result)
     → Does now (Some (command.Read memory addr n)) out a (buf ++ drop n out) now
 read_does now memory addr n out buf result a within same reads most told =
+    let size : length (take n out) ≡ n = length-take-le n out within in
+    let asked : ReadsInto now memory addr.0 (command.Read memory addr n) (λ count. reply.Bytes (take count buf))
+    (take n out) result buf =
+    subst (λ k. ReadsInto now memory addr.0 (command.Read memory addr k) (λ count. reply.Bytes (take count buf))
+    (take n out) result buf) size reads in
     inl (
       replied (λ count. reply.Bytes (take count buf)) result,
-      step (subst (λ k. ReadsInto now memory addr.0 (command.Read memory addr k) (λ count. reply.Bytes (take count buf))
-          (take n out) result buf)
-          (length-take-le n out within) reads),
+      read_steps now memory addr.0 n out buf (command.Read memory addr n) (λ count. reply.Bytes (take count buf)) result
+          (λ w. (w.0, subst (λ k. 0 < k) size w.1)) asked,
       told ∙ counted_as result buf (subst (λ k. IfOk result (λ count. count ≤ k)) (sym same) most),
-      fills now memory addr n _ out buf (filled reads),
+      filled now memory addr.0 n out buf _
+          (read_fills now memory addr.0 n out buf (command.Read memory addr n) (λ count. reply.Bytes (take count buf))
+          result (read_replies now addr.0 n (slice_get now.memories memory)) asked),
       inl within,
     )
-  where
-    step : ReadsInto now memory addr.0 (command.Read memory addr n) (λ count. reply.Bytes (take count buf))
-        (take n out) result buf
-        → Step now (command.Read memory addr n) (replied (λ count. reply.Bytes (take count buf)) result) now
-    step (inl h) = inl (h.0)
-    step (inr h) =
-        inr (
-          ap (replied (λ count. reply.Bytes (take count buf))) (h.0),
-          subst (λ k. IsSome (slice_get now.memories memory) × (0 < k)) (length-take-le n out within)
-              (translated (slice_get now.memories memory) now.host.tables addr.0 (length (take n out))
-              permissions.Read (h.1)),
-          refl,
-        )
-
-    filled : ReadsInto now memory addr.0 (command.Read memory addr (length (take n out)))
-        (λ count. reply.Bytes (take count buf)) (take n out) result buf
-        → (buf ≡ buffer_after now memory addr.0 (take n out))
-        ⊎ ((replied (λ count. reply.Bytes (take count buf)) result ≡ reply.Memory) × (buf ≡ take n out))
-    filled (inl h) = inl (h.1)
-    filled (inr h) = inr (ap (replied (λ count. reply.Bytes (take count buf))) (h.0), h.2)
 
 pub fill_does : (now : State) (memory : ℕ) (addr : GuestAddress) (n : ℕ) (out buf : List ℕ)
-    (u : Unit {0}) (a : Answer) → n ≤ length out → length buf ≡ length (take n out)
+    (result : Result (Unit {0}) Refusal) (a : Answer) → n ≤ length out
     → ReadsInto now memory addr.0 (command.ReadSlice memory addr (length (take n out)))
-    (λ (done : Unit {0}). reply.Bytes buf) (take n out) (Ok u) buf → a ≡ counted n
+    (λ (done : Unit {0}). reply.Bytes buf) (take n out) result buf
+    → a ≡ answer_of (replied (λ (done : Unit {0}). reply.Bytes buf) result)
     → Does now (Some (command.ReadSlice memory addr n)) out a (buf ++ drop n out) now
-fill_does now memory addr n out buf u a within same (inl h) told =
+fill_does now memory addr n out buf result a within reads told =
+    let size : length (take n out) ≡ n = length-take-le n out within in
+    let asked : ReadsInto now memory addr.0 (command.ReadSlice memory addr n) (λ (done : Unit {0}). reply.Bytes buf)
+    (take n out) result buf =
+    subst (λ k. ReadsInto now memory addr.0 (command.ReadSlice memory addr k) (λ (done : Unit {0}). reply.Bytes buf)
+    (take n out) result buf) size reads in
     inl (
-      reply.Bytes buf,
-      inl (subst (λ k. (reply.Bytes buf, now) ≡ outcome now (command.ReadSlice memory addr k))
-          (length-take-le n out within) (h.0)),
-      told ∙ ap counted (sym (same ∙ length-take-le n out within)),
-      fills now memory addr n _ out buf (inl (h.1)),
+      replied (λ (done : Unit {0}). reply.Bytes buf) result,
+      read_steps now memory addr.0 n out buf (command.ReadSlice memory addr n) (λ (done : Unit {0}). reply.Bytes buf)
+          result (λ w. (w.0, subst (λ k. 0 < k) size w.1)) asked,
+      told,
+      filled now memory addr.0 n out buf _
+          (read_fills now memory addr.0 n out buf (command.ReadSlice memory addr n)
+          (λ (done : Unit {0}). reply.Bytes buf) result (fill_replies now addr.0 n (slice_get now.memories memory))
+          asked),
       inl within,
     )
-fill_does now memory addr n out buf u a within same (inr h) told = absurd (never (h.0))
-  where
-    never : Ok u ≡ Err refusal.Memory → ⊥
-    never e = cc
+
+-- the answer of a read of all bytes that is done
+pub fill_told : (buf out : List ℕ) (n : ℕ) → n ≤ length out → length buf ≡ length (take n out)
+    → counted n ≡ answer_of (reply.Bytes buf)
+fill_told buf out n within same = ap counted (sym (same ∙ length-take-le n out within))
 
 -- a check of no bytes is answered where the memory is there
 asked : (now : State) (addr : GuestAddress) (access : Permissions) (o : Option Memory) (result : Result Bool Refusal)

@@ -1,5 +1,5 @@
 -- What the numbers of a call stand for.
-use Rattle.std.specs.Prelude.{◌==◌, ℕ, Bool, true, false, if◌then◌else◌, List, [], ◌∷◌, Option, Some, None}
+use Rattle.std.specs.Prelude.{◌==◌, ℕ, Bool, true, false, not, ◌||◌, if◌then◌else◌, List, [], ◌∷◌, Option, Some, None}
 use Rattle.vm_memory_base.specs.declared.iotlb.Permissions.{Permissions}
 use Rattle.vm_memory_base.specs.declared.iotlb.Permissions.TheVariants as permissions
 use Rattle.vm_memory.specs.declared.machine.command.Width.{Width}
@@ -132,6 +132,10 @@ marks k = false
 abbrev pub is_message : Kind → Bool
 is_message kind.IotlbMessage = true
 is_message k = false
+
+-- whether a call of a kind stands for a command, if for anything
+abbrev pub is_command : Kind → Bool
+is_command k = not (sets_up k || (marks k || (is_message k || (is_queue k || is_work k))))
 
 -- whether the input of a call of a kind is a list
 abbrev pub takes_list : Kind → Bool

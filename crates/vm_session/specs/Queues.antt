@@ -3,15 +3,15 @@ use Rattle.std.specs.Prelude.{◌≡◌, ◌⊎◌, ◌<◌, ◌+◌, ◌%◌, �
 use Rattle.std.specs.Int.{w64, to_le_bytes}
 use Rattle.vm_memory_base.specs.Pages.{PageSet, marked}
 use Rattle.vm_memory_guest.specs.Host.{Host}
-use Rattle.vm_memory_guest.specs.Memory.{Memory, IsOn}
+use Rattle.vm_memory_guest.specs.Memory.{Memory}
 use Rattle.vm_memory_guest.specs.declared.region.error.GuestMemoryError.{GuestMemoryError}
 use Rattle.vm_memory_device.specs.Chain.{Entry, ReadsText, WritesText, readable, text, writable}
 use Rattle.vm_memory_device.specs.declared.chain.Segment.{Segment}
-use Rattle.virtio_queue.specs.Available.{MayWantChain, after_pop, avail_idx, popped}
+use Rattle.virtio_queue.specs.Available.{MayWantChain, MayWantIdx, after_pop, avail_idx, popped}
 use Rattle.virtio_queue.specs.Fields.{Answers as AnswersAs}
-use Rattle.virtio_queue.specs.Notification.{Disables, EnablesIfReady, after_asked, needs_notification}
+use Rattle.virtio_queue.specs.Notification.{Disables, EnablesIfReady, MayWantNeeds, after_asked, needs_notification}
 use Rattle.virtio_queue.specs.State.{Virtqueue, is_size, new_queue, set_if, with_state}
-use Rattle.virtio_queue.specs.Used.{AddsUsed, after_used, used_idx, valid}
+use Rattle.virtio_queue.specs.Used.{AddsUsed, MayWantUsedIdx, MayWantValid, after_used, used_idx, valid}
 use Rattle.virtio_queue.specs.declared.error.QueueError.{QueueError}
 use Rattle.virtio_queue.specs.declared.error.QueueError.TheVariants as errors
 use Rattle.virtio_queue.specs.declared.state.QueueState.{QueueState}
@@ -155,20 +155,20 @@ module _ {B : Type 0} (m : Memory) (host : Host B) where
 
   abbrev pub NeedsNotification : DeviceQueue → Answer → DeviceQueue → Type 0
   NeedsNotification old a new = (r : Result Bool QueueError)
-      × AnswersAs (IsOn m) (needs_notification m host old.queue) r
+      × AnswersAs (MayWantNeeds m host old.queue) (needs_notification m host old.queue) r
       × (a ≡ answer_of_truth r) × (new ≡ record old { queue = after_asked old.queue r })
 
   abbrev pub TellsValid : DeviceQueue → Answer → Type 0
-  TellsValid q a = (r : Result Bool QueueError) × AnswersAs (IsOn m) (valid m host q.queue.state) r
-      × (a ≡ answer_of_truth r)
+  TellsValid q a = (r : Result Bool QueueError)
+      × AnswersAs (MayWantValid m host q.queue.state) (valid m host q.queue.state) r × (a ≡ answer_of_truth r)
 
   abbrev pub TellsAvail : DeviceQueue → Answer → Type 0
-  TellsAvail q a = (r : Result ℕ QueueError) × AnswersAs (IsOn m) (avail_idx m host q.queue.state) r
-      × (a ≡ answer_of_number r)
+  TellsAvail q a = (r : Result ℕ QueueError)
+      × AnswersAs (MayWantIdx m host q.queue.state) (avail_idx m host q.queue.state) r × (a ≡ answer_of_number r)
 
   abbrev pub TellsUsed : DeviceQueue → Answer → Type 0
-  TellsUsed q a = (r : Result ℕ QueueError) × AnswersAs (IsOn m) (used_idx m host q.queue.state) r
-      × (a ≡ answer_of_number r)
+  TellsUsed q a = (r : Result ℕ QueueError)
+      × AnswersAs (MayWantUsedIdx m host q.queue.state) (used_idx m host q.queue.state) r × (a ≡ answer_of_number r)
 
 -- what a request is held against
 abbrev pub terms_of : Call → Option Terms

@@ -11,12 +11,12 @@ use Rattle.vm_memory.specs.declared.machine.setup.Setup as setups
 use Rattle.vm_memory.specs.declared.machine.setup.SetupReply.{SetupReply}
 use Rattle.vm_session.specs.Answers.{answer_of, answer_of_setup}
 use Rattle.vm_session.specs.Codes.{bad_call, no_memory, short_of}
-use Rattle.vm_session.specs.Kinds.{is_message, is_queue, is_work, kinds}
+use Rattle.vm_session.specs.Kinds.{is_command, is_message, is_queue, is_work, kinds, takes_list}
 use Rattle.vm_session.specs.Messages.{AnswersMessage, regions_in}
 use Rattle.vm_session.specs.Queues.{AnswersQueue, OnBoth}
-use Rattle.vm_session.specs.Requests.{IsSetup, command_at}
+use Rattle.vm_session.specs.Requests.{IsSetup, command_at, is_without_size}
 use Rattle.vm_session.specs.Retries.{AnswersCall, Readies, WholeSession, message_at}
-use Rattle.vm_session.specs.Session.{Fills, Marks}
+use Rattle.vm_session.specs.Session.{HasRoom, Marks, output_after, room_for}
 use Rattle.vm_session.specs.SessionState.{SessionState, chain_of, with_machine}
 use Rattle.vm_session.specs.declared.call.Answer.{Answer}
 use Rattle.vm_session.specs.declared.call.Call.{Call}
@@ -76,9 +76,22 @@ pub data Deed : Type 0 where
   worked : Kind → Deed
   wrote : List (List ℕ) → Deed
 
--- the answers of calls that did nothing
-abbrev pub Refuses : Answer → Type 0
-Refuses a = (a ≡ bad_call) ⊎ ((a ≡ no_memory) ⊎ ((n : ℕ) × (a ≡ short_of n)))
+-- a call of a kind stands for nothing: a size of what it sets up is 0, or it means no command
+abbrev pub MeansNothing : Kind → Call → List ℕ → Type 0
+MeansNothing kind call input =
+    IsTrue (is_without_size kind call) ⊎ (IsTrue (is_command kind) × (command_at kind call input ≡ None))
+
+-- the output of a call is too short for its command
+abbrev pub IsTooShort : SessionState → Kind → Exchange → Type 0
+IsTooShort old kind e = (c : commands.Command) × (command_at kind e.call e.input ≡ Some c)
+    × (length e.before < room_for old.machine c) × (e.answer ≡ short_of (room_for old.machine c))
+
+-- why a call did nothing: it stands for nothing, the allocation of the list that it brings failed, or its output is too
+-- short
+abbrev pub IsRefused : SessionState → Exchange → Option Kind → Type 0
+IsRefused old e None = e.answer ≡ bad_call
+IsRefused old e (Some kind) = ((e.answer ≡ bad_call) × MeansNothing kind e.call e.input)
+    ⊎ (((e.answer ≡ no_memory) × IsTrue (takes_list kind)) ⊎ IsTooShort old kind e)
 
 -- the table that takes a message may be emptied for a call that is made again
 abbrev pub MayReady : SessionState → Exchange → SessionState → Type 0
@@ -88,13 +101,13 @@ MayReady old e ready = (retry : Option Retry)
 -- a call asks for it, and its answer and its output are those of the reply. A call on a queue does what the queue's own
 -- call does
 abbrev pub Does : SessionState → Exchange → Deed → SessionState → Type 0
-Does old e nothing new = Refuses e.answer × (e.after ≡ e.before) × (new ≡ old)
+Does old e nothing new = IsRefused old e (slice_get kinds e.call.kind) × (e.after ≡ e.before) × (new ≡ old)
 Does old e (made s r) new = (kind : Kind) × (slice_get kinds e.call.kind ≡ Some kind) × IsSetup kind e.call s
     × SetsUp old.machine s r new.machine × (new.queues ≡ old.queues) × (e.answer ≡ answer_of_setup r)
     × (e.after ≡ e.before)
 Does old e (ran c r) new = (kind : Kind) × (slice_get kinds e.call.kind ≡ Some kind)
     × (command_at kind e.call e.input ≡ Some c) × Step old.machine c r new.machine × (new.queues ≡ old.queues)
-    × (e.answer ≡ answer_of r) × Fills old.machine c r e.before e.after
+    × (e.answer ≡ answer_of r) × (e.after ≡ output_after old.machine c r e.before) × HasRoom old.machine c r e.before
 Does old e (marked r) new = (kind : Kind) × (slice_get kinds e.call.kind ≡ Some kind)
     × Marks kind old.machine e.call r new.machine × (new.queues ≡ old.queues) × (e.answer ≡ answer_of r)
     × (e.after ≡ e.before)

@@ -38,30 +38,35 @@ room_for old (command.Lookup table iova n access) =
     length (bytes_of (outcome old (command.Lookup table iova n access)).0)
 room_for old c = 0
 
--- a read fills a buffer as the call of a machine does, unless an allocation fails
-abbrev pub FillsFrom : State → ℕ → ℕ → ℕ → replies.Reply → List ℕ → List ℕ → Type 0
-FillsFrom old memory a n r out out' =
-    (out' ≡ buffer_after old memory a (take n out) ++ drop n out) ⊎ ((r ≡ reply.Memory) × (out' ≡ out))
+-- an output after a read of n bytes that replies so: the bytes that the read reaches are its front, and the others
+-- stay. If an allocation failed, all stay
+abbrev pub read_into : State → ℕ → ℕ → ℕ → replies.Reply → List ℕ → List ℕ
+read_into old memory a n reply.Memory out = out
+read_into old memory a n r out = buffer_after old memory a (take n out) ++ drop n out
 
 -- the output has bytes at its front, as many of them as it has room for
 abbrev pub begins_with : List ℕ → List ℕ → List ℕ
 begins_with bytes out = take (length out) bytes ++ drop (length bytes) out
 
 -- an output after a command that replies so: the bytes of the reply are its front, and the others stay
-abbrev pub Fills : State → commands.Command → replies.Reply → List ℕ → List ℕ → Type 0
-Fills old (command.Read memory addr n) r out out' = FillsFrom old memory addr.0 n r out out'
-Fills old (command.ReadSlice memory addr n) r out out' = FillsFrom old memory addr.0 n r out out'
-Fills old (command.WriteTo memory addr n sink) r out out' = out' ≡ begins_with (bytes_of r) out
-Fills old (command.WriteAllTo memory addr n sink) r out out' = out' ≡ begins_with (bytes_of r) out
-Fills old (command.Dirty id) r out out' = out' ≡ begins_with (bytes_of r) out
-Fills old (command.Harvest id) r out out' = out' ≡ begins_with (bytes_of r) out
-Fills old (command.Lookup table iova n access) r out out' = out' ≡ begins_with (bytes_of r) out
-Fills old c r out out' = out' ≡ out
+abbrev pub output_after : State → commands.Command → replies.Reply → List ℕ → List ℕ
+output_after old (command.Read memory addr n) r out = read_into old memory addr.0 n r out
+output_after old (command.ReadSlice memory addr n) r out = read_into old memory addr.0 n r out
+output_after old (command.WriteTo memory addr n sink) r out = begins_with (bytes_of r) out
+output_after old (command.WriteAllTo memory addr n sink) r out = begins_with (bytes_of r) out
+output_after old (command.Dirty id) r out = begins_with (bytes_of r) out
+output_after old (command.Harvest id) r out = begins_with (bytes_of r) out
+output_after old (command.Lookup table iova n access) r out = begins_with (bytes_of r) out
+output_after old c r out = out
+
+-- the output has room for what a command puts there, or an allocation failed, and nothing is put there
+abbrev pub HasRoom : State → commands.Command → replies.Reply → List ℕ → Type 0
+HasRoom old c r out = (room_for old c ≤ length out) ⊎ (r ≡ reply.Memory)
 
 -- the command runs, and the answer is its reply, if the output has room. Or an allocation fails, and nothing changes
 abbrev pub Runs : State → commands.Command → List ℕ → Answer → List ℕ → State → Type 0
-Runs old c out a out' new = (r : replies.Reply) × Step old c r new × (a ≡ answer_of r) × Fills old c r out out'
-    × ((room_for old c ≤ length out) ⊎ (r ≡ reply.Memory))
+Runs old c out a out' new = (r : replies.Reply) × Step old c r new × (a ≡ answer_of r)
+    × (out' ≡ output_after old c r out) × HasRoom old c r out
 
 -- a command is refused before it runs, since its output is too short
 abbrev pub IsShort : State → commands.Command → List ℕ → Answer → List ℕ → State → Type 0

@@ -19,9 +19,7 @@ use crate::marks::mark;
 use crate::messages::{message_in, take_message};
 use crate::miss::look_up;
 use crate::queue::{SessionQueue, make_queue};
-use crate::requests::{
-    add_used, complete_chain, needs_notification, pop, read_chain, write_chain,
-};
+use crate::requests::{add_used, complete_chain, needs_notification, pop, read_chain, write_chain};
 use crate::setup::set_up;
 use crate::work::work_on;
 use std::alloc::Global;

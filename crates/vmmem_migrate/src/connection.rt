@@ -23,6 +23,7 @@ pub struct Connection<'a, R> {
     stream: &'a TcpStream,
     until: Instant,
     sent: u64,
+    received: u64,
 }
 
 // So many seconds from now.
@@ -41,6 +42,7 @@ impl<'a, R: Clock> Connection<'a, R> {
             stream,
             until: after(rt, seconds)?,
             sent: 0,
+            received: 0,
         })
     }
 
@@ -53,6 +55,11 @@ impl<'a, R: Clock> Connection<'a, R> {
     /// How many bytes were written.
     pub fn sent(&self) -> u64 {
         self.sent
+    }
+
+    /// How many bytes were read.
+    pub fn received(&self) -> u64 {
+        self.received
     }
 
     /// Whether the time is over.
@@ -76,7 +83,9 @@ impl<'a, R: Clock> Read for Connection<'a, R> {
     fn read(&mut self, buf: &mut [u8]) -> io::Result<usize> {
         self.stream.set_read_timeout(Some(self.left()?))?;
         let mut stream = self.stream;
-        stream.read(buf)
+        let count = stream.read(buf)?;
+        self.received = self.received.saturating_add(count as u64);
+        Ok(count)
     }
 }
 

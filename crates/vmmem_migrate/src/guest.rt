@@ -111,9 +111,11 @@ fn add_two(host: &mut Host, block: BlockId, at: usize) {
     }
 }
 
-// Every eighth page stays zero.
-fn is_zero_page(page: usize) -> bool {
-    page % 8 == 7
+// The last page before one that is not among the zeros, or that page: of each eight the last `zeros` stay zero.
+fn written_page(page: usize, zeros: u64) -> usize {
+    let last = 7usize.saturating_sub(zeros as usize);
+    let behind = (page % 8).saturating_sub(last);
+    page.saturating_sub(behind)
 }
 
 // Fills a page with random bytes, of which the first is odd.
@@ -126,12 +128,17 @@ fn fill_page(host: &mut Host, spot: &Spot, rng: &mut Xoshiro256PlusPlus, bytes: 
     put(host, spot.block, spot.start, &bytes[..count]);
 }
 
-/// Fills the pages of a guest with random bytes, except every eighth one.
-pub fn fill(alloc: Global, host: &mut Host, layout: &Layout, seed: u64) -> Result<(), AllocError> {
-    let mut rng = Xoshiro256PlusPlus::seed_from_u64(seed);
+/// Fills the pages of a guest with random bytes, except those that stay zero.
+pub fn fill(
+    alloc: Global,
+    host: &mut Host,
+    layout: &Layout,
+    load: &Load,
+) -> Result<(), AllocError> {
+    let mut rng = Xoshiro256PlusPlus::seed_from_u64(load.seed);
     let mut bytes = vec![in alloc; 0u8; layout.page_size.get()]?;
     for page in 0..layout.pages {
-        if is_zero_page(page) {
+        if written_page(page, load.zeros) != page {
             continue;
         }
         if let Some(spot) = spot_of(host, layout, page) {
@@ -150,11 +157,8 @@ fn below(rng: &mut Xoshiro256PlusPlus, limit: usize) -> usize {
 }
 
 /// Writes a byte of a random page that is not one of zeros.
-pub fn write_page(host: &mut Host, layout: &Layout, rng: &mut Xoshiro256PlusPlus) {
-    let mut page = below(rng, layout.pages);
-    if is_zero_page(page) {
-        page = page.saturating_sub(1);
-    }
+pub fn write_page(host: &mut Host, layout: &Layout, rng: &mut Xoshiro256PlusPlus, zeros: u64) {
+    let page = written_page(below(rng, layout.pages), zeros);
     if let Some(spot) = spot_of(host, layout, page) {
         let at = below(rng, spot.len);
         add_two(host, spot.block, spot.start.saturating_add(at));

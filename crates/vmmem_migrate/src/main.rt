@@ -5,6 +5,7 @@ mod connection;
 mod digests;
 mod guest;
 mod options;
+mod outlet;
 mod picture;
 mod receiving;
 mod report;
@@ -33,7 +34,7 @@ use writers::{Pace, Shared, share};
 // A guest with random bytes, which runs.
 fn new_guest(alloc: Global, load: Load) -> Result<Shared> {
     let (mut host, layout) = guest_of(alloc, &load)?;
-    fill(alloc, &mut host, &layout, load.seed)?;
+    fill(alloc, &mut host, &layout, &load)?;
     Ok(share(host, layout, load))
 }
 

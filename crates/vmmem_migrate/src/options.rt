@@ -4,7 +4,7 @@ ghost use Rattle.std.specs.Prelude.{◌≡◌, ◌+◌, ◌<◌, ◌≤◌, ◌�
 use clap::builder::ValueParser;
 use clap::error::ErrorKind;
 use clap::{Arg, ArgAction, ArgMatches, Command, Error};
-use live_migration::Policy;
+use live_migration::{Options, Policy, Stop};
 use std::alloc::{AllocError, Global};
 
 /// The guest that is sent.
@@ -20,6 +20,8 @@ pub struct Load {
     pub rate: u64,
     /// What decides the bytes of its memory and which pages are written.
     pub seed: u64,
+    /// How many of each eight pages stay zero.
+    pub zeros: u64,
 }
 
 /// What is asked of the sending end.
@@ -27,6 +29,10 @@ pub struct Load {
 pub struct Sending<'a> {
     pub load: Load,
     pub policy: Policy,
+    /// What the stream has.
+    pub options: Options,
+    /// How many bytes go over the stream in a second at most.
+    pub bandwidth: Option<u64>,
     /// Where a picture of the rounds goes.
     pub svg: Option<&'a str>,
     /// Whether both ends compare digests of the blocks.
@@ -60,6 +66,12 @@ const MOST_MEMORY: u64 = 0x100_0000_0000;
 
 // The largest page that a migration may have.
 const MOST_PAGE: u64 = 0x10_0000;
+
+// The least bandwidth, in bytes a second: a batch has to come within the time that a receiver gives a frame.
+const LEAST_BANDWIDTH: u64 = 0x10_0000;
+
+// The longest downtime, in milliseconds: a day.
+const MOST_DOWNTIME: u64 = 86_400_000;
 
 // How many threads write at most.
 const MOST_THREADS: u64 = 64;
@@ -154,6 +166,13 @@ fn with_load<'a>(alloc: Global, command: Command<'a>) -> Result<Command<'a>, All
             (0, u64::MAX),
             "1",
             "what decides the bytes of the memory and which pages are written",
+        ))?
+        .arg(number(
+            alloc,
+            "zeros",
+            (0, 7),
+            "1",
+            "how many of each eight pages stay zero, 0 to 7",
         ))
 }
 
@@ -175,15 +194,33 @@ fn with_sending<'a>(alloc: Global, command: Command<'a>) -> Result<Command<'a>, 
             "the guest stops when fewer pages than these are dirty",
         ))?
         .arg(
+            Arg::new(alloc, "downtime")
+                .long("downtime")
+                .value_name("MS")
+                .value_parser(ValueParser::unsigned(1, MOST_DOWNTIME))
+                .help(
+                    "the guest stops when what is left takes fewer milliseconds than these at the rate of the last \
+                     rounds, in place of --stop-below [default: off]",
+                ),
+        )?
+        .arg(
+            Arg::new(alloc, "bandwidth")
+                .long("bandwidth")
+                .value_name("SIZE")
+                .help(
+                    "how many bytes of pages are sent in a second at most, 1M or more [default: no limit]",
+                ),
+        )?
+        .arg(flag(
+            alloc,
+            "digests",
+            "send SHA-256 of all that was sent with each end of a round, which both ends compute [default: off]",
+        ))?
+        .arg(
             Arg::new(alloc, "svg").long("svg").value_name("FILE").help(
                 "draw the rounds as a picture into this file [default: no picture]",
             ),
         )?
-        .arg(flag(
-            alloc,
-            "times",
-            "print how long each round took, in milliseconds [default: off]",
-        ))?
         .arg(verify(alloc))
 }
 
@@ -210,7 +247,12 @@ fn demo_command<'a>(alloc: Global) -> Result<Command<'a>, AllocError> {
             "Is both ends, over loopback; the writes are counted, so that it prints the same each time",
         )
         .after_help(UNITS)
-        .arg(limit(alloc))?;
+        .arg(limit(alloc))?
+        .arg(flag(
+            alloc,
+            "times",
+            "print how long each round took, in milliseconds, and its rate [default: off]",
+        ))?;
     with_sending(alloc, command)
 }
 
@@ -233,19 +275,27 @@ fn bytes_of(text: &str) -> Option<u64> {
     text.parse::<u64>().ok()
 }
 
-// An option whose value is no size of 1 to so many bytes.
+// An option whose value is no size between two.
 struct NoSize<'a> {
     name: &'static str,
     value: &'a str,
-    most: u64,
+    bounds: (u64, u64),
 }
 
-// The bytes that an option says, from 1 to so many.
-fn bytes_in<'a>(found: &ArgMatches<'a>, name: &'static str, most: u64) -> Result<u64, NoSize<'a>> {
+// The bytes that an option says, if they are between two.
+fn bytes_in<'a>(
+    found: &ArgMatches<'a>,
+    name: &'static str,
+    bounds: (u64, u64),
+) -> Result<u64, NoSize<'a>> {
     let value = found.get_str(name).unwrap_or("");
     match bytes_of(value) {
-        Some(bytes) if bytes > 0 && bytes <= most => Ok(bytes),
-        _ => Err(NoSize { name, value, most }),
+        Some(bytes) if bytes >= bounds.0 && bytes <= bounds.1 => Ok(bytes),
+        _ => Err(NoSize {
+            name,
+            value,
+            bounds,
+        }),
     }
 }
 
@@ -256,31 +306,52 @@ fn number_in(found: &ArgMatches<'_>, name: &str) -> u64 {
 
 fn load_in<'a>(found: &ArgMatches<'a>) -> Result<Load, NoSize<'a>> {
     Ok(Load {
-        size: bytes_in(found, "size", MOST_MEMORY)? as usize,
-        page_size: bytes_in(found, "page-size", MOST_PAGE)? as usize,
+        size: bytes_in(found, "size", (1, MOST_MEMORY))? as usize,
+        page_size: bytes_in(found, "page-size", (1, MOST_PAGE))? as usize,
         threads: number_in(found, "threads"),
         rate: number_in(found, "rate"),
         seed: number_in(found, "seed"),
+        zeros: number_in(found, "zeros"),
     })
 }
 
-fn sending_in<'a>(found: &ArgMatches<'a>) -> Result<Sending<'a>, NoSize<'a>> {
+// When the guest stops: within a downtime, if there is one, and else below a number of pages.
+fn stop_in(found: &ArgMatches<'_>) -> Stop {
+    match found.get_one::<u64>("downtime") {
+        Some(millis) => Stop::Within(millis.saturating_mul(1000)),
+        None => Stop::Below(number_in(found, "stop-below")),
+    }
+}
+
+fn bandwidth_in<'a>(found: &ArgMatches<'a>) -> Result<Option<u64>, NoSize<'a>> {
+    match found.get_str("bandwidth") {
+        Some(_) => Ok(Some(bytes_in(found, "bandwidth", (LEAST_BANDWIDTH, u64::MAX))?)),
+        None => Ok(None),
+    }
+}
+
+fn sending_in<'a>(found: &ArgMatches<'a>, times: bool) -> Result<Sending<'a>, NoSize<'a>> {
     let policy = Policy {
         max_rounds: number_in(found, "max-rounds"),
-        stop_below: number_in(found, "stop-below") as usize,
+        stop: stop_in(found),
+    };
+    let options = Options {
+        digests: found.get_flag("digests"),
     };
     Ok(Sending {
         load: load_in(found)?,
         policy,
+        options,
+        bandwidth: bandwidth_in(found)?,
         svg: found.get_str("svg"),
         verify: found.get_flag("verify"),
-        times: found.get_flag("times"),
+        times,
     })
 }
 
 fn receiving_in<'a>(found: &ArgMatches<'a>) -> Result<Receiving, NoSize<'a>> {
     Ok(Receiving {
-        limit: bytes_in(found, "limit", u64::MAX)?,
+        limit: bytes_in(found, "limit", (1, u64::MAX))?,
         verify: found.get_flag("verify"),
     })
 }
@@ -289,8 +360,11 @@ fn asked_in<'a>(name: &str, found: &ArgMatches<'a>) -> Result<Asked<'a>, NoSize<
     let address = found.get_str("address").unwrap_or(LOOPBACK);
     match name {
         "receive" => Ok(Asked::Receive(address, receiving_in(found)?)),
-        "send" => Ok(Asked::Send(address, sending_in(found)?)),
-        _ => Ok(Asked::Demo(receiving_in(found)?, sending_in(found)?)),
+        "send" => Ok(Asked::Send(address, sending_in(found, true)?)),
+        _ => {
+            let times = found.get_flag("times");
+            Ok(Asked::Demo(receiving_in(found)?, sending_in(found, times)?))
+        }
     }
 }
 
@@ -304,9 +378,15 @@ pub fn read_words<'a>(alloc: Global, words: &'a [String]) -> Result<Asked<'a>, E
     };
     match asked_in(name, found) {
         Ok(asked) => Ok(asked),
-        Err(NoSize { name, value, most }) => {
+        Err(
+            NoSize {
+                name,
+                value,
+                bounds: (least, most),
+            },
+        ) => {
             let text = format!(in alloc;
-                "invalid value '{value}' for '--{name} <SIZE>': a size is 1 to {most} bytes"
+                "invalid value '{value}' for '--{name} <SIZE>': a size is {least} to {most} bytes"
             )?;
             Err(command.error(ErrorKind::ValueValidation, text.as_str())?)
         }

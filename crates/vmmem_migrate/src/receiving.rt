@@ -3,16 +3,16 @@
 use crate::connection::{Connection, PATIENCE, VERIFY_PATIENCE};
 use crate::digests::{read_digests, send_digests};
 use crate::guest::{Host, digests_of};
-use crate::report::tell_round;
+use crate::report::{Came, micros_since, tell_came, tell_left};
 use anyhow::{Result, anyhow, bail};
 use live_migration::{Guest, Receiver, Refusal, Reply, Stage};
 use std::alloc::Global;
 use std::io::{BufReader, Write};
 use std::net::TcpStream;
-use std::time::Clock;
+use std::time::{Clock, Instant};
 
 // How many bytes are read ahead.
-const AHEAD: usize = 0x4_0000;
+const AHEAD: usize = 0x1_0000;
 
 /// A guest that came, or none if all of it came but leave to run it, and the connection on which it came.
 #[derive(Drop)]
@@ -43,7 +43,20 @@ struct ReceivingEnd<'a, R> {
     receiver: Receiver,
     rounds: u64,
     frames: u64,
+    round: Round,
 }
+
+// The round that comes: when it began, how many frames and bytes had come then, and when its last line was printed.
+#[derive(Clone, Copy)]
+struct Round {
+    start: Instant,
+    frames: u64,
+    bytes: u64,
+    told: Instant,
+}
+
+// How many microseconds lie between two lines of a round.
+const TELLING: u64 = 1_000_000;
 
 // Sends back why something is refused, if that can be, and tells it.
 fn refuse<R: Clock>(
@@ -79,6 +92,8 @@ fn begin<'a, R: Clock>(
     };
     writer.allow(PATIENCE)?;
     writer.write_all(&Reply::Ready.encode())?;
+    let now = Instant::now(rt)?;
+    let bytes = reader.get_ref().received();
     Ok(ReceivingEnd {
         rt,
         tells,
@@ -88,6 +103,12 @@ fn begin<'a, R: Clock>(
         receiver,
         rounds: 0,
         frames: 0,
+        round: Round {
+            start: now,
+            frames: 0,
+            bytes,
+            told: now,
+        },
     })
 }
 
@@ -101,11 +122,42 @@ impl<'a, R: Clock + Print> ReceivingEnd<'a, R> {
         self.receiver.take(&mut self.reader, &mut self.host)
     }
 
-    // Counts a round, and tells how many frames have come.
+    // What came of this round.
+    fn came(&self) -> Result<Came> {
+        let received = self.reader.get_ref().received();
+        Ok(Came {
+            round: self.rounds,
+            frames: self.frames.saturating_sub(self.round.frames),
+            bytes: received.saturating_sub(self.round.bytes),
+            micros: micros_since(self.rt, self.round.start)?,
+        })
+    }
+
+    // Tells each second what came of this round, and how much of the first is left.
+    fn tell_progress(&mut self) -> Result<()> {
+        if self.tells && micros_since(self.rt, self.round.told)? >= TELLING {
+            self.round.told = Instant::now(self.rt)?;
+            let came = self.came()?;
+            tell_came(self.rt, came, false)?;
+            if self.rounds == 0 {
+                tell_left(self.rt, self.receiver.memory().saturating_sub(came.bytes))?;
+            }
+        }
+        Ok(())
+    }
+
+    // Counts a round, and tells what came of it.
     fn end_round(&mut self) -> Result<()> {
         if self.tells {
-            tell_round(self.rt, self.rounds, self.frames)?;
+            tell_came(self.rt, self.came()?, true)?;
         }
+        let now = Instant::now(self.rt)?;
+        self.round = Round {
+            start: now,
+            frames: self.frames,
+            bytes: self.reader.get_ref().received(),
+            told: now,
+        };
         self.rounds = self.rounds.saturating_add(1);
         Ok(())
     }
@@ -117,7 +169,7 @@ impl<'a, R: Clock + Print> ReceivingEnd<'a, R> {
             match self.take() {
                 Ok(Stage::Done) => return Ok(()),
                 Ok(Stage::RoundEnded) => self.end_round()?,
-                Ok(Stage::Round) => {}
+                Ok(Stage::Round) => self.tell_progress()?,
                 Ok(Stage::Gone) | Ok(Stage::Failed) => bail!("frame out of order"),
                 Err(refusal) => return Err(refuse(&self.reader, &mut self.writer, refusal)),
             }

@@ -2,6 +2,7 @@
 
 use crate::options::Load;
 use anyhow::Result;
+use live_migration::{Rate, Stop};
 use std::alloc::{AllocError, Global};
 use std::time::{Clock, Duration, Instant};
 
@@ -61,7 +62,7 @@ fn bar_of(alloc: Global, pages: usize, all: usize) -> Result<String, AllocError>
 /// The line above the rounds.
 pub fn tell_head(rt: &impl Print, times: bool) -> Result<()> {
     if times {
-        println!(rt; "round   pages sent        bytes         ms   left behind")?;
+        println!(rt; "round   pages sent        bytes         ms     MB/s   left behind")?;
     } else {
         println!(rt; "round   pages sent        bytes   left behind")?;
     }
@@ -87,8 +88,9 @@ pub fn tell_row(
     } = *row;
     if times {
         let millis = millis_text(alloc, micros)?;
+        let rate = bytes.checked_div(micros).unwrap_or(0);
         println!(rt;
-            "{number:>5} {pages:>12} {bytes:>12} {:>10} {left:>13}  {bar}",
+            "{number:>5} {pages:>12} {bytes:>12} {:>10} {rate:>8} {left:>13}  {bar}",
             millis.as_str()
         )?;
     } else {
@@ -103,9 +105,61 @@ pub fn tell_no_headway(rt: &impl Print, before: usize) -> Result<()> {
     Ok(())
 }
 
-/// The line of a round at the receiver, after this many frames.
-pub fn tell_round(rt: &impl Print, number: u64, frames: u64) -> Result<()> {
-    println!(rt; "round {number} ended, {frames} frames so far")?;
+// How many rounds the rate is taken of.
+const LAST: usize = 2;
+
+/// What the last two rounds sent, and in how many microseconds.
+pub fn rate_of(rows: &[Row]) -> Rate {
+    let (_, _, bytes, micros) = sums(&rows[rows.len().saturating_sub(LAST)..]);
+    Rate { bytes, micros }
+}
+
+/// The line of a round that goes on: how many pages of its block are left to be copied, and how many bytes were sent.
+pub fn tell_progress(rt: &impl Print, left: usize, sent: u64) -> Result<()> {
+    println!(rt; "      {left} pages of the block are left, {sent} bytes sent so far")?;
+    Ok(())
+}
+
+/// The line of the pause beside what was allowed, if a time was.
+pub fn tell_pause(rt: &impl Print, alloc: Global, stop: Stop, pause: u64) -> Result<()> {
+    if let Stop::Within(micros) = stop {
+        let took = millis_text(alloc, pause)?;
+        let allowed = millis_text(alloc, micros)?;
+        println!(rt;
+            "the guest stood for {} ms, of {} ms that were allowed",
+            took.as_str(),
+            allowed.as_str()
+        )?;
+    }
+    Ok(())
+}
+
+/// What came of a round, in how many microseconds.
+#[derive(Clone, Copy)]
+pub struct Came {
+    pub round: u64,
+    pub frames: u64,
+    pub bytes: u64,
+    pub micros: u64,
+}
+
+/// The line of a round at the receiver: what came of it so far, and at which rate, or all that came if it has ended.
+pub fn tell_came(rt: &impl Print, came: Came, has_ended: bool) -> Result<()> {
+    let Came {
+        round,
+        frames,
+        bytes,
+        micros,
+    } = came;
+    let rate = bytes.checked_div(micros).unwrap_or(0);
+    let word = if has_ended { "ended" } else { "goes on" };
+    println!(rt; "round {round} {word}: {frames} frames, {bytes} bytes, {rate} MB/s")?;
+    Ok(())
+}
+
+/// How many bytes of memory are left to come in the first round, at most.
+pub fn tell_left(rt: &impl Print, bytes: u64) -> Result<()> {
+    println!(rt; "      at most {bytes} bytes are left of the first round")?;
     Ok(())
 }
 

@@ -3,18 +3,23 @@
 use crate::connection::{Connection, PATIENCE, READY_PATIENCE, VERIFY_PATIENCE};
 use crate::digests::{compare, read_digests, send_digests};
 use crate::options::Sending;
+use crate::outlet::{Outlet, write_out};
 use crate::report::{
-    Rounds, Row, micros_since, tell_head, tell_no_headway, tell_row, tell_table, tell_writers,
+    Rounds, Row, micros_since, rate_of, tell_head, tell_no_headway, tell_pause, tell_progress,
+    tell_row, tell_table, tell_writers,
 };
 use crate::writers::{Pace, Shared, write_on};
 use anyhow::{Context, Result, anyhow, bail};
-use live_migration::{Refusal, Reply, SendError, Sender};
+use live_migration::{Left, Options, Refusal, Reply, SendError, Sender};
 use std::alloc::Global;
 use std::io::{Read, Write};
 use std::net::TcpStream;
 use std::sync::Wait;
 use std::thread::{self, Threads};
 use std::time::{Clock, Instant};
+
+// How many microseconds lie between two lines of a round.
+const TELLING: u64 = 1_000_000;
 
 // The sending end of a migration: its guest is written by other threads.
 #[derive(Drop)]
@@ -25,8 +30,13 @@ struct SendingEnd<'a, R> {
     asked: Sending<'a>,
     pace: Pace,
     connection: Connection<'a, R>,
+    // What was copied goes through this list to the outlet, which another thread writes to the connection.
+    copied: Vec<u8>,
+    outlet: &'a Outlet,
     sender: Sender,
     rounds: Rounds,
+    // When the last line was printed.
+    told: Instant,
 }
 
 // A sender, and its header, which waits to be sent.
@@ -34,11 +44,12 @@ fn first_sender<R: Wait>(
     rt: &R,
     alloc: Global,
     shared: &Shared,
+    options: Options,
 ) -> Result<(Sender, Vec<u8>), SendError> {
     let mut header = Vec::new(alloc);
     let running = shared.running.lock(rt);
     let places = shared.layout.places.as_slice();
-    let sender = Sender::begin(alloc, &running.host, places, &mut header)?;
+    let sender = Sender::begin(alloc, &running.host, places, options, &mut header)?;
     Ok((sender, header))
 }
 
@@ -67,7 +78,7 @@ impl<'a, R: Clock + Print + Wait> SendingEnd<'a, R> {
         self.sender.copy_batch(&running.host)
     }
 
-    // Copies and sends so many pages that wait.
+    // Copies and sends so many pages that wait: while some are copied, another thread writes those before them.
     fn send_waiting(&mut self, count: usize) -> Result<()> {
         let mut left = count;
         for _ in 0..u64::MAX {
@@ -75,8 +86,18 @@ impl<'a, R: Clock + Print + Wait> SendingEnd<'a, R> {
                 break;
             }
             left = left.saturating_sub(self.copy()?);
-            self.connection.allow(PATIENCE)?;
-            self.sender.send_batch(&mut self.connection)?;
+            self.sender.send_batch(&mut self.copied)?;
+            self.outlet.put(self.rt, &mut self.copied)?;
+            self.tell_progress(left)?;
+        }
+        Ok(())
+    }
+
+    // Tells each second how many pages of a block are left to be copied, and the rate since the round began.
+    fn tell_progress(&mut self, left: usize) -> Result<()> {
+        if self.asked.times && micros_since(self.rt, self.told)? >= TELLING {
+            self.told = Instant::now(self.rt)?;
+            tell_progress(self.rt, left, self.outlet.sent(self.rt))?;
         }
         Ok(())
     }
@@ -95,7 +116,23 @@ impl<'a, R: Clock + Print + Wait> SendingEnd<'a, R> {
             }
             self.send_waiting(count)?;
         }
+        self.outlet.flush(self.rt)?;
         Ok(pages)
+    }
+
+    // How many bytes were sent.
+    fn sent(&self) -> u64 {
+        let copied = self.outlet.sent(self.rt);
+        self.connection.sent().saturating_add(copied)
+    }
+
+    // What so many pages are to the policy.
+    fn left_of(&self, pages: usize) -> Left {
+        let page_size = self.shared.layout.page_size.get() as u64;
+        Left {
+            pages: pages as u64,
+            bytes: (pages as u64).saturating_mul(page_size),
+        }
     }
 
     // Sends what goes with the guest beside its memory: how many pages were written.
@@ -109,7 +146,7 @@ impl<'a, R: Clock + Print + Wait> SendingEnd<'a, R> {
     // Sends a round, and tells how many pages are dirty behind it.
     fn send_round(&mut self, is_last: bool) -> Result<Row> {
         let start = Instant::now(self.rt)?;
-        let before = self.connection.sent();
+        let before = self.sent();
         let pages = self.send_pages(is_last)?;
         self.connection.allow(PATIENCE)?;
         if is_last {
@@ -120,7 +157,7 @@ impl<'a, R: Clock + Print + Wait> SendingEnd<'a, R> {
         self.sender.end_round(self.alloc, &mut self.connection)?;
         Ok(Row {
             pages,
-            bytes: self.connection.sent().saturating_sub(before),
+            bytes: self.sent().saturating_sub(before),
             micros: micros_since(self.rt, start)?,
             left: self.shared.dirty(self.rt, self.alloc)?,
         })
@@ -142,7 +179,8 @@ impl<'a, R: Clock + Print + Wait> SendingEnd<'a, R> {
         tell_head(self.rt, times)?;
         for number in 0..u64::MAX {
             let start = Instant::now(self.rt)?;
-            let is_last = self.asked.policy.is_last(number, left);
+            let rate = rate_of(self.rounds.rows.as_slice());
+            let is_last = self.asked.policy.is_last(number, self.left_of(left), rate);
             if is_last {
                 self.shared.stop(self.rt);
             }
@@ -221,6 +259,12 @@ impl<'a, R: Clock + Print + Wait> SendingEnd<'a, R> {
     fn tell(&mut self) -> Result<()> {
         println!(self.rt; "the guest was given up")?;
         tell_table(self.rt, self.alloc, self.asked.times, &self.rounds)?;
+        tell_pause(
+            self.rt,
+            self.alloc,
+            self.asked.policy.stop,
+            self.rounds.pause,
+        )?;
         tell_writers(self.rt, &self.shared.load, self.shared.written(self.rt))?;
         if self.asked.verify {
             self.verify()?;
@@ -234,15 +278,16 @@ fn begin<'a, R: Clock + Wait>(
     rt: &'a R,
     alloc: Global,
     shared: &'a Shared,
-    stream: &'a TcpStream,
+    ways: (&'a TcpStream, &'a Outlet),
     how: (Sending<'a>, Pace),
 ) -> Result<SendingEnd<'a, R>> {
-    let (mut sender, header) = first_sender(rt, alloc, shared)?;
+    let (asked, pace) = how;
+    let (stream, outlet) = ways;
+    let (mut sender, header) = first_sender(rt, alloc, shared, asked.options)?;
     let mut connection = Connection::new(rt, stream, PATIENCE)?;
     connection.write_all(header.as_slice())?;
     connection.allow(READY_PATIENCE)?;
     await_ready(&mut sender, &mut connection)?;
-    let (asked, pace) = how;
     Ok(SendingEnd {
         rt,
         alloc,
@@ -250,11 +295,14 @@ fn begin<'a, R: Clock + Wait>(
         asked,
         pace,
         connection,
+        copied: Vec::new(alloc),
+        outlet,
         sender,
         rounds: Rounds {
             rows: Vec::new(alloc),
             pause: 0,
         },
+        told: Instant::now(rt)?,
     })
 }
 
@@ -264,10 +312,10 @@ fn migrate<R: Clock + Print + Wait>(
     rt: &R,
     alloc: Global,
     shared: &Shared,
-    stream: &TcpStream,
+    ways: (&TcpStream, &Outlet),
     how: (Sending<'_>, Pace),
 ) -> Result<Rounds> {
-    let mut end = begin(rt, alloc, shared, stream, how).context("the guest stays here")?;
+    let mut end = begin(rt, alloc, shared, ways, how).context("the guest stays here")?;
     match end.send_guest() {
         Err(error) => {
             let error = match end.refusal() {
@@ -296,18 +344,27 @@ pub fn run<R: Clock + Print + Sync + Threads + Wait>(
     how: (Sending<'_>, Pace),
 ) -> Result<Rounds> {
     let pace = how.1;
+    let limit = how.0.bandwidth;
+    let outlet = Outlet::new(alloc);
+    let outlet = &outlet;
     thread::scope(thread::scope_env(), rt, move |scope| -> Result<Rounds> {
+        let mut is_started = scope
+            .spawn(move || write_out(rt, alloc, outlet, stream, limit))
+            .is_ok();
         for writer in 0..shared.load.threads {
-            if scope
-                .spawn(move || write_on(rt, shared, writer, pace))
-                .is_err()
-            {
-                shared.stop(rt);
-                bail!("a thread could not be started");
+            if is_started {
+                is_started = scope
+                    .spawn(move || write_on(rt, shared, writer, pace))
+                    .is_ok();
             }
         }
-        let moved = migrate(rt, alloc, shared, stream, how);
+        let moved = if is_started {
+            migrate(rt, alloc, shared, (stream, outlet), how)
+        } else {
+            Err(anyhow!("a thread could not be started"))
+        };
         shared.stop(rt);
+        outlet.close(rt);
         moved
     })
 }

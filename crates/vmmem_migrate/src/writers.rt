@@ -119,7 +119,7 @@ impl Shared {
         let mut guard = self.running.lock(rt);
         let running = &mut *guard;
         if running.runs {
-            write_pages(running, &self.layout, rng, count);
+            write_pages(running, self, rng, count);
         }
         running.runs
     }
@@ -136,7 +136,7 @@ impl Shared {
         if !running.runs {
             return false;
         }
-        write_pages(running, &self.layout, rng, 1);
+        write_pages(running, self, rng, 1);
         let is_done = running.due <= done.saturating_add(1);
         drop(guard);
         if is_done {
@@ -146,9 +146,9 @@ impl Shared {
     }
 }
 
-fn write_pages(running: &mut Running, layout: &Layout, rng: &mut Xoshiro256PlusPlus, count: u64) {
+fn write_pages(running: &mut Running, shared: &Shared, rng: &mut Xoshiro256PlusPlus, count: u64) {
     for _ in 0..count {
-        write_page(&mut running.host, layout, rng);
+        write_page(&mut running.host, &shared.layout, rng, shared.load.zeros);
     }
     running.written = running.written.saturating_add(count);
 }

@@ -125,6 +125,8 @@ fn asked(answer: Result<bool, QueueError>) -> Result<(), QueueError> {
 impl Request for QueueTurn {
     ghost is_done = { λ _. Unit {0} };
 
+    ghost tries = { λ marks r outcome s old new. Unit {0} };
+
     fn attempt<B: Bitmap>(&mut self, host: &mut HostMemory<B>) -> Outcome {
         if let Act::Pop = self.act {
             return self.pop(host);

@@ -1,17 +1,17 @@
 //! The beginning of a receiver: the header, and the blocks that it asks for.
 ghost use Rattle.std.specs.Prelude.{◌≡◌, ℕ, ◌+◌, ◌-◌, ◌*◌, ◌^◌, ◌<◌, ◌≤◌, List, [], ◌++◌, ◌⊎◌, length, replicate, take, IfOk, IfErr, OnOk};
 ghost use Rattle.std.specs.Io.KnownBytes.{Consumes};
-ghost use Rattle.sha2.specs.Hashers.{Holds256};
+ghost use Rattle.live_migration.specs.Digests.{HasNoted};
 ghost use Rattle.live_migration.specs.declared.receiver.Stage.TheVariants as stages;
 ghost use Rattle.live_migration.specs.declared.refusal.Refusal.TheVariants as refusals;
 ghost use Rattle.live_migration.specs.Receiving.{Begins, BreaksMaking, memory_of, zeroed};
 
 use super::{Progress, Receiver, Stage};
+use crate::digest::StreamHasher;
 use crate::frame::MOST_PAGE_BYTES;
-use crate::header::{BlockEntry, ENTRY, FRONT, decode_header, front_in};
+use crate::header::{BlockEntry, ENTRY, FRONT, Header, decode_header, front_in};
 use crate::refusal::Refusal;
 use crate::stream::read_bytes;
-use sha2::{Digest, Sha256};
 use std::alloc::{AllocError, Global};
 use std::io::Read;
 use vm_memory_base::NewBitmap;
@@ -24,7 +24,7 @@ fn read_header<R: Read>(alloc: Global, reader: &mut R) -> Result<Vec<u8>, Refusa
 {
     let mut bytes = Vec::new(alloc);
     read_bytes(reader, &mut bytes, FRONT)?;
-    let (count, _rest) = front_in(bytes.as_slice())?;
+    let (_digests, count, _rest) = front_in(bytes.as_slice())?;
     let mut blocks = Vec::new(alloc);
     read_bytes(reader, &mut blocks, count as usize * ENTRY)?;
     if bytes.extend_from_slice(blocks.as_slice()).is_err() {
@@ -96,15 +96,16 @@ fn zeros_of(alloc: Global, count: usize) -> Result<Vec<u8>, AllocError>
 // What a receiver has after this header.
 fn first_progress(
     alloc: Global,
-    header: &[u8],
-    entries: Vec<BlockEntry>,
+    bytes: &[u8],
+    header: Header,
     limit: u64,
 ) -> Result<Progress, Refusal>
-    ensures { IfOk result (λ p. (p.entries.items ≡ entries.items) × (p.stage ≡ stages.Round) × (p.round ≡ 0)
-        × (p.left ≡ limit - memory_of entries.items) × Holds256 p.hasher header.now) }
+    ensures { IfOk result (λ p. (p.entries.items ≡ header.entries.items) × (p.stage ≡ stages.Round) × (p.round ≡ 0)
+        × (p.left ≡ limit - memory_of header.entries.items) × HasNoted header.options.digests p.hasher bytes.now) }
 {
-    let mut hasher = Sha256::new();
-    hasher.update(header);
+    let Header { options, entries } = header;
+    let mut hasher = StreamHasher::new(options.digests);
+    hasher.note(bytes);
     let left = left_of(entries.as_slice(), limit);
     let Ok(zeros) = zeros_of(alloc, largest_page(entries.as_slice())) else {
         return Err(Refusal::Memory);
@@ -140,9 +141,9 @@ impl Receiver {
         ensures refused { IfErr result (λ error. (host.new ≡ host.old) ⊎ BreaksMaking limit (R.remaining reader.old)
             (R.remaining reader.new) error host.old.blocks host.new.blocks) }
     {
-        let header = read_header(alloc, reader)?;
-        let entries = decode_header(alloc, limit, header.as_slice())?;
-        let mut seen = first_progress(alloc, header.as_slice(), entries, limit)?;
+        let bytes = read_header(alloc, reader)?;
+        let header = decode_header(alloc, limit, bytes.as_slice())?;
+        let mut seen = first_progress(alloc, bytes.as_slice(), header, limit)?;
         seen.base = make_blocks(host, seen.entries.as_slice())?;
         Ok(Receiver {
             seen,

@@ -1,6 +1,7 @@
 //! A receiver to its end.
-ghost use Rattle.std.specs.Prelude.{◌≡◌, ℕ, take, OnOk, OnErr, MatchResult};
+ghost use Rattle.std.specs.Prelude.{◌≡◌, ◌-◌, ◌^◌, ℕ, min, take, OnOk, OnErr, MatchResult};
 ghost use Rattle.std.specs.Io.KnownBytes.{Appends};
+ghost use Rattle.live_migration.specs.Receiving.{memory_of};
 ghost use Rattle.live_migration.specs.Replies.{reply_after};
 
 use super::{Progress, Receiver, Section, Stage};
@@ -38,6 +39,17 @@ fn reply_after<W: Write>(stage: Stage, writer: &mut W) -> Result<(), Refusal>
     Ok(())
 }
 
+// How many bytes blocks have.
+fn bytes_in(entries: &[BlockEntry]) -> u64
+    ensures { result ≡ min (2 ^ 64 - 1) (memory_of entries.now) }
+{
+    let mut bytes = 0u64;
+    for entry in entries {
+        bytes = bytes.saturating_add(entry.len);
+    }
+    bytes
+}
+
 impl Receiver {
     ghost use Rattle.live_migration.specs.Receiving.{BreaksReceiving, GivesOut, Receives, ReceivesAll};
     ghost use Rattle.live_migration.specs.declared.receiver.Stage.TheVariants as stage;
@@ -67,6 +79,13 @@ impl Receiver {
             reply_after(stage, writer)?;
         }
         Err(Refusal::Order)
+    }
+
+    /// How many bytes of memory the header's blocks have.
+    pub fn memory(&self) -> u64
+        ensures { result ≡ min (2 ^ 64 - 1) (memory_of self.now.seen.entries.items) }
+    {
+        bytes_in(self.seen.entries.as_slice())
     }
 
     /// Hands the guest over if the sender has permitted to run it, and otherwise returns the receiver.

@@ -1,15 +1,14 @@
 //! How far a receiver has come.
-ghost use Rattle.std.specs.Prelude.{◌≡◌, ℕ, ◌+◌, ◌^◌, ◌<◌, ◌≤◌, List, [], ◌∷◌, ◌++◌, length, replicate, sum_by, IfOk, OnOk, OnErr, Ok, Err};
-ghost use Rattle.sha2.specs.Hashers.{Holds256};
-ghost use Rattle.sha2.specs.Sha256.{sha256};
+ghost use Rattle.std.specs.Prelude.{◌≡◌, ℕ, Bool, ◌+◌, ◌^◌, ◌<◌, ◌≤◌, List, [], ◌∷◌, ◌++◌, length, replicate, sum_by, IfOk, OnOk, OnErr, Ok, Err};
+ghost use Rattle.live_migration.specs.Digests.{HasNoted, digest_of};
 
 use super::{Stage, stage_after};
+use crate::digest::{StreamHasher, bytes_of};
 use crate::frame::{Frame, head_bytes};
 use crate::header::BlockEntry;
 use crate::placing::apply;
 use crate::refusal::Refusal;
 use crate::stream::read_frame;
-use sha2::{Digest, Sha256};
 use std::alloc::{AllocError, Global};
 use std::io::Read;
 use vm_memory_base::Bitmap;
@@ -35,7 +34,7 @@ pub struct Progress {
     pub(crate) entries: Vec<BlockEntry>,
     pub(crate) stage: Stage,
     pub(crate) round: u32,
-    pub(crate) hasher: Sha256,
+    pub(crate) hasher: StreamHasher,
     pub(crate) left: u64,
     pub(crate) longest: u32,
     pub(crate) zeros: Vec<u8>,
@@ -51,13 +50,6 @@ pub struct Receiver {
     pub(crate) payload: Vec<u8>,
 }
 
-// The digest of what a hasher holds.
-pub(crate) fn digest_of(hasher: &Sha256) -> Result<[u8; 32], AllocError>
-    ensures { (sent : List ℕ) → Holds256 hasher.now sent → IfOk result (λ digest. digest ≡ sha256 sent) }
-{
-    Ok(hasher.clone()?.finalize())
-}
-
 impl Progress {
     ghost use Rattle.std.specs.Prelude.{⊤};
     ghost use Rattle.vm_memory_guest.specs.Host.{Host};
@@ -67,11 +59,11 @@ impl Progress {
     ghost use Rattle.live_migration.specs.Stages.{stage_after};
     ghost use Rattle.live_migration.specs.declared.refusal.Refusal.TheVariants as refusals;
 
-    // Ends a round, if its number is the next and the digest is that of what came before.
+    // Ends a round, if its number is the next and the digest is that of what came before, or none if none is asked for.
     fn end_round(&mut self, round: u32, digest: &[u8]) -> Result<(), Refusal>
         ensures ok { OnOk result (self.new ≡ record self.old { round = self.old.round + 1 }) }
-        ensures right { OnOk result ((sent : List ℕ) → Holds256 self.old.hasher sent
-            → (round ≡ self.old.round) × (digest.now ≡ sha256 sent)) }
+        ensures right { OnOk result ((digests : Bool) (sent : List ℕ) → HasNoted digests self.old.hasher sent
+            → (round ≡ self.old.round) × (digest.now ≡ digest_of digests sent)) }
         ensures err { OnErr result (self.new ≡ self.old) }
     {
         if round != self.round {
@@ -80,10 +72,10 @@ impl Progress {
         let Some(next) = round.checked_add(1) else {
             return Err(Refusal::Order);
         };
-        let Ok(ours) = digest_of(&self.hasher) else {
+        let Ok(ours) = self.hasher.digest() else {
             return Err(Refusal::Memory);
         };
-        if digest != ours.as_slice() {
+        if digest != bytes_of(&ours) {
             return Err(Refusal::Digest);
         }
         self.round = next;
@@ -122,8 +114,8 @@ impl Progress {
             host.new) }
         ensures stage { OnOk result (stage_after self.old.stage (message_of frame.now) ≡ Ok self.new.stage) }
         ensures round { OnOk result (self.new.round ≡ round_after self.old.round (message_of frame.now)) }
-        ensures right { OnOk result ((sent : List ℕ) → Holds256 self.old.hasher sent
-            → IsRightEnd self.old.round sent (message_of frame.now)) }
+        ensures right { OnOk result ((digests : Bool) (sent : List ℕ) → HasNoted digests self.old.hasher sent
+            → IsRightEnd digests self.old.round sent (message_of frame.now)) }
         ensures kept { IsSectionKept self.old record self.new { round = self.old.round; stage = self.old.stage } }
         ensures sections { OnOk result (sections_told self.new
             ≡ sections_told self.old ++ section_in (message_of frame.now)) }
@@ -146,13 +138,13 @@ impl Progress {
     // Notes the bytes of a frame that was accepted.
     fn note(&mut self, kind: u32, payload: &[u8])
         requires { length payload.now < 2 ^ 32 }
-        ensures hashed { (sent : List ℕ) → Holds256 self.old.hasher sent
-            → Holds256 self.new.hasher (sent ++ (head kind (length payload.now) ++ payload.now)) }
+        ensures hashed { (digests : Bool) (sent : List ℕ) → HasNoted digests self.old.hasher sent
+            → HasNoted digests self.new.hasher (sent ++ (head kind (length payload.now) ++ payload.now)) }
         ensures same { self.new ≡ record self.old { hasher = self.new.hasher } }
     {
         self.hasher
-            .update(head_bytes(kind, payload.len() as u32).as_slice());
-        self.hasher.update(payload);
+            .note(head_bytes(kind, payload.len() as u32).as_slice());
+        self.hasher.note(payload);
     }
 }
 

@@ -1,17 +1,15 @@
 //! Pages of a block that are taken and copied.
-ghost use Rattle.std.specs.Prelude.{◌≡◌, ◌≢◌, true, false, ℕ, ◌+◌, ◌-◌, ◌*◌, ◌^◌, ◌<◌, ◌≤◌, List, [], ◌∷◌, ◌++◌, ◌⊎◌, length, take, drop, flat_map, min, Some, IfOk, OnOk, OnErr, IfSome, ◌==◌, if◌then◌else◌};
+ghost use Rattle.std.specs.Prelude.{◌≡◌, ◌≢◌, true, false, ℕ, ◌+◌, ◌*◌, ◌^◌, ◌<◌, ◌≤◌, ◌↔◌, IsTrue, [], ◌∷◌, ◌⊎◌, length, take, Some, IfOk, OnOk, OnErr, slice_index};
 ghost use Rattle.std.specs.Int.{div_ceil};
 ghost use Rattle.vm_memory_base.specs.Address.{numbers};
 ghost use Rattle.vm_memory_guest.specs.Host as names;
 ghost use Rattle.vm_memory_guest.specs.Host.{Holds, block_at, shape_of};
-ghost use Rattle.live_migration.specs.Frame.{Pages, ZeroPage, spelling};
-ghost use Rattle.std.specs.List.{list_all};
-ghost use Rattle.live_migration.specs.Image.{copied, page_bytes};
-ghost use Rattle.live_migration.specs.Sending.{AreMarkedAgain, Harvests, IsAsItWas, IsMarkedAgain, IsTracked, MarksBlock, TakesPages};
+ghost use Rattle.live_migration.specs.Sending.{AreMarkedAgain, CopiesRuns, Harvests, IsAsItWas, IsMarkedAgain, IsRun, IsTracked, IsWrittenPage, MarksBlock, TakesPages};
 
 use crate::frame::{Frame, MOST_PAGE_BYTES};
 use crate::header::BlockEntry;
 use crate::refusal::Refusal;
+use crate::zeros::are_zero;
 use std::alloc::{AllocError, Global};
 use thiserror::Error;
 use vm_memory_base::{Bitmap, BitmapId, ExactBitmap};
@@ -70,57 +68,116 @@ pub(super) fn whole_block<B>(host: &HostMemory<B>, block: BlockId) -> &[u8]
     host.bytes(&window)
 }
 
-// Whether all bytes are zero.
-fn is_zero(bytes: &[u8]) -> bool
-    ensures { result ≡ list_all (λ b. b == 0) bytes.now }
+// Whether a block has a page of this number, and a byte of it that is not zero.
+fn is_written(page_size: usize, bytes: &[u8], page: usize) -> bool
+    ensures { IsTrue result ↔ IsWrittenPage page_size bytes.now page }
 {
-    bytes.iter().all(|b| *b == 0)
+    let start = page.saturating_mul(page_size);
+    if start >= bytes.len() {
+        return false;
+    }
+    let end = start.saturating_add(page_size).min(bytes.len());
+    !are_zero(&bytes[start..end])
 }
 
-// Copies a page of a block behind what waits to be sent.
-#[tactic(auto, unfolding(crate::specs::Image::copied))]
-fn copy_page(
+// Whether a page is so many behind another, and has a byte that is not zero.
+fn follows(page_size: usize, bytes: &[u8], first: usize, count: usize, page: usize) -> bool
+    ensures at { result ≡ true → page ≡ first + count }
+    ensures written { result ≡ true → IsWrittenPage page_size bytes.now page }
+{
+    first.checked_add(count) == Some(page) && is_written(page_size, bytes, page)
+}
+
+// How many of these pages follow a page, one after the other, and have bytes that are not zero.
+fn run_behind(page_size: usize, bytes: &[u8], first: usize, pages: &[usize]) -> usize
+    ensures count { result ≤ length pages.now }
+    ensures run { IsRun page_size bytes.now (first + 1) (take result pages.now) }
+{
+    for (i, page) in pages.iter().enumerate() {
+        if !follows(page_size, bytes, first, i + 1, *page) {
+            return i;
+        }
+    }
+    pages.len()
+}
+
+// Copies a page of zeros behind what waits to be sent, and nothing for a page past the end of the block.
+fn copy_zero(
     batch: &mut Vec<u8>,
     number: u32,
     page_size: usize,
     bytes: &[u8],
     page: usize,
 ) -> Result<(), AllocError>
-    requires { page_size ≤ 2 ^ 20 }
-    ensures ok { OnOk result (batch.new.items
-        ≡ batch.old.items ++ flat_map spelling (copied page_size number bytes.now page)) }
-    ensures len { length batch.new.items ≤ length batch.old.items + (20 + page_size) }
+    requires { IsWrittenPage page_size bytes.now page → ⊥ }
+    ensures ok { OnOk result (CopiesRuns page_size number bytes.now (page ∷ []) batch.old.items batch.new.items) }
+    ensures len { length batch.new.items ≤ length batch.old.items + 20 }
     ensures err { OnErr result (batch.new.items ≡ batch.old.items) }
 {
-    let start = page.saturating_mul(page_size);
-    if start >= bytes.len() {
+    if page.saturating_mul(page_size) >= bytes.len() {
         return Ok(());
     }
-    let end = start.saturating_add(page_size).min(bytes.len());
-    let part = &bytes[start..end];
-    copy_part(batch, number, page as u64, part)
+    let frame = Frame::ZeroPage {
+        block: number,
+        page: page as u64,
+    };
+    frame.encode(batch)
 }
 
-// Copies the bytes of a page.
-fn copy_part(batch: &mut Vec<u8>, number: u32, page: u64, part: &[u8]) -> Result<(), AllocError>
-    requires { length part.now ≤ 2 ^ 20 }
-    ensures ok { OnOk result (batch.new.items ≡ batch.old.items
-        ++ spelling (if list_all (λ b. b == 0) part.now then ZeroPage number page else Pages number page part.now)) }
+// Copies the bytes of pages that follow one another behind what waits to be sent, as one frame.
+fn copy_run(
+    batch: &mut Vec<u8>,
+    number: u32,
+    page_size: usize,
+    bytes: &[u8],
+    run: &[usize],
+) -> Result<(), AllocError>
+    requires page { 0 < page_size }
+    requires some { 0 < length run.now }
+    requires most { length run.now * page_size ≤ 2 ^ 20 }
+    requires run { IsRun page_size bytes.now (slice_index run.now 0) run.now }
+    ensures ok { OnOk result (CopiesRuns page_size number bytes.now run.now batch.old.items batch.new.items) }
+    ensures len { length batch.new.items ≤ length batch.old.items + (20 + length run.now * page_size) }
     ensures err { OnErr result (batch.new.items ≡ batch.old.items) }
 {
-    if is_zero(part) {
-        return Frame::ZeroPage {
-            block: number,
-            page,
-        }
-        .encode(batch);
-    }
-    Frame::Pages {
+    let first = run[0];
+    let start = first.saturating_mul(page_size).min(bytes.len());
+    let rest = &bytes[start..];
+    let part = &rest[..rest.len().min(run.len() * page_size)];
+    let frame = Frame::Pages {
         block: number,
-        first: page,
+        first: first as u64,
         bytes: part,
+    };
+    frame.encode(batch)
+}
+
+// Copies the first of these pages behind what waits to be sent, and those that follow it in one frame with it. It
+// answers how many were copied.
+fn copy_first(
+    batch: &mut Vec<u8>,
+    number: u32,
+    page_size: usize,
+    bytes: &[u8],
+    pages: &[usize],
+) -> Result<usize, AllocError>
+    requires page { 0 < page_size }
+    requires some { 0 < length pages.now }
+    requires most { length pages.now * page_size ≤ 2 ^ 20 }
+    ensures count { IfOk result (λ count. count ≤ length pages.now) }
+    ensures copied { IfOk result (λ count. CopiesRuns page_size number bytes.now (take count pages.now) batch.old.items
+        batch.new.items) }
+    ensures len { length batch.new.items ≤ length batch.old.items + (20 + length pages.now * page_size) }
+    ensures err { OnErr result (batch.new.items ≡ batch.old.items) }
+{
+    let first = pages[0];
+    if !is_written(page_size, bytes, first) {
+        copy_zero(batch, number, page_size, bytes, first)?;
+        return Ok(1);
     }
-    .encode(batch)
+    let count = 1 + run_behind(page_size, bytes, first, &pages[1..]);
+    copy_run(batch, number, page_size, bytes, &pages[..count])?;
+    Ok(count)
 }
 
 // The numbers of all pages of so many bytes.
@@ -250,31 +307,40 @@ pub(super) fn copy_pages(
     bytes: &[u8],
     pages: &[usize],
 ) -> usize
-    requires { page_size ≤ 2 ^ 20 }
+    requires { 0 < page_size }
     ensures count { result ≤ length pages.now }
     ensures most { result * page_size ≤ 2 ^ 20 }
     ensures short { length batch.old.items ≤ 2 ^ 20 + 20 → length batch.new.items ≤ 2 ^ 20 + 20 }
-    ensures copied { batch.new.items ≡ batch.old.items
-        ++ flat_map spelling (flat_map (copied page_size number bytes.now) (take result pages.now)) }
+    ensures copied { CopiesRuns page_size number bytes.now (take result pages.now) batch.old.items batch.new.items }
 {
-    for (i, page) in pages.iter().enumerate() {
-        if !has_room(i, batch.len(), page_size) {
-            return i;
+    let mut at = 0;
+    for _ in 0..pages.len() {
+        let room = room_for(at, batch.len(), page_size);
+        let rest = &pages[at..];
+        let some = &rest[..room.min(rest.len())];
+        if some.is_empty() {
+            return at;
         }
-        if copy_page(batch, number, page_size, bytes, *page).is_err() {
-            return i;
+        match copy_first(batch, number, page_size, bytes, some) {
+            Ok(count) => at += count,
+            Err(_) => return at,
         }
     }
-    pages.len()
+    at
 }
 
-// Whether a page of this size may be copied behind so many pages, and behind so many bytes that wait to be sent.
-fn has_room(count: usize, len: usize, page_size: usize) -> bool
-    ensures pages { result ≡ true → (count + 1) * page_size ≤ 2 ^ 20 }
-    ensures bytes { result ≡ true → (len ≡ 0) ⊎ (len + page_size ≤ 2 ^ 20) }
+// How many pages of this size may be copied behind so many pages, and behind so many bytes that wait to be sent.
+fn room_for(count: usize, len: usize, page_size: usize) -> usize
+    requires some { 0 < page_size }
+    requires most { count * page_size ≤ 2 ^ 20 }
+    ensures pages { (count + result) * page_size ≤ 2 ^ 20 }
+    ensures bytes { (result ≡ 0) ⊎ ((len ≡ 0) ⊎ (len + result * page_size ≤ 2 ^ 20)) }
 {
-    let pages = count.saturating_add(1).saturating_mul(page_size);
-    pages <= MOST_PAGE_BYTES && (len == 0 || len.saturating_add(page_size) <= MOST_PAGE_BYTES)
+    let pages = (MOST_PAGE_BYTES / page_size).saturating_sub(count);
+    if len == 0 {
+        return pages;
+    }
+    pages.min(MOST_PAGE_BYTES.saturating_sub(len) / page_size)
 }
 
 // Makes all pages of a block dirty, if the host has it as it was at the beginning.

@@ -87,7 +87,7 @@ impl Rounds {
         let Ok(number) = u32::try_from(self.last) else {
             return Err(SendError::Order);
         };
-        if !has_target(host, &target) || page_size > MOST_PAGE_BYTES {
+        if !has_target(host, &target) || page_size == 0 || page_size > MOST_PAGE_BYTES {
             return Err(SendError::Changed);
         }
         let bytes = whole_block(host, target.block);

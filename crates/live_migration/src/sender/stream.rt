@@ -1,8 +1,7 @@
 //! A sender with its stream: what was copied is sent, rounds end, and the guest is given up.
-ghost use Rattle.std.specs.Prelude.{◌≡◌, ◌≢◌, true, ℕ, ◌+◌, ◌-◌, ◌^◌, ◌<◌, ◌≤◌, List, [], ◌++◌, length, map, take, IfOk, IsOk, IsOkUnless, OnOk, OnErr, IsErr, IsTrue, ◌↔◌, ◌⊎◌};
+ghost use Rattle.std.specs.Prelude.{◌≡◌, ◌≢◌, true, ℕ, Bool, ◌+◌, ◌-◌, ◌^◌, ◌<◌, ◌≤◌, List, [], ◌++◌, length, map, take, IfOk, IsOk, IsOkUnless, OnOk, OnErr, IsErr, IsTrue, ◌↔◌, ◌⊎◌};
 ghost use Rattle.std.specs.Io.KnownBytes.{Appends, Keeps};
-ghost use Rattle.sha2.specs.Hashers.{Holds256};
-ghost use Rattle.sha2.specs.Sha256.{sha256};
+ghost use Rattle.live_migration.specs.Digests.{HasNoted, digest_of};
 ghost use Rattle.live_migration.specs.Frame.{Done, Go, IsMessage, RoundEnd, Section, message_of, spelling};
 ghost use Rattle.live_migration.specs.Header.{IsHeader, header_bytes};
 ghost use Rattle.live_migration.specs.declared.sender.stream.SendStage.TheVariants as stages;
@@ -11,11 +10,10 @@ ghost use Rattle.live_migration.specs.Leave.{BeginsToSend, BreaksOff, IsFirst, I
 
 use super::pages::{SendError, Target, target_of};
 use super::rounds::Rounds;
+use crate::digest::{StreamHasher, bytes_of};
 use crate::frame::{Frame, GO, MOST_PAGE_BYTES, head_bytes};
-use crate::header::{BlockEntry, check_header, encode_header};
-use crate::receiver::digest_of;
+use crate::header::{BlockEntry, Options, check_header, encode_header};
 use crate::stream::write_bytes;
-use sha2::{Digest, Sha256};
 use std::alloc::{AllocError, Global};
 use std::io::Write;
 use vm_memory_base::{Bitmap, ExactBitmap, GuestAddress};
@@ -44,7 +42,7 @@ pub enum SendStage {
 #[derive(Drop)]
 pub struct Sender {
     pub(crate) rounds: Rounds,
-    pub(crate) hasher: Sha256,
+    pub(crate) hasher: StreamHasher,
     pub(crate) stage: SendStage,
 }
 
@@ -56,7 +54,7 @@ fn in_rounds(stage: SendStage) -> bool
 }
 
 // Writes bytes, and notes them for the digest.
-fn send<W: Write>(writer: &mut W, hasher: &mut Sha256, bytes: &[u8]) -> Result<(), SendError>
+fn send<W: Write>(writer: &mut W, hasher: &mut StreamHasher, bytes: &[u8]) -> Result<(), SendError>
     ensures ok { OnOk result (Sends bytes.now (W.contents writer.old) (W.contents writer.new) hasher.old hasher.new) }
     ensures err { OnErr result ((count : ℕ)
         × Appends (W.contents writer.old) (W.contents writer.new) (take count bytes.now)) }
@@ -64,7 +62,7 @@ fn send<W: Write>(writer: &mut W, hasher: &mut Sha256, bytes: &[u8]) -> Result<(
     if write_bytes(writer, bytes).is_err() {
         return Err(SendError::Failed);
     }
-    hasher.update(bytes);
+    hasher.note(bytes);
     Ok(())
 }
 
@@ -72,7 +70,7 @@ fn send<W: Write>(writer: &mut W, hasher: &mut Sha256, bytes: &[u8]) -> Result<(
 fn send_frame<W: Write>(
     alloc: Global,
     writer: &mut W,
-    hasher: &mut Sha256,
+    hasher: &mut StreamHasher,
     frame: &Frame<'_>,
 ) -> Result<(), SendError>
     requires { IsMessage (message_of frame.now) }
@@ -88,27 +86,28 @@ fn send_frame<W: Write>(
     send(writer, hasher, bytes.as_slice())
 }
 
-// The digest of what was sent, in a frame that ends a round.
+// A frame that ends a round, with the digest of what was sent if digests are asked for.
 fn send_round_end<W: Write>(
     alloc: Global,
     writer: &mut W,
-    hasher: &mut Sha256,
+    hasher: &mut StreamHasher,
     round: u32,
 ) -> Result<(), SendError>
-    ensures sent { (sent : List ℕ) → Holds256 hasher.old sent
-        → OnOk result (Sends (spelling (RoundEnd round (sha256 sent))) (W.contents writer.old) (W.contents writer.new)
-        hasher.old hasher.new) }
-    ensures err { (sent : List ℕ) → Holds256 hasher.old sent → OnErr result ((count : ℕ)
+    ensures sent { (digests : Bool) (sent : List ℕ) → HasNoted digests hasher.old sent
+        → OnOk result (Sends (spelling (RoundEnd round (digest_of digests sent))) (W.contents writer.old)
+        (W.contents writer.new) hasher.old hasher.new) }
+    ensures err { (digests : Bool) (sent : List ℕ) → HasNoted digests hasher.old sent → OnErr result ((count : ℕ)
         × Appends (W.contents writer.old) (W.contents writer.new)
-        (take count (spelling (RoundEnd round (sha256 sent))))) }
-    ensures fits { (sent : List ℕ) → Holds256 hasher.old sent → OnOk result (IsMessage (RoundEnd round (sha256 sent))) }
+        (take count (spelling (RoundEnd round (digest_of digests sent))))) }
+    ensures fits { (digests : Bool) (sent : List ℕ) → HasNoted digests hasher.old sent
+        → OnOk result (IsMessage (RoundEnd round (digest_of digests sent))) }
 {
-    let Ok(digest) = digest_of(hasher) else {
+    let Ok(digest) = hasher.digest() else {
         return Err(SendError::Memory);
     };
     let frame = Frame::RoundEnd {
         round,
-        digest: &digest,
+        digest: bytes_of(&digest),
     };
     send_frame(alloc, writer, hasher, &frame)
 }
@@ -148,9 +147,9 @@ pub(super) fn is_new(targets: &[Target], target: &Target) -> bool
 }
 
 // The header of blocks, if a receiver accepts it: else `Header`, with the fault that the receiver would find.
-fn header_of(alloc: Global, targets: &[Target]) -> Result<Vec<u8>, SendError>
+fn header_of(alloc: Global, options: Options, targets: &[Target]) -> Result<Vec<u8>, SendError>
     ensures accepted { IfOk result (λ v. IsHeader (2 ^ 64 - 1) (map (λ t. t.entry) targets.now)
-        × (v.items ≡ header_bytes (map (λ t. t.entry) targets.now))) }
+        × (v.items ≡ header_bytes options.digests (map (λ t. t.entry) targets.now))) }
     ensures only { IsHeader (2 ^ 64 - 1) (map (λ t. t.entry) targets.now) → IsOkUnless result SendError.Memory }
 {
     let Ok(entries) = entries_of(alloc, targets) else {
@@ -159,7 +158,7 @@ fn header_of(alloc: Global, targets: &[Target]) -> Result<Vec<u8>, SendError>
     if let Err(refusal) = check_header(u64::MAX, entries.as_slice()) {
         return Err(SendError::Header(refusal));
     }
-    let Ok(header) = encode_header(alloc, entries.as_slice()) else {
+    let Ok(header) = encode_header(alloc, options, entries.as_slice()) else {
         return Err(SendError::Memory);
     };
     Ok(header)
@@ -171,7 +170,7 @@ fn entries_of(alloc: Global, targets: &[Target]) -> Result<Vec<BlockEntry>, Allo
     targets.iter().map(|t| t.entry).collect(alloc)
 }
 
-fn first_sender(alloc: Global, targets: Vec<Target>, hasher: Sha256) -> Sender
+fn first_sender(alloc: Global, targets: Vec<Target>, hasher: StreamHasher) -> Sender
     ensures targets { result.rounds.targets.items ≡ targets.items }
     ensures hasher { result.hasher ≡ hasher }
     ensures first { IsFirst result }
@@ -195,13 +194,14 @@ fn first_sender(alloc: Global, targets: Vec<Target>, hasher: Sha256) -> Sender
 pub(super) fn begin_with<W: Write>(
     alloc: Global,
     targets: Vec<Target>,
+    options: Options,
     writer: &mut W,
 ) -> Result<Sender, SendError>
-    ensures begun { IfOk result (λ s. BeginsToSend (W.contents writer.old) (W.contents writer.new) s) }
+    ensures begun { IfOk result (λ s. BeginsToSend options.digests (W.contents writer.old) (W.contents writer.new) s) }
     ensures targets { IfOk result (λ s. s.rounds.targets.items ≡ targets.items) }
 {
-    let header = header_of(alloc, targets.as_slice())?;
-    let mut hasher = Sha256::new();
+    let header = header_of(alloc, options, targets.as_slice())?;
+    let mut hasher = StreamHasher::new(options.digests);
     send(writer, &mut hasher, header.as_slice())?;
     Ok(first_sender(alloc, targets, hasher))
 }
@@ -221,7 +221,8 @@ impl Sender {
     ghost use Rattle.live_migration.specs.Following.{StaysAsItWas};
     ghost use Rattle.live_migration.specs.Sending.{AreMarkedAgain, HarvestsNext, CopiesPages, IsIdle, harvested};
 
-    /// Writes the header of these blocks of a host, each with its address. The first round is sent after `ready`. The
+    /// Writes the header of these options and blocks of a host, each with its address. The first round is sent after
+    /// `ready`. The
     /// blocks ascend by their addresses and do not meet, each is tracked as a whole by a bitmap whose pages have at
     /// most 2^20 bytes, and none comes twice: else `Header`, `Untracked` or `Twice`, and `Changed` if the host has no
     /// such block.
@@ -229,14 +230,15 @@ impl Sender {
         alloc: Global,
         host: &HostMemory<B>,
         blocks: &[(BlockId, GuestAddress)],
+        options: Options,
         writer: &mut W,
     ) -> Result<Sender, SendError>
-        ensures begun { IfOk result (λ s. BeginsToSend (W.contents writer.old) (W.contents writer.new) s) }
+        ensures begun { IfOk result (λ s. BeginsToSend options.digests (W.contents writer.old) (W.contents writer.new) s) }
         ensures targets { IfOk result (λ s. AreTargets B.pages host.now s.rounds.targets.items) }
         ensures asked { IfOk result (λ s. map place_of s.rounds.targets.items ≡ map asked blocks.now) }
     {
         let targets = targets_of(alloc, host, blocks)?;
-        begin_with(alloc, targets, writer)
+        begin_with(alloc, targets, options, writer)
     }
 
     /// Ends a migration before the guest was given up: marks each harvested page again, so that another may
@@ -344,19 +346,19 @@ impl Sender {
     /// Ends a round in which each block was harvested and nothing waits: otherwise `Order`, as before `ready`. `Memory`
     /// if an allocation fails, and `Failed` if the stream does: then nothing more is sent.
     pub fn end_round<W: Write>(&mut self, alloc: Global, writer: &mut W) -> Result<(), SendError>
-        ensures sent { (sent : List ℕ) → Holds256 self.old.hasher sent
-            → OnOk result (Sends (spelling (RoundEnd self.old.rounds.round (sha256 sent)))
+        ensures sent { (digests : Bool) (sent : List ℕ) → HasNoted digests self.old.hasher sent
+            → OnOk result (Sends (spelling (RoundEnd self.old.rounds.round (digest_of digests sent)))
             (W.contents writer.old) (W.contents writer.new) self.old.hasher self.new.hasher) }
-        ensures fits { (sent : List ℕ) → Holds256 self.old.hasher sent
-            → OnOk result (IsMessage (RoundEnd self.old.rounds.round (sha256 sent))) }
+        ensures fits { (digests : Bool) (sent : List ℕ) → HasNoted digests self.old.hasher sent
+            → OnOk result (IsMessage (RoundEnd self.old.rounds.round (digest_of digests sent))) }
         ensures through { OnOk result (IsIdle self.old.rounds
             × (self.old.rounds.turn ≡ length self.old.rounds.targets.items)) }
         ensures next { OnOk result ((self.new.rounds.round ≡ self.old.rounds.round + 1) × (self.new.rounds.turn ≡ 0)) }
         ensures stage { OnOk result (IsInRounds self.old.stage × (self.new.stage ≡ stages.RoundEnded)) }
         ensures err { OnErr result (self.new.rounds ≡ self.old.rounds) }
-        ensures unsent { (sent : List ℕ) → Holds256 self.old.hasher sent
+        ensures unsent { (digests : Bool) (sent : List ℕ) → HasNoted digests self.old.hasher sent
             → OnErr result (((self.new ≡ self.old) × (writer.new ≡ writer.old))
-            ⊎ BreaksOff (spelling (RoundEnd self.old.rounds.round (sha256 sent))) (W.contents writer.old)
+            ⊎ BreaksOff (spelling (RoundEnd self.old.rounds.round (digest_of digests sent))) (W.contents writer.old)
             (W.contents writer.new) self.old.stage self.new.stage) }
         ensures same { (self.new.rounds.targets ≡ self.old.rounds.targets)
             × (self.new.rounds.waiting ≡ self.old.rounds.waiting) × (self.new.rounds.next ≡ self.old.rounds.next)

@@ -10,7 +10,7 @@ ghost use Rattle.live_migration.specs.Words.{TakesWords};
 use super::pages::{SendError, Target, all_pages};
 use super::rounds::Rounds;
 use super::stream::{Sender, begin_with, is_new};
-use crate::header::BlockEntry;
+use crate::header::{BlockEntry, Options};
 use std::alloc::{AllocError, Global};
 use std::io::Write;
 use std::num::NonZeroUsize;
@@ -142,14 +142,15 @@ impl Sender {
         alloc: Global,
         host: &HostMemory<B>,
         blocks: &[(BlockId, GuestAddress, NonZeroUsize)],
+        options: Options,
         writer: &mut W,
     ) -> Result<Sender, SendError>
-        ensures begun { IfOk result (λ s. BeginsToSend (W.contents writer.old) (W.contents writer.new) s) }
+        ensures begun { IfOk result (λ s. BeginsToSend options.digests (W.contents writer.old) (W.contents writer.new) s) }
         ensures blocks { IfOk result (λ s. AreBlocks host.now s.rounds.targets.items) }
         ensures asked { IfOk result (λ s. map sized_place_of s.rounds.targets.items ≡ map sized_asked blocks.now) }
     {
         let targets = blocks_of(alloc, host, blocks)?;
-        begin_with(alloc, targets, writer)
+        begin_with(alloc, targets, options, writer)
     }
 
     /// As `Rounds::harvest_words`.

@@ -1,6 +1,6 @@
 //! Data between guest memory and a disk, in pieces.
-ghost use Rattle.std.specs.Prelude.{◌≡◌, ◌⊎◌, ◌+◌, ◌-◌, ◌*◌, ◌%◌, ◌^◌, ◌<◌, ◌≤◌, ℕ, true, false, List, length, take, drop, MatchBool};
-ghost use Rattle.vm_memory_base.specs.declared.iotlb.Permissions.TheVariants.{Read};
+ghost use Rattle.std.specs.Prelude.{◌≡◌, ◌⊎◌, ◌+◌, ◌-◌, ◌*◌, ◌%◌, ◌^◌, ◌<◌, ◌≤◌, ℕ, true, false, List, length, take, drop, MatchResult};
+ghost use Rattle.vm_memory_base.specs.declared.iotlb.Permissions.TheVariants.{Read, Write};
 ghost use Rattle.vm_memory_guest.specs.Host.{shape_of, Holds};
 ghost use Rattle.virtio_blk.specs.Disk.{LieAt, after_write, reads, writes};
 ghost use Rattle.virtio_blk.specs.Served.{Flushes, Loads, Stores, StoresToStay};
@@ -9,7 +9,7 @@ ghost use Rattle.virtio_blk.specs.Texts.{Accessed, StopsAt, StopsWithin, WritesA
 use super::PIECE;
 use crate::disk::Disk;
 use crate::request::{VIRTIO_BLK_S_IOERR, VIRTIO_BLK_S_OK};
-use crate::text::{read_all, write_front};
+use crate::text::{Stop, Written, read_all, write_front};
 use vm_memory_base::Bitmap;
 use vm_memory_device::{ChainReader, ChainWriter};
 use vm_memory_guest::{GuestMemory, HostMemory};
@@ -22,25 +22,30 @@ fn store_piece<D: Disk, M: GuestMemory, B: Bitmap>(
     host: &HostMemory<B>,
     sector: u64,
     piece: &mut [u8],
-) -> bool
+) -> Result<(), Stop>
     requires held { Holds (shape_of host.now) (M.names mem.now) }
     requires enough { length piece.old ≤ length reader.old }
     requires whole { length piece.old % 512 ≡ 0 }
     requires inside { 512 * sector + length piece.old ≤ 512 * D.sectors disk.old }
-    ensures stored { let m = M.memory mem.now in let n = length piece.old in MatchBool result
-        ((n ≤ length (reached m host.now.tables reader.old)) × Accessed m host.now.tables Read reader.old n
+    ensures stored { let m = M.memory mem.now in let n = length piece.old in MatchResult result
+        (λ _. (n ≤ length (reached m host.now.tables reader.old)) × Accessed m host.now.tables Read reader.old n
         × (reader.new ≡ drop n reader.old)
         × (D.bytes disk.new ≡ after_write (512 * sector) (text_bytes m host.now reader.old n) (D.bytes disk.old))
         × D.calls disk.old (writes sector (text_bytes m host.now reader.old n)) true disk.new)
-        ((D.bytes disk.new ≡ D.bytes disk.old)
-        × (D.calls disk.old (writes sector (text_bytes m host.now reader.old n)) false disk.new
-        ⊎ ((disk.new ≡ disk.old) × StopsWithin m host.now.tables reader.old 0 n))) }
+        (λ stop. (D.bytes disk.new ≡ D.bytes disk.old)
+        × (((stop.wanted ≡ false)
+        × D.calls disk.old (writes sector (text_bytes m host.now reader.old n)) false disk.new)
+        ⊎ ((disk.new ≡ disk.old) × StopsWithin m host.now.tables Read reader.old n stop.wanted))) }
     ensures sectors { D.sectors disk.new ≡ D.sectors disk.old }
 {
-    read_all(reader, mem, host, piece) && disk.write(sector, piece).is_ok()
+    read_all(reader, mem, host, piece)?;
+    match disk.write(sector, piece) {
+        Ok(()) => Ok(()),
+        Err(_) => Err(Stop { wanted: false }),
+    }
 }
 
-// Moves a text to the disk, from a sector on, and says the status.
+// Moves a text to the disk, from a sector on, and says the status, and whether an allocation failed.
 pub(super) fn store<D: Disk, M: GuestMemory, B: Bitmap>(
     disk: &mut D,
     reader: &mut ChainReader<'_>,
@@ -48,26 +53,26 @@ pub(super) fn store<D: Disk, M: GuestMemory, B: Bitmap>(
     host: &HostMemory<B>,
     sector: u64,
     buffer: &mut [u8],
-) -> u8
+) -> (u8, bool)
     requires held { Holds (shape_of host.now) (M.names mem.now) }
     requires whole { length reader.old % 512 ≡ 0 }
     requires inside { 512 * sector + length reader.old ≤ 512 * D.sectors disk.old }
     requires small { D.sectors disk.old < 2 ^ 55 }
     requires room { length buffer.old ≡ 65536 }
     ensures { Stores D.bytes D.sectors D.calls (M.memory mem.now) host.now reader.old sector (length reader.old)
-        disk.old result disk.new }
+        disk.old result.0 result.1 disk.new }
 {
     let len = reader.left();
     let mut moved = 0;
     while moved < len {
         let count = (len - moved).min(PIECE);
         let at = sector + (moved / 512) as u64;
-        if !store_piece(disk, reader, mem, host, at, &mut buffer[..count]) {
-            return VIRTIO_BLK_S_IOERR;
+        match store_piece(disk, reader, mem, host, at, &mut buffer[..count]) {
+            Ok(()) => moved += count,
+            Err(stop) => return (VIRTIO_BLK_S_IOERR, stop.wanted),
         }
-        moved += count;
     }
-    VIRTIO_BLK_S_OK
+    (VIRTIO_BLK_S_OK, false)
 }
 
 // Brings what was written to where it stays, and says the status.
@@ -80,7 +85,8 @@ pub(super) fn flush<D: Disk>(disk: &mut D) -> u8
     }
 }
 
-// Moves a text to the disk, from a sector on, brings it to where it stays, and says the status.
+// Moves a text to the disk, from a sector on, brings it to where it stays, and says the status, and whether memory was
+// wanted.
 pub(super) fn store_to_stay<D: Disk, M: GuestMemory, B: Bitmap>(
     disk: &mut D,
     reader: &mut ChainReader<'_>,
@@ -88,24 +94,24 @@ pub(super) fn store_to_stay<D: Disk, M: GuestMemory, B: Bitmap>(
     host: &HostMemory<B>,
     sector: u64,
     buffer: &mut [u8],
-) -> u8
+) -> (u8, bool)
     requires held { Holds (shape_of host.now) (M.names mem.now) }
     requires whole { length reader.old % 512 ≡ 0 }
     requires inside { 512 * sector + length reader.old ≤ 512 * D.sectors disk.old }
     requires small { D.sectors disk.old < 2 ^ 55 }
     requires room { length buffer.old ≡ 65536 }
     ensures { StoresToStay D.bytes D.sectors D.calls (M.memory mem.now) host.now reader.old sector (length reader.old)
-        disk.old result disk.new }
+        disk.old result.0 result.1 disk.new }
 {
-    let stored = store(disk, reader, mem, host, sector, buffer);
+    let (stored, wanted) = store(disk, reader, mem, host, sector, buffer);
     if stored != VIRTIO_BLK_S_OK {
-        return stored;
+        return (stored, wanted);
     }
-    flush(disk)
+    (flush(disk), wanted)
 }
 
 // Moves bytes of the disk, from a sector on, to the next bytes of a text, through a buffer that has room for just
-// these. It answers how many were moved.
+// these. It says how many were moved, and whether an allocation failed for the next one.
 fn load_piece<D: Disk, M: GuestMemory, B: Bitmap>(
     disk: &mut D,
     writer: &mut ChainWriter<'_>,
@@ -113,31 +119,35 @@ fn load_piece<D: Disk, M: GuestMemory, B: Bitmap>(
     host: &mut HostMemory<B>,
     sector: u64,
     piece: &mut [u8],
-) -> usize
+) -> Written
     requires held { Holds (shape_of host.old) (M.names mem.now) }
     requires enough { length piece.old ≤ length writer.old }
     requires whole { length piece.old % 512 ≡ 0 }
     requires inside { 512 * sector + length piece.old ≤ 512 * D.sectors disk.old }
-    ensures most { result ≤ length piece.old }
-    ensures lie { LieAt (512 * sector) (take result piece.new) (D.bytes disk.old) }
-    ensures written { WritesAt B.marks (M.memory mem.now) writer.old (take result piece.new) host.old host.new }
-    ensures call { ((result ≡ 0) × D.calls disk.old (reads sector piece.new) false disk.new)
-        ⊎ (D.calls disk.old (reads sector piece.new) true disk.new
-        × (result < length piece.old → StopsAt (M.memory mem.now) host.old.tables writer.old result)) }
-    ensures place { writer.new ≡ drop result writer.old }
+    ensures most { result.count ≤ length piece.old }
+    ensures lie { LieAt (512 * sector) (take result.count piece.new) (D.bytes disk.old) }
+    ensures written { WritesAt B.marks (M.memory mem.now) writer.old (take result.count piece.new) host.old host.new }
+    ensures call { ((result.count ≡ 0) × (result.wanted ≡ false)
+        × D.calls disk.old (reads sector piece.new) false disk.new)
+        ⊎ (D.calls disk.old (reads sector piece.new) true disk.new × (result.count < length piece.old
+        → StopsAt (M.memory mem.now) host.old.tables Write writer.old (length piece.old) result.wanted result.count)) }
+    ensures place { writer.new ≡ drop result.count writer.old }
     ensures bytes { D.bytes disk.new ≡ D.bytes disk.old }
     ensures sectors { D.sectors disk.new ≡ D.sectors disk.old }
     ensures tables { host.new.tables ≡ host.old.tables }
     ensures shape { shape_of host.new ≡ shape_of host.old }
 {
     if disk.read(sector, piece).is_err() {
-        return 0;
+        return Written {
+            count: 0,
+            wanted: false,
+        };
     }
     write_front(writer, mem, host, piece)
 }
 
-// Moves bytes of the disk, from a sector on, to the front of a text of which one byte is left over. It answers the
-// status and how many were moved.
+// Moves bytes of the disk, from a sector on, to the front of a text of which one byte is left over. It says the status,
+// how many were moved, and whether an allocation failed for the next one.
 pub(super) fn load<D: Disk, M: GuestMemory, B: Bitmap>(
     disk: &mut D,
     writer: &mut ChainWriter<'_>,
@@ -145,19 +155,19 @@ pub(super) fn load<D: Disk, M: GuestMemory, B: Bitmap>(
     host: &mut HostMemory<B>,
     sector: u64,
     buffer: &mut [u8],
-) -> (u8, usize)
+) -> (u8, Written)
     requires held { Holds (shape_of host.old) (M.names mem.now) }
     requires some { 0 < length writer.old }
     requires whole { (length writer.old - 1) % 512 ≡ 0 }
     requires inside { 512 * sector + (length writer.old - 1) ≤ 512 * D.sectors disk.old }
     requires small { D.sectors disk.old < 2 ^ 55 }
     requires room { length buffer.old ≡ 65536 }
-    ensures loaded { (sent : List ℕ) × (length sent ≡ result.1)
+    ensures loaded { (sent : List ℕ) × (length sent ≡ result.1.count)
         × Loads D.bytes D.sectors D.calls (M.memory mem.now) host.old writer.old sector (length writer.old - 1)
-        disk.old result.0 sent disk.new
+        disk.old result.0 result.1.wanted sent disk.new
         × WritesAt B.marks (M.memory mem.now) writer.old sent host.old host.new }
-    ensures rest { result.1 < length writer.old }
-    ensures place { writer.new ≡ drop result.1 writer.old }
+    ensures rest { result.1.count < length writer.old }
+    ensures place { writer.new ≡ drop result.1.count writer.old }
     ensures tables { host.new.tables ≡ host.old.tables }
     ensures shape { shape_of host.new ≡ shape_of host.old }
 {
@@ -167,10 +177,18 @@ pub(super) fn load<D: Disk, M: GuestMemory, B: Bitmap>(
         let count = (len - moved).min(PIECE);
         let at = sector + (moved / 512) as u64;
         let done = load_piece(disk, writer, mem, host, at, &mut buffer[..count]);
-        moved += done;
-        if done < count {
-            return (VIRTIO_BLK_S_IOERR, moved);
+        moved += done.count;
+        if done.count < count {
+            let written = Written {
+                count: moved,
+                wanted: done.wanted,
+            };
+            return (VIRTIO_BLK_S_IOERR, written);
         }
     }
-    (VIRTIO_BLK_S_OK, moved)
+    let written = Written {
+        count: moved,
+        wanted: false,
+    };
+    (VIRTIO_BLK_S_OK, written)
 }

@@ -1,6 +1,7 @@
 //! Disks in memory.
 ghost use Rattle.std.specs.Prelude.{◌≡◌, ◌+◌, ◌*◌, ◌/◌, ◌≤◌, true, length, take, Some};
 ghost use Rattle.virtio_blk.specs.Disk.{patched};
+ghost use Rattle.virtio_blk.specs.MemoryDisk.{bytes_of};
 ghost use Rattle.virtio_blk.specs.lemmas.DiskFacts.{told_whole};
 
 use super::{Disk, DiskError};
@@ -12,13 +13,17 @@ pub struct MemoryDisk {
 }
 
 impl MemoryDisk {
-    /// A disk of these bytes. Those after the last whole sector are not part of it.
-    pub fn new(bytes: Vec<u8>) -> MemoryDisk {
+    /// A disk of these bytes. Those behind the last whole sector are no part of it.
+    pub fn new(bytes: Vec<u8>) -> MemoryDisk
+        ensures { bytes_of result ≡ bytes.items }
+    {
         MemoryDisk { bytes }
     }
 
     /// The bytes that the disk was made of, as they are now.
-    pub fn bytes(&self) -> &[u8] {
+    pub fn bytes(&self) -> &[u8]
+        ensures { result.now ≡ bytes_of self.now }
+    {
         self.bytes.as_slice()
     }
 }

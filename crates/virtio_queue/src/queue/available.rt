@@ -1,8 +1,7 @@
 //! What the driver publishes: the available ring, and the chains of its heads.
 ghost use Rattle.std.specs.Prelude.{◌≡◌, ◌<◌, None, Ok};
 ghost use Rattle.vm_memory_guest.specs.Host.{shape_of, Holds};
-ghost use Rattle.vm_memory_guest.specs.Memory.{IsOn};
-ghost use Rattle.virtio_queue.specs.Available.{MayWantChain, after_pop, avail_idx, next_head, popped};
+ghost use Rattle.virtio_queue.specs.Available.{MayWantChain, MayWantHead, MayWantIdx, after_pop, avail_idx, next_head, popped};
 ghost use Rattle.virtio_queue.specs.Fields.{Answers};
 ghost use Rattle.virtio_queue.specs.State.{with_state};
 
@@ -25,7 +24,8 @@ pub(super) fn avail_idx<M: GuestMemory, B: Bitmap>(
     state: &QueueState,
 ) -> Result<u16, QueueError>
     requires { Holds (shape_of host.now) (M.names mem.now) }
-    ensures { let m = M.memory mem.now in Answers (IsOn m) (avail_idx m host.now state.now) result }
+    ensures { let m = M.memory mem.now in
+        Answers (MayWantIdx m host.now state.now) (avail_idx m host.now state.now) result }
 {
     if !state.ready {
         return Err(QueueError::QueueNotReady);
@@ -43,7 +43,8 @@ fn next_head<M: GuestMemory, B: Bitmap>(
 ) -> Result<Option<u16>, QueueError>
     requires held { Holds (shape_of host.now) (M.names mem.now) }
     requires some { 0 < state.now.size }
-    ensures head { let m = M.memory mem.now in Answers (IsOn m) (next_head m host.now state.now) result }
+    ensures head { let m = M.memory mem.now in
+        Answers (MayWantHead m host.now state.now) (next_head m host.now state.now) result }
     ensures none { result ≡ Ok None → avail_idx (M.memory mem.now) host.now state.now ≡ Ok state.now.next_avail }
 {
     let ahead = avail_idx(mem, host, state)?.wrapping_sub(state.next_avail);
@@ -67,7 +68,8 @@ impl Queue {
         host: &HostMemory<B>,
     ) -> Result<u16, QueueError>
         requires { Holds (shape_of host.now) (M.names mem.now) }
-        ensures { let m = M.memory mem.now in Answers (IsOn m) (avail_idx m host.now self.now.state) result }
+        ensures { let m = M.memory mem.now in let q = self.now.state in
+            Answers (MayWantIdx m host.now q) (avail_idx m host.now q) result }
     {
         avail_idx(mem, host, &self.state)
     }

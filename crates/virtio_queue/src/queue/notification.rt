@@ -1,10 +1,9 @@
 //! Notifications: when the driver has to be notified of used entries, and the device of available ones.
 ghost use Rattle.std.specs.Prelude.{◌≡◌, ◌<◌, ◌^◌, false, true, Ok, IfOk, OnOk};
 ghost use Rattle.vm_memory_guest.specs.Host.{shape_of, Holds};
-ghost use Rattle.vm_memory_guest.specs.Memory.{IsOn};
 ghost use Rattle.vm_memory_guest.specs.Window.{window_names};
 ghost use Rattle.virtio_queue.specs.Fields.{Answers, is_word, stored_at};
-ghost use Rattle.virtio_queue.specs.Notification.{Disables, EnablesIfReady, Waits, after_asked, is_among, kick_offset, kick_places, kick_value, needs_notification, wants_notification};
+ghost use Rattle.virtio_queue.specs.Notification.{Disables, EnablesIfReady, MayWantEvent, MayWantKick, MayWantNeeds, Waits, after_asked, is_among, kick_offset, kick_places, kick_value, needs_notification, wants_notification};
 
 use super::Queue;
 use crate::error::QueueError;
@@ -37,7 +36,8 @@ fn wants_notification<M: GuestMemory, B: Bitmap>(
     added: Option<u32>,
 ) -> Result<bool, QueueError>
     requires { Holds (shape_of host.now) (M.names mem.now) }
-    ensures { let m = M.memory mem.now in Answers (IsOn m) (wants_notification m host.now state.now added) result }
+    ensures { let m = M.memory mem.now in
+        Answers (MayWantEvent m host.now state.now added) (wants_notification m host.now state.now added) result }
 {
     let Some(count) = added else {
         return Ok(true);
@@ -84,7 +84,8 @@ fn kick_places<M: GuestMemory, B: Bitmap>(
     state: &QueueState,
 ) -> Result<(VolatileSlice, VolatileSlice), QueueError>
     requires { Holds (shape_of host.now) (M.names mem.now) }
-    ensures places { let m = M.memory mem.now in Answers (IsOn m) (kick_places m host.now state.now) result }
+    ensures places { let m = M.memory mem.now in
+        Answers (MayWantKick m host.now state.now) (kick_places m host.now state.now) result }
     ensures held { IfOk result (λ p. Holds (shape_of host.now) (window_names p.0)
         × Holds (shape_of host.now) (window_names p.1)) }
     ensures words { IfOk result (λ p. (is_word p.0 ≡ true) × (is_word p.1 ≡ true)) }
@@ -111,7 +112,7 @@ impl Queue {
     ) -> Result<bool, QueueError>
         requires { Holds (shape_of host.now) (M.names mem.now) }
         ensures needs { let m = M.memory mem.now in
-            Answers (IsOn m) (needs_notification m host.now self.old) result }
+            Answers (MayWantNeeds m host.now self.old) (needs_notification m host.now self.old) result }
         ensures asked { self.new ≡ after_asked self.old result }
     {
         if !self.state.ready {

@@ -2,10 +2,10 @@
 ghost use Rattle.std.specs.Prelude.{◌≡◌, ◌⊎◌, ◌<◌, true, IfOk, IsTrue};
 ghost use Rattle.vm_memory_base.specs.declared.iotlb.Permissions.TheVariants.{Write};
 ghost use Rattle.vm_memory_guest.specs.Host.{shape_of, Holds};
-ghost use Rattle.vm_memory_guest.specs.Memory.{IsOn};
+ghost use Rattle.vm_memory_guest.specs.Walk.{NeedsPieces};
 ghost use Rattle.vm_memory_guest.specs.Window.{window_names};
 ghost use Rattle.virtio_queue.specs.Fields.{Answers, is_word, lies_whole};
-ghost use Rattle.virtio_queue.specs.Used.{AddsUsed, after_used, entry_fault, entry_place, one_more, used_idx, used_places, valid};
+ghost use Rattle.virtio_queue.specs.Used.{AddsUsed, MayWantEntry, MayWantUsed, MayWantUsedIdx, MayWantValid, after_used, entry_fault, entry_place, one_more, used_idx, used_places, valid};
 
 use super::Queue;
 use crate::error::QueueError;
@@ -25,7 +25,8 @@ fn entry_place<M: GuestMemory, B: Bitmap>(
 ) -> Result<u64, QueueError>
     requires held { Holds (shape_of host.now) (M.names mem.now) }
     requires some { 0 < state.now.size }
-    ensures place { let m = M.memory mem.now in Answers (IsOn m) (entry_place m host.now state.now head) result }
+    ensures place { let m = M.memory mem.now in
+        Answers (MayWantEntry m host.now state.now head) (entry_place m host.now state.now head) result }
     ensures whole { IfOk result (λ a. IsTrue (lies_whole (M.memory mem.now) host.now a 8 Write)) }
 {
     if !state.ready {
@@ -48,7 +49,8 @@ fn entry_place<M: GuestMemory, B: Bitmap>(
 fn entry_fault<M: GuestMemory, B: Bitmap>(mem: &M, host: &HostMemory<B>, addr: u64) -> QueueError
     requires { Holds (shape_of host.now) (M.names mem.now) }
     ensures { let m = M.memory mem.now in
-        (result ≡ entry_fault m host.now addr) ⊎ ((result ≡ QueueError.Memory) × IsOn m) }
+        (result ≡ entry_fault m host.now addr)
+        ⊎ ((result ≡ QueueError.Memory) × NeedsPieces m host.now.tables addr 8 Write) }
 {
     match mem.get_slices(host, GuestAddress(addr), 8, Permissions::Write) {
         Ok(walk) => {
@@ -69,7 +71,8 @@ fn used_places<M: GuestMemory, B: Bitmap>(
 ) -> Result<(u64, VolatileSlice), QueueError>
     requires held { Holds (shape_of host.now) (M.names mem.now) }
     requires some { 0 < state.now.size }
-    ensures places { let m = M.memory mem.now in Answers (IsOn m) (used_places m host.now state.now head) result }
+    ensures places { let m = M.memory mem.now in
+        Answers (MayWantUsed m host.now state.now head) (used_places m host.now state.now head) result }
     ensures entry { IfOk result (λ p. IsTrue (lies_whole (M.memory mem.now) host.now p.0 8 Write)) }
     ensures index { IfOk result (λ p. Holds (shape_of host.now) (window_names p.1)) }
     ensures word { IfOk result (λ p. is_word p.1 ≡ true) }
@@ -96,7 +99,8 @@ impl Queue {
         host: &HostMemory<B>,
     ) -> Result<bool, QueueError>
         requires { Holds (shape_of host.now) (M.names mem.now) }
-        ensures { let m = M.memory mem.now in Answers (IsOn m) (valid m host.now self.now.state) result }
+        ensures { let m = M.memory mem.now in let q = self.now.state in
+            Answers (MayWantValid m host.now q) (valid m host.now q) result }
     {
         if !self.state.ready {
             return Err(QueueError::QueueNotReady);
@@ -118,7 +122,8 @@ impl Queue {
         host: &HostMemory<B>,
     ) -> Result<u16, QueueError>
         requires { Holds (shape_of host.now) (M.names mem.now) }
-        ensures { let m = M.memory mem.now in Answers (IsOn m) (used_idx m host.now self.now.state) result }
+        ensures { let m = M.memory mem.now in let q = self.now.state in
+            Answers (MayWantUsedIdx m host.now q) (used_idx m host.now q) result }
     {
         if !self.state.ready {
             return Err(QueueError::QueueNotReady);

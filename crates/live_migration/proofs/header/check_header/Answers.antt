@@ -9,7 +9,8 @@ abbrev none : BlockEntry
 none = record { len = 0; page_size = 0; address = 0 }
 
 pub returns-then-entries-clause-same : goal.returns-then-entries-clause-same
-returns-then-entries-clause-same c = λ fits. header_many c.args.limit c.args.entries.now c.if-entries.true fits
+returns-then-entries-clause-same c = λ digests fits.
+    header_many c.args.limit digests c.args.entries.now c.if-entries.true fits
 
 pub loop-entry-init : goal.loop-entry-init
 loop-entry-init c = all_left c.args.limit c.args.entries.now
@@ -30,7 +31,7 @@ returns-in_err-len c =
     told.fields told.value in
     let is : c.from_residual.result ≡ Err f = rw (p.1, p.2) refl in
     let both = is_refused c.args.limit c.args.entries.now f c.from_residual.result is c.if-entries.false h in
-    record { accepted = both.0; same = λ fits. both.1 }
+    record { accepted = both.0; same = λ digests fits. both.1 digests }
 
 pub returns-clause-accepted : goal.returns-clause-accepted
 returns-clause-accepted c = (
@@ -43,8 +44,8 @@ returns-clause-accepted c = (
 )
 
 pub returns-clause-same : goal.returns-clause-same
-returns-clause-same c = λ fits.
-    header_again c.args.limit c.args.entries.now (
+returns-clause-same c = λ digests fits.
+    header_again c.args.limit digests c.args.entries.now (
       c.if-entries.false,
       passed_all c.args.limit c.args.entries.now
           c.loop-entry.entry-index c.loop-entry.from c.loop-entry.left c.loop-entry-test.false c.loop-entry.invariant,

@@ -1,5 +1,5 @@
-use Rattle.std.proofs.Common.{List, Result, ap, subst, ◌∙◌, arith}
-use Rattle.live_migration.specs.Header.{GivesUnlessMemory, header_in}
+use Rattle.std.proofs.Common.{Bool, List, Result, ap, subst, ◌∙◌, arith}
+use Rattle.live_migration.specs.Header.{GivesUnlessMemory, header_in, parts_of}
 use Rattle.live_migration.specs.declared.header.BlockEntry.{BlockEntry}
 use Rattle.live_migration.specs.declared.refusal.Refusal.{Refusal}
 use Rattle.live_migration.proofs.HeaderLemmas.{header_found, header_again}
@@ -11,6 +11,7 @@ returns-clause-found c =
     c.header_in.ensures
 
 pub returns-clause-only : goal.returns-clause-only
-returns-clause-only c = λ es is e.
-    subst (λ (read : Result (List BlockEntry) Refusal). GivesUnlessMemory (λ v. v.items) c.header_in.result read)
-    (ap (header_in c.args.limit) e ∙ header_again c.args.limit es is) c.header_in.ensures
+returns-clause-only c = λ digests es is e.
+    subst (λ (read : Result (Bool × List BlockEntry) Refusal).
+    GivesUnlessMemory parts_of c.header_in.result read)
+    (ap (header_in c.args.limit) e ∙ header_again c.args.limit digests es is) c.header_in.ensures

@@ -8,5 +8,5 @@ pub returns-clause-frames : goal.returns-clause-frames
 returns-clause-frames c = same_stream
 
 pub returns-clause-header : goal.returns-clause-header
-returns-clause-header c = λ limit es fs a b e.
-    same_entries es fs (sym (header_again limit es a) ∙ ap (header_in limit) e ∙ header_again limit fs b)
+returns-clause-header c = λ limit d e es fs a b h.
+    same_entries d e es fs (sym (header_again limit d es a) ∙ ap (header_in limit) h ∙ header_again limit e fs b)

@@ -1,4 +1,4 @@
-use Rattle.std.proofs.Common.{◌≡◌, ℕ, List, [], ◌∷◌, map, Option, Some, refl, sym, ap, subst, ◌∙◌, add-zero, arith}
+use Rattle.std.proofs.Common.{◌≡◌, ℕ, true, List, [], ◌∷◌, map, Option, Some, refl, sym, ap, subst, ◌∙◌, add-zero, arith}
 use Rattle.std.specs.Global.{Vec}
 use Rattle.std.specs.Prelude.{slice_get}
 use Rattle.std.proofs.lemmas.Grind.{common_steps}
@@ -59,7 +59,8 @@ returns-in-Ok g c =
       stream = Some c.done.new.writer.items;
     } in
     let begun : HasBegun pages first = record {
-      begun = subst (λ (x : List ℕ). BeginsToSend (Some x) header c.in_ok-sender.sender) c.new-stream.ensures.items
+      digests = true;
+      begun = subst (λ (x : List ℕ). BeginsToSend true (Some x) header c.in_ok-sender.sender) c.new-stream.ensures.items
           began.begun;
       targets = began.targets;
     } in
@@ -103,7 +104,7 @@ returns-in-Ok g c =
       ends = (
         ended,
         record {
-          sent = λ bytes h. (end.fits bytes h, end.sent bytes h);
+          sent = λ digests bytes h. (end.fits digests bytes h, end.sent digests bytes h);
           idle = end.through.0;
           through = end.through.1;
           round = end.next.0;

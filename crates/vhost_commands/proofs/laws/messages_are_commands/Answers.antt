@@ -3,6 +3,6 @@ use Rattle.vhost_commands.proofs.laws.messages_are_commands.Goals as goal
 
 pub returns : goal.returns
 returns c = record {
-  run = λ number regions ms calls old new s h. run_of number regions s ms calls old new h;
+  run = λ number regions m answer calls old new s h. run_of number regions s m answer calls old new h;
   events = λ number regions ms calls old new t h. events_are number regions ms calls old new t h;
 }

@@ -6,7 +6,7 @@ use Rattle.vhost_iotlb.proofs.device.settle.Goals as goal
 
 pub returns-in-Ok-clause-served : goal.returns-in-Ok-clause-served
 returns-in-Ok-clause-served g c =
-    applied_serves g.H.SharedHost.applies c.args.table.now c.args.message c.args.host.now c.applied.new.host
+    applied_serves g.H.SharedHost.lends c.args.table.now c.args.message c.args.host.now c.applied.new.host
     c.in-Ok.iotlb c.applied.result
     (sym c.asked.ensures ∙ c.in-Some.is ∙ ap (λ (r : Result IotlbMessage Refusal). Some r) c.in-Ok.is)
     c.applied.ensures.applied

@@ -5,7 +5,7 @@ use Rattle.vhost_iotlb.proofs.InvalidationLemmas.{none_after, parts, unsaid}
 use Rattle.vhost_iotlb.proofs.laws.invalidated_addresses_are_missed.Goals as goal
 
 pub returns : goal.returns
-returns c =
+returns g c =
     let said = c.tables_say_what_was_updated_last.ensures in
     let gone = c.accesses_go_through_what_was_updated_last.ensures in
     record {

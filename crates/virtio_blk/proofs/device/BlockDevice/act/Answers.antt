@@ -22,9 +22,9 @@ returns-in-Write-clause-did g c =
     let can = rw c.in-Write.is at c.requires.can in can.2 in
     rw (c.in-Write.is, ← c.self.view_is) (record {
       sent = [];
-      disk = c.store_to_stay.new.disk;
+      disk = c.store_to_stay-status.new.disk;
       count = refl;
-      does = (refl, rw (c.if-flush.true, len) c.store_to_stay.ensures);
+      does = (refl, rw (c.if-flush.true, len) c.store_to_stay-status.ensures);
       written = writes_none g.B.Bitmap.marks (g.M.GuestMemory.memory c.args.mem.now) c.args.writer.now c.args.host.now;
       is = refl;
     })
@@ -36,9 +36,9 @@ returns-in-Write-2-clause-did g c =
     let done : c.in-Write-2.flush ≡ false = cc (c.in-Write.is, c.in-Write-2.is, c.if-flush.false) in
     rw (c.in-Write-2.is, ← c.self.view_is) (record {
       sent = [];
-      disk = c.store.new.disk;
+      disk = c.store-status.new.disk;
       count = refl;
-      does = (refl, rw (done, len) c.store.ensures);
+      does = (refl, rw (done, len) c.store-status.ensures);
       written = writes_none g.B.Bitmap.marks (g.M.GuestMemory.memory c.args.mem.now) c.args.writer.now c.args.host.now;
       is = refl;
     })
@@ -49,7 +49,7 @@ returns-in-Flush-clause-did g c =
       sent = [];
       disk = c.flush.new.disk;
       count = refl;
-      does = (refl, c.flush.ensures);
+      does = (refl, refl, c.flush.ensures);
       written = writes_none g.B.Bitmap.marks (g.M.GuestMemory.memory c.args.mem.now) c.args.writer.now c.args.host.now;
       is = refl;
     })
@@ -72,7 +72,7 @@ returns-in-Refused-clause-did g c =
       sent = [];
       disk = c.args.self.now.disk;
       count = refl;
-      does = (refl, refl, refl);
+      does = (refl, refl, refl, refl);
       written = writes_none g.B.Bitmap.marks (g.M.GuestMemory.memory c.args.mem.now) c.args.writer.now c.args.host.now;
       is = refl;
     })
@@ -83,7 +83,7 @@ returns-in-Unserved-clause-did g c =
       sent = [];
       disk = c.args.self.now.disk;
       count = refl;
-      does = (refl, refl);
+      does = (refl, refl, refl);
       written = writes_none g.B.Bitmap.marks (g.M.GuestMemory.memory c.args.mem.now) c.args.writer.now c.args.host.now;
       is = refl;
     })

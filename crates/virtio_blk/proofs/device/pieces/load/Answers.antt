@@ -19,10 +19,13 @@ returns-then-done-count-clause-loaded g c =
     let at : 512 * (c.args.sector + l.moved / 512) ≡ 512 * c.args.sector + l.moved =
     omega (arith, l.invariant.whole) in
     let got = c.load_piece-done.new.piece in
-    let done = c.load_piece-done.result in
+    let done = c.load_piece-done.result.count in
     let most : done ≤ n = rw e at c.load_piece-done.ensures.most in
-    let fits : done ≤ length got = omega (arith, most, e, c.load_piece-done.auto.piece) in
+    let given : length got ≡ n = omega (arith, e, c.load_piece-done.auto.piece) in
+    let fits : done ≤ length got = omega (arith, most, given) in
+    let few : done < length got = omega (arith, c.if-done-count.true, given) in
     let len = length c.args.writer.now - 1 in
+    let size : length got ≡ min (len - l.moved) 65536 = omega (arith, given, c.min-count.ensures, c.left-len.ensures) in
     let short : l.moved + done < len =
     omega (arith, c.if-done-count.true, c.min-count.ensures, c.left-len.ensures) in
     let all : len + 1 ≡ length c.args.writer.now = omega (arith, c.requires.some) in
@@ -40,9 +43,9 @@ returns-then-done-count-clause-loaded g c =
     } in
     loaded_ends g.B.Bitmap.marks g.D.Disk.bytes g.D.Disk.sectors g.D.Disk.calls
     (g.M.GuestMemory.memory c.args.mem.now) c.args.host.now c.args.writer.now c.args.sector c.args.disk.now
-    len l.moved done got l.disk c.load_piece-done.new.disk l.host c.load_piece-done.new.host
-    l.writer c.load_piece-done.new.writer all l.invariant fits came short n
-    (rw e at c.load_piece-done.ensures.call) c.if-done-count.true
+    len l.moved done c.load_piece-done.result.wanted got l.disk c.load_piece-done.new.disk l.host
+    c.load_piece-done.new.host l.writer c.load_piece-done.new.writer all l.invariant few size came short
+    (rw (e, ← given) at c.load_piece-done.ensures.call)
 
 pub loop-moved-preserved : goal.loop-moved-preserved
 loop-moved-preserved g c =
@@ -52,7 +55,7 @@ loop-moved-preserved g c =
     length-take-le n l.buffer (omega (arith, c.min-count.ensures, l.auto.buffer, c.requires.room)) in
     let at : 512 * (c.args.sector + l.moved / 512) ≡ 512 * c.args.sector + l.moved =
     omega (arith, l.invariant.whole) in
-    let done = c.load_piece-done.result in
+    let done = c.load_piece-done.result.count in
     let bs = take done c.load_piece-done.new.piece in
     let most : done ≤ n = rw e at c.load_piece-done.ensures.most in
     let all : done ≡ n = omega (arith, most, c.if-done-count.false) in
@@ -77,7 +80,8 @@ loop-moved-preserved g c =
     (g.M.GuestMemory.memory c.args.mem.now) c.args.host.now c.args.writer.now c.args.sector c.args.disk.now
     l.moved done bs l.disk c.load_piece-done.new.disk l.host c.load_piece-done.new.host
     l.writer c.load_piece-done.new.writer l.invariant came
-    (rw all (piece_whole len l.moved n is c.requires.whole l.invariant.whole))
+    (rw all (piece_whole len l.moved n is c.requires.whole l.invariant.whole)) (rw all is)
+    (omega (arith, c.loop-moved-test.true, size))
     (omega (arith, all, is, c.requires.some, c.loop-moved-test.true, size))
     (rw all (piece_ends-before len l.moved n (length c.args.writer.now) is
     (omega (arith, c.loop-moved-test.true, size)) (omega (arith, c.requires.some)) l.invariant.ends))

@@ -1,8 +1,8 @@
 use Rattle.std.proofs.Common.{ℕ, ◌<◌, ◌^◌, [], ◌∷◌, rules}
 use Rattle.std.specs.Int.{w16, to_le_bytes}
 use Rattle.vm_memory_base.specs.declared.iotlb.Permissions.TheVariants as permissions
-use Rattle.vm_memory_guest.specs.Memory.{IsOn, route}
-use Rattle.virtio_queue.specs.Notification.{kick_offset, kick_places, kick_value}
+use Rattle.vm_memory_guest.specs.Memory.{route}
+use Rattle.virtio_queue.specs.Notification.{MayWantKick, kick_offset, kick_places, kick_value}
 use Rattle.virtio_queue.proofs.RingLemmas.{answer_is, enabled, index_is, kick_found, waits, word_size}
 use Rattle.virtio_queue.proofs.StoreLemmas.{stored_lies}
 use Rattle.virtio_queue.proofs.queue.Queue.enable_notification.Goals as goal
@@ -15,7 +15,7 @@ returns-clause-enabled g c =
     let new = c.store_in.new.host in
     let kick = c.in_ok-kick.kick in
     let idx = c.in_ok-kick.idx in
-    let places = answer_is (IsOn m) (kick_places m old q) (kick, idx) c.in_ok-kick.ensures.places in
+    let places = answer_is (MayWantKick m old q) (kick_places m old q) (kick, idx) c.in_ok-kick.ensures.places in
     let writes = rw c.kick_value.ensures at c.store_in.ensures.written in
     let tables = c.writes_keep_shapes.ensures.tables (kick ∷ []) (to_le_bytes w16 (kick_value q)) old new writes in
     let each = g.met.M.GuestMemory.each_fits c.args.mem.now in
@@ -33,7 +33,7 @@ returns-clause-asks g c =
     let new = c.store_in.new.host in
     let kick = c.in_ok-kick.kick in
     let idx = c.in_ok-kick.idx in
-    let places = answer_is (IsOn m) (kick_places m old q) (kick, idx) c.in_ok-kick.ensures.places in
+    let places = answer_is (MayWantKick m old q) (kick_places m old q) (kick, idx) c.in_ok-kick.ensures.places in
     let writes = rw c.kick_value.ensures at c.store_in.ensures.written in
     let tables = c.writes_keep_shapes.ensures.tables (kick ∷ []) (to_le_bytes w16 (kick_value q)) old new writes in
     let small : c.kick_value.result < 2 ^ 16 = search rules in
@@ -51,7 +51,7 @@ returns-clause-waits g c none =
     let new = c.store_in.new.host in
     let kick = c.in_ok-kick.kick in
     let idx = c.in_ok-kick.idx in
-    let places = answer_is (IsOn m) (kick_places m old q) (kick, idx) c.in_ok-kick.ensures.places in
+    let places = answer_is (MayWantKick m old q) (kick_places m old q) (kick, idx) c.in_ok-kick.ensures.places in
     let writes = rw c.kick_value.ensures at c.store_in.ensures.written in
     let tables = c.writes_keep_shapes.ensures.tables (kick ∷ []) (to_le_bytes w16 (kick_value q)) old new writes in
     let each = g.met.M.GuestMemory.each_fits c.args.mem.now in

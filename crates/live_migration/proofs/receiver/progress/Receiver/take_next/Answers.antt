@@ -1,10 +1,10 @@
 use Rattle.std.proofs.Common.{◌≡◌, ◌+◌, ◌++◌, ◌∙◌, List, ℕ, Ok, ap, refl, sym, subst}
 use Rattle.std.specs.Io.KnownBytes.{Consumes}
 use Rattle.std.specs.Prelude.{sum_by}
-use Rattle.sha2.specs.Hashers.{Holds256}
-use Rattle.sha2.specs.declared.Sha256.{Sha256}
+use Rattle.live_migration.specs.Digests.{HasNoted}
 use Rattle.live_migration.specs.Frame.{message_of, payload_of}
 use Rattle.live_migration.specs.Receiving.{cost_of, section_in, sections_told}
+use Rattle.live_migration.specs.declared.digest.StreamHasher.{StreamHasher}
 use Rattle.live_migration.specs.declared.receiver.progress.Progress.{Progress}
 use Rattle.live_migration.proofs.StreamLemmas.{spelled}
 use Rattle.live_migration.proofs.receiver.progress.Receiver.take_next.Goals as goal
@@ -36,9 +36,10 @@ returns-clause-taken g c =
         left =
             ap (λ (p : Progress). p.left + sum_by cost_of (section_in m)) same ∙ c.in_ok-accept.ensures.left;
         right = c.in_ok-accept.ensures.right;
-        hashed = λ sent h.
-            subst (λ (t : List ℕ). Holds256 c.note.new.self.hasher (sent ++ t))
+        hashed = λ digests sent h.
+            subst (λ (t : List ℕ). HasNoted digests c.note.new.self.hasher (sent ++ t))
             (spelled c.in_ok-kind.kind c.as_slice-2.result.now m found.1 again)
-            (c.note.ensures.hashed sent (subst (λ (s : Sha256). Holds256 s sent) (sym kept.hasher) h));
+            (c.note.ensures.hashed digests sent
+            (subst (λ (s : StreamHasher). HasNoted digests s sent) (sym kept.hasher) h));
       },
     )

@@ -1,5 +1,0 @@
-//! Tests of chains of descriptors.
-#![tactic(auto)]
-
-#[cfg(test)]
-mod chain;
