@@ -292,7 +292,8 @@ static int messages(void) {
 
 /* Each code has a text of its own. */
 static int texts(void) {
-    static const uint32_t ranges[][2] = {{0, 6}, {16, 16}, {18, 22}, {32, 61}, {64, 68}, {70, 86}, {100, 118}, {120, 124}};
+    static const uint32_t ranges[][2] = {{0, 6}, {16, 16}, {18, 22}, {32, 54}, {57, 61}, {64, 68}, {70, 86},
+                                         {100, 118}, {120, 125}};
     const char *none = vmm_code_text(1000);
     for (size_t i = 0; i < sizeof ranges / sizeof *ranges; i++) {
         for (uint32_t code = ranges[i][0]; code <= ranges[i][1]; code++) {
