@@ -1,6 +1,5 @@
-//! Messages of a vhost front end on a device's I/O table, with the names of the crate `vhost_iotlb`.
-//! crates/vhost_iotlb/README.md of the repository has their rules, and docs/BINDINGS.md how a call that misses a mapping
-//! is made again.
+//! Messages of a vhost front end on a device's I/O table. crates/vhost_iotlb/README.md of the repository has their rules,
+//! and docs/BINDINGS.md how a call that misses a mapping is made again.
 //!
 //! ```
 //! use vm_memory_proved::iotlb::UserRegion;
