@@ -256,6 +256,8 @@ move_away() {
     ) &
     local load=$!
     wait_for_file /tmp/moving
+    # The kernel forgets what it read of a disk that nobody has open.
+    exec 9< "/dev/$disk"
     # The pages that are free now have other bytes, and the processor writes them no more: the kernel clears no new page.
     echo 3 > /proc/sys/vm/drop_caches
     dd if=/dev/zero of=/tmp/fill bs=1M count=24 status=none
