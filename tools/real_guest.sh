@@ -149,7 +149,7 @@ stop_backend() {
 } 2> /dev/null
 
 start_qemu() {
-    local words="console=ttyS0 quiet panic=-1 mitigations=off no_timer_check disk=vda work=$work size=$SECTORS ops=$ops files=$files flush=$flush"
+    local words="console=ttyS0 quiet panic=-1 mitigations=off no_timer_check disk=vda init_on_alloc=0 work=$work size=$SECTORS ops=$ops files=$files flush=$flush"
     local disk=(-chardev "socket,id=disk,path=$room/socket$part${ending:+,reconnect=1}") place=""
     if [ -n "$iommu" ]; then
         # The device has to keep a copy of mappings of its own, and to be told what is taken back: behind a root port.
@@ -265,9 +265,7 @@ move_guest() {
     wait_for_lines round 1 || return
     if [ "$moving" = -file ]; then
         way="exec:cat > $room/state"
-        announce_move || return
-        order "migrate -d \"$way\""
-        wait_for_move || { echo "the guest did not move" >> "$room/why"; return; }
+        move_by "migrate -d \"$way\"" || return
         end_first "$qemu_pid" "$watch_pid" "$first_backend"
         part=2
         [ "$device" = qemu ] || start_backend
@@ -282,9 +280,7 @@ move_guest() {
             [ -S "$room/way" ] && break
             sleep 0.1
         done
-        announce_move || return
-        order "migrate -d $way"
-        wait_for_move || { echo "the guest did not move" >> "$room/why"; kill -KILL "$incoming"; return; }
+        move_by "migrate -d $way" || { kill -KILL "$incoming"; return; }
         end_first "$first_qemu" "$first_watch" "$first_backend"
         qemu_pid=$incoming guest_in=$incoming_in part=2
     fi
@@ -294,15 +290,31 @@ move_guest() {
     (echo moved >&"$guest_in") 2> /dev/null
 }
 
-# Says to the guest that it is about to move, and waits until it is ready.
-announce_move() {
-    order migrate_set_parameter max-bandwidth 32M
-    echo moving >&"$guest_in"
-    until grep -q '^ready' "$room/console"; do
+# Waits for a line of a file, and returns whether it came.
+wait_for_line() {
+    until grep -aq "$1" "$2"; do
         kill -0 "$qemu_pid" 2> /dev/null || return 1
-        sleep 0.2
+        [ $# = 2 ] || order "$3"
+        sleep 0.3
     done
-    sleep 1
+}
+
+# Moves the guest this way. It has time to read the disk after all of its memory was copied once: until then QEMU is not
+# allowed to stop it.
+move_by() {
+    echo moving >&"$guest_in"
+    wait_for_line '^ready' "$room/console" || return
+    order migrate_set_parameter max-bandwidth 64M
+    order migrate_set_parameter downtime-limit 1
+    order "$1"
+    wait_for_line 'dirty sync count: \([2-9]\|[1-9][0-9]\)' "$room/monitor$part" "info migrate" || return
+    echo filling >&"$guest_in"
+    wait_for_line '^filled' "$room/console" || return
+    order migrate_set_parameter downtime-limit 10000
+    order migrate_set_parameter max-bandwidth 4G
+    wait_for_move && return
+    echo "the guest did not move" >> "$room/why"
+    return 1
 }
 
 # Ends the QEMU that the guest left, and its back end.

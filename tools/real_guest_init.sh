@@ -238,13 +238,14 @@ load() {
 }
 
 # Load until the guest has moved, and memory that the disk alone fills while it moves: a back end that forgets to mark what
-# it writes leaves other bytes there. A line on the console says that the guest is about to move, and another that it has.
+# it writes leaves other bytes there. Three lines come on the console: the guest is about to move, all of its memory was
+# copied once, and it has moved.
 move_away() {
     AREA=$((1 << 20))
     check_disk 0
     take_areas
     head -c "$PART" "/dev/$disk" > /tmp/part
-    { read -r _; touch /tmp/moving; read -r _; touch /tmp/moved; } < /dev/console &
+    { read -r _; touch /tmp/moving; read -r _; touch /tmp/filling; read -r _; touch /tmp/moved; } < /dev/console &
     (
         local round=0
         while [ ! -e /tmp/is_over ]; do
@@ -255,12 +256,16 @@ move_away() {
     ) &
     local load=$!
     wait_for_file /tmp/moving
-    # The pages that are free now have other bytes, and are not written by the processor again.
+    # The kernel forgets what it read of a disk that nobody has open.
+    exec 9< "/dev/$disk"
+    # The pages that are free now have other bytes, and the processor writes them no more: the kernel clears no new page.
     echo 3 > /proc/sys/vm/drop_caches
     dd if=/dev/zero of=/tmp/fill bs=1M count=24 status=none
     rm /tmp/fill
     echo "ready"
-    read_slowly
+    wait_for_file /tmp/filling
+    head -c "$PART" "/dev/$disk" > /dev/null
+    echo "filled"
     wait_for_file /tmp/moved
     echo "moved $(cut -d' ' -f1 /proc/uptime)"
     # From memory, and not from the disk.
@@ -274,16 +279,6 @@ move_away() {
 wait_for_file() {
     while [ ! -e "$1" ]; do
         usleep 100000
-    done
-}
-
-# Reads the beginning of the disk into memory, for as long as a move takes.
-read_slowly() {
-    local at=0
-    while [ "$at" -lt "$PART" ]; do
-        dd if="/dev/$disk" of=/dev/null bs=64k count=1 iflag=skip_bytes skip="$at" status=none
-        at=$((at + 65536))
-        usleep 20000
     done
 }
 
