@@ -6,8 +6,9 @@
 # --install installs the packages that it needs, by apt-get, --list prints the variants, and --keep keeps the files of
 # each run. Without a VARIANT it runs all. Each prints one line: its name, ok, FAILED or SLOW, the seconds, and what the
 # back end served. The status is 0 if all are ok, 1 if one failed, 3 if a package is missing, which is named, and 4 if
-# none failed but one was too slow. More variants run only if they are named: quick is a shorter default, and qemu,
-# qemu-lazy and qemu-move have QEMU's own device in place of ours.
+# none failed but one was too slow. More variants run only if they are named: quick is a shorter default, soak works for
+# REAL_GUEST_SOAK seconds (an hour by default) behind a lazy IOMMU and watches the memory and the descriptors of the back
+# end, and qemu, qemu-lazy and qemu-move have QEMU's own device in place of ours.
 #
 # The guest is Debian's kernel with an initial RAM disk of busybox, made here: tools/real_guest_init.sh is its first
 # process. QEMU emulates the processor, so no KVM is needed.
@@ -29,9 +30,9 @@ PATTERN_SIZE=$((4 << 20))
 HALF=$((32 << 20))
 
 # A variant: what the guest does, the words of the device, those of the back end, how the back end is ended meanwhile, how
-# the guest runs its IOMMU, if it has one, and by which way it moves to another QEMU.
+# the guest runs its IOMMU, if it has one, by which way it moves to another QEMU, and for how long it works.
 variant() {
-    work=full device="" backend="" ending="" queues=1 ops=40 files=6 iommu="" moving=""
+    work=full device="" backend="" ending="" queues=1 ops=40 files=6 iommu="" moving="" soak=""
     case $1 in
     default) ;;
     quick) ops=10 files=2 ;;
@@ -51,6 +52,7 @@ variant() {
     strict-8 | lazy-8) iommu=${1%-8} backend="--iotlb-limit 8" ops=10 files=2 ;;
     strict-64 | lazy-64) iommu=${1%-64} backend="--iotlb-limit 64" ops=10 files=2 ;;
     strict | lazy) iommu=$1 ops=10 files=2 ;;
+    soak) work=load iommu=lazy backend="--iotlb-limit 64" ops=10 files=2 soak=${REAL_GUEST_SOAK:-3600} ;;
     move | move-file) work=move moving=${1#move} ops=4 ;;
     strict-move | strict-move-file) work=move moving=${1#strict-move} iommu=strict backend="--iotlb-limit 64" ops=4 ;;
     *) return 1 ;;
@@ -190,7 +192,7 @@ is_writing() {
 # Ends QEMU if its guest waits, or when its time is up. On a busy machine a guest gets little of a processor, but goes on
 # wanting it; one that waits for its disk does not want it. When the time is up it has failed only if it ran in circles.
 watch_guest() {
-    local said=-1 now begun=$SECONDS quiet_since had had_then wanted wanted_then
+    local said=-1 now begun=$SECONDS quiet_since had had_then wanted wanted_then limit=$((LIMIT + ${soak:-0}))
     while sleep 1 && kill -0 "$qemu_pid" 2> /dev/null; do
         now=$(stat -c %s "$room/console")
         read -r had wanted < <(qemu_worked)
@@ -203,11 +205,11 @@ watch_guest() {
             echo "the guest waits: it said nothing for $WAITING s, and wanted no processor" >> "$room/why"
             break
         fi
-        if [ $((SECONDS - begun)) -ge "$LIMIT" ]; then
+        if [ $((SECONDS - begun)) -ge "$limit" ]; then
             if [ $((had - had_then)) -ge $((CIRCLING * 1000)) ]; then
                 echo "the guest runs in circles: it said nothing while it had a processor for $CIRCLING s" >> "$room/why"
             else
-                echo "in $LIMIT s QEMU had a processor for $((had / 1000)) s" >> "$room/slow"
+                echo "in $limit s QEMU had a processor for $((had / 1000)) s" >> "$room/slow"
             fi
             break
         fi
@@ -238,6 +240,29 @@ end_backend() {
         start_backend
     done
     wait_for_lines round 1 || return
+    echo enough >&"$guest_in"
+}
+
+# The KiB of memory of its own that the back end has, and how many descriptors.
+backend_size() {
+    awk '/^RssAnon:/ { print $2 }' "/proc/$backend_pid/status"
+    find "/proc/$backend_pid/fd" -type l | wc -l
+}
+
+# Lets the guest work, and says on the way what the back end has. After a tenth of the time that may not grow.
+soak_guest() {
+    local begun=$SECONDS first="" now
+    wait_for_lines round 1 || return
+    while [ $((SECONDS - begun)) -lt "$soak" ] && kill -0 "$qemu_pid" 2> /dev/null; do
+        sleep 10
+        now=$(backend_size | tr '\n' ' ')
+        echo "$((SECONDS - begun)) s: $now" >> "$room/sizes"
+        [ -n "$first" ] || [ $((SECONDS - begun)) -lt $((soak / 10)) ] || first=$now
+    done
+    # shellcheck disable=SC2086
+    set -- $first $now
+    grown="; memory of its own $1 KiB, then $3 KiB; $2 descriptors, then $4"
+    [ "$3" -le $(($1 + 256)) ] && [ "$4" -le "$2" ] || echo "the back end has grown$grown" >> "$room/why"
     echo enough >&"$guest_in"
 }
 
@@ -400,7 +425,7 @@ compare_counts() {
 
 run_variant() {
     local name=$1 starts=0 backend_pid="" qemu_pid="" watch_pid guest_in begun status
-    local work device backend ending queues ops files iommu moving flush=1 part=""
+    local work device backend ending queues ops files iommu moving soak flush=1 part="" grown=""
     variant "$name"
     [ "$name" = no-flush ] && flush=0
     room=$shared/$name
@@ -414,6 +439,7 @@ run_variant() {
     [ "$device" = qemu ] || start_backend
     start_qemu
     [ -n "$ending" ] && end_backend
+    [ -n "$soak" ] && soak_guest
     [ "$work" = move ] && move_guest
     wait "$qemu_pid" 2> /dev/null
     status=$?
@@ -465,6 +491,7 @@ report() {
     for word in 'I/O table' log; do
         said+=$(grep -a "^$word: " "$room/backend" 2> /dev/null | tail -n 1 | sed 's/^/; /')
     done
+    said+=$grown
     printf '%-16s %-6s %4s s  %s\n' "$name" "$verdict" "$took" "$said"
     [ "$status" = 0 ] && return
     cat "$room/slow" "$room/why" 2> /dev/null | sed 's/^/    /'

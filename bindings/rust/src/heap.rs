@@ -20,7 +20,7 @@ use std::sync::{Mutex, MutexGuard, PoisonError};
 // A huge page, and the least request that has a mapping: below it no mapping can have a huge page.
 const HUGE_PAGE: usize = 2 << 20;
 
-// The zeros of a new block go to at most so many mappings of one piece of memory. A process has 65,000 mappings.
+// The most mappings of one piece of memory to which the zeros of a new block go. A process may have 65,000 mappings.
 const PIECES: usize = 4096;
 
 // Each mapping begins at a multiple of this. Most requests of `malloc` do not, and need no look at the table.

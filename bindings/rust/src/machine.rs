@@ -481,7 +481,7 @@ pub(crate) fn list(numbers: impl Iterator<Item = u64>) -> Vec<u8> {
     numbers.flat_map(u64::to_le_bytes).collect()
 }
 
-// Room for so many bytes.
+// Room for a number of bytes.
 pub(crate) fn zeroed(size: usize) -> Result<Vec<u8>, MachineError> {
     let mut bytes = Vec::new();
     if bytes.try_reserve_exact(size).is_err() {

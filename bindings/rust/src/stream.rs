@@ -11,7 +11,7 @@ use std::io::{self, ErrorKind, Read, Write};
 // Bytes go in pieces of this size.
 const PIECE: usize = 0x1_0000;
 
-// An interrupted try is made again, so many times in a row.
+// How often in a row an interrupted try is made again.
 const RETRIES: usize = 64;
 
 impl GuestMemory<'_> {
@@ -159,7 +159,7 @@ impl GuestMemory<'_> {
         Ok(())
     }
 
-    // Fails as a read of so many bytes does before it moves any: it is asked for by a sink that fails at once.
+    // Fails as a read of that many bytes does before it moves any: it is asked for by a sink that fails at once.
     fn expect_first(&self, addr: GuestAddress, room: &mut [u8]) -> Result<(), GuestMemoryError> {
         let call = self.at(kind::WRITE_TO, addr, room.len());
         let answer = self.machine().call(&call, &sink_input(&[SinkStep::Fail]), room);
@@ -191,7 +191,7 @@ fn is_missing(error: &GuestMemoryError) -> bool {
     is_too_small || is_refusal(error, Reason::MissingMapping)
 }
 
-// The address after so many bytes.
+// The address a number of bytes further on.
 fn after(addr: GuestAddress, total: usize) -> GuestAddress {
     GuestAddress(addr.0.wrapping_add(total as u64))
 }

@@ -121,7 +121,7 @@ fn integers_are_loaded_and_stored_as_one() {
     ));
 }
 
-// A source that gives so many bytes at each try, or is interrupted, or fails.
+// A source that gives a fixed number of bytes at each try, or is interrupted, or fails.
 struct Tries(Vec<Result<usize, ErrorKind>>);
 
 impl Read for Tries {

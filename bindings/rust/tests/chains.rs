@@ -10,7 +10,7 @@ use std::io::{self, ErrorKind, Read, Write};
 use vm_memory_proved::queue::{DescriptorChain, Queue, QueueError, Reader, Writer};
 use vm_memory_proved::{GuestMemory, GuestMemoryError, IommuError, Machine, Permissions, Reason};
 
-// Two regions in a row, the first of which ends at an odd address, and one behind a gap.
+// Two regions in a row, the first of which ends at an odd address, and one after a gap.
 const RANGES: [(u64, usize); 3] = [(0x1000, 0x41), (0x1041, 0x2f), (0x2000, 0x40)];
 
 // The queue lies in a region of its own, and its indirect tables behind it.

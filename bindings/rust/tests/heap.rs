@@ -30,7 +30,7 @@ impl Memory {
         assert!(tried.ok);
         let alignment = if size >= HUGE_PAGE { HUGE_PAGE } else { 16 };
         assert_eq!(tried.at as usize % alignment, 0, "{size}");
-        // SAFETY: the memory has so many bytes, and is this one's alone.
+        // SAFETY: the memory has that many bytes, and is this one's alone.
         unsafe { tried.at.write_bytes(byte, size) };
         let at = tried.at;
         Memory { at, size, byte }

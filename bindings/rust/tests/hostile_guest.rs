@@ -19,7 +19,7 @@ const SIZE: usize = 0x4000;
 const ENTRIES: u16 = 8;
 const MOST: usize = 40;
 
-// So many chains and so many refusals, or as many as come in a minute.
+// How many chains and how many refusals there have to be, or as many as come in a minute.
 const ENOUGH: u32 = 50_000;
 const LIMIT: Duration = Duration::from_secs(60);
 

@@ -55,7 +55,7 @@ impl Model {
             .map_or(0x1_0000, |block| block.start + block.bytes.len() as u64)
     }
 
-    // Plugs a block in behind the others, or behind a gap, and makes a memory of all, with or without an IOMMU.
+    // Plugs a block in after the others, or after a gap, and makes a memory of all, with or without an IOMMU.
     fn plug(&mut self, machine: &Machine, numbers: &mut Numbers) {
         let size = (1 + numbers.below(3)) * PAGE;
         let start = self.end() + GAP * numbers.below(2) as u64;

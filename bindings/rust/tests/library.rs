@@ -36,7 +36,7 @@ fn repository(name: &str) -> PathBuf {
     folder
 }
 
-// Makes all files and folders from here on so many seconds old.
+// Makes all files and folders from here on a number of seconds old.
 fn age(path: &Path, seconds: u64) {
     if path.is_dir() {
         for entry in fs::read_dir(path).unwrap() {

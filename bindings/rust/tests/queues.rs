@@ -328,7 +328,7 @@ fn plain_calls_answer_by_numbers() {
 
 // ---- chains in flight
 
-// The orders of so many.
+// The orders of a number of chains.
 fn orders(count: u16) -> Vec<Vec<u16>> {
     if count == 0 {
         return vec![Vec::new()];
@@ -643,7 +643,7 @@ fn need_event(event: u16, new: u16, old: u16) -> bool {
     new.wrapping_sub(event).wrapping_sub(1) < new.wrapping_sub(old)
 }
 
-// Adds so many entries.
+// Adds a number of entries.
 fn add(driver: &mut Driver<'_>, queue: &Queue<'_>, count: u16) {
     for _ in 0..count {
         driver.publish(0);

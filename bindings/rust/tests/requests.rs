@@ -13,7 +13,7 @@ use vm_memory_proved::queue::{DescriptorChain, QueueError};
 use vm_memory_proved::raw::{code, kind, request, Answer, Call};
 use vm_memory_proved::Machine;
 
-// A request of so many bytes after the header and so many writable ones, in one segment each, with the header byte by
+// A request with a number of bytes after the header and a number of writable ones, in one segment each, with the header byte by
 // byte and the data in three, and in pieces of any length, some of them without bytes.
 fn shapes(given: u64, room: u64) -> Vec<Vec<Segment>> {
     let (readable, writable) = (read(HEADER, 16 + given), written(ROOM, room));

@@ -193,7 +193,7 @@ impl Sequence {
         }
     }
 
-    // A descriptor of a table of so many, of which one in so many is indirect.
+    // A descriptor of a table of a given size. One in a given number is indirect.
     fn put_descriptor(&mut self, image: &mut Image, place: u64, len: u64, indirect: u64) {
         let mut flags = 2 * self.one_in(5);
         flags += u64::from(self.below(8) < 4);
@@ -313,8 +313,8 @@ struct Walk<'a, 'b> {
 }
 
 impl Walk<'_, '_> {
-    // Puts a walk of so many descriptors from an index on, of which those from `writes` on are written. The last may lead
-    // to a table of so many bytes.
+    // Puts a walk of a number of descriptors from an index on. Those from `writes` on are written. The last may lead
+    // to a table, of this many bytes.
     fn put(&mut self, first: u64, count: u64, writes: u64, table: Option<(u64, u64)>) {
         // An odd step visits each index of a table whose length is a power of two.
         let step = 1 + 2 * self.numbers.below(self.len);
@@ -353,7 +353,7 @@ fn indirect_table(numbers: &mut Numbers) -> (u64, u64) {
     (place, 16 * (1 + numbers.below(65_535)))
 }
 
-// How many descriptors of so many a walk has: mostly some, sometimes all.
+// How many of these descriptors a walk has: mostly some, sometimes all.
 fn count(numbers: &mut Numbers, len: u64, all: u64) -> u64 {
     match numbers.one_in(all) {
         true => len,

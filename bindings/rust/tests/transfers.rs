@@ -37,7 +37,7 @@ const SETUP: [&str; 20] = [
     "set 0 0x220000 0x110000 0x10000 w",
 ];
 
-// What moves: so many bytes, or none since the access is refused.
+// What moves: a number of bytes, or none since the access is refused.
 enum Moved {
     Count(usize),
     Refused(&'static str),

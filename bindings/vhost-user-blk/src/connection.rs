@@ -27,7 +27,7 @@ pub const SOCKET: u64 = 1;
 const CHANNEL: u64 = 2;
 const RINGS: u64 = 3;
 
-// All chains in flight have at most so many descriptors. One chain has them: an indirect table has 65,535 at most.
+// The most descriptors that all chains in flight may have. One chain may have them all: an indirect table has up to 65,535.
 const MAX_CHAIN: usize = 65_535 + 1;
 
 // How often a ring is looked at whose driver has no descriptor to notify by.

@@ -53,7 +53,7 @@ pub struct Logger<'a> {
 }
 
 impl Logger<'_> {
-    /// Marks in the machine what a write to a chain reached: so many bytes from an offset on.
+    /// Marks in the machine what a write of these bytes to a chain, from an offset on, reached.
     pub fn wrote(&self, at: &Place<'_>, id: ChainId, offset: usize, bytes: &[u8]) {
         let (chain, blind) = (at.queue.chain_by_id(id), at.memory.blind());
         let mut done = 0;

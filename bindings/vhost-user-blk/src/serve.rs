@@ -13,10 +13,10 @@ use vm_memory_proved::queue::{ChainId, Queue, QueueError};
 use vm_memory_proved::vhost_user::Refusal;
 use vm_memory_proved::{GuestMemory, GuestMemoryError, IommuError, Miss, Reason};
 
-// Data go in pieces of so many bytes.
+// The most bytes of data that are moved at once.
 const PIECE: usize = 128 << 10;
 
-// So many requests are served before messages and other queues are looked at: a guest may publish without end.
+// How many requests are served before messages and other queues are looked at: a guest may publish without end.
 const TURN: usize = 64;
 
 /// Why a queue is served no more.
@@ -69,7 +69,7 @@ pub enum Step {
     Begin(ChainId),
     /// Data go between the disk and a chain.
     Move(ChainId, Transfer),
-    /// The status of a chain is written, to which so many bytes were written before.
+    /// The status of a chain is written. The number says how many bytes were written to it before.
     Finish(ChainId, u8, usize),
     /// A chain is returned with a length.
     Return(ChainId, u32),

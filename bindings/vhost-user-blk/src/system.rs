@@ -152,11 +152,11 @@ impl Epoll {
         let mut events = [const { MaybeUninit::<libc::epoll_event>::uninit() }; ROOM];
         // Of a part of a millisecond it waits a whole one.
         let millis = time.map_or(-1, |time| time.as_nanos().div_ceil(1_000_000).min(1 << 30) as c_int);
-        // SAFETY: there is room for so many events.
+        // SAFETY: there is room for `ROOM` events.
         let count = unsafe { libc::epoll_wait(self.0.as_raw_fd(), events.as_mut_ptr().cast(), ROOM as c_int, millis) };
         ready.clear();
         match checked(count) {
-            // SAFETY: the system has filled in so many of them.
+            // SAFETY: the system has filled in `count` of them.
             Ok(count) => ready.extend(
                 events
                     .iter()
@@ -228,7 +228,7 @@ pub fn termination() -> io::Result<OwnedFd> {
 
 // ---- memory that goes away
 
-// The blocks of the machine that is called, and behind them the log: where each begins, and its length, or 0. The handler
+// The blocks of the machine that is called, and after them the log: where each begins, and its length, or 0. The handler
 // reads them.
 static BLOCKS: [(AtomicUsize, AtomicUsize); MOST + 1] =
     [const { (AtomicUsize::new(0), AtomicUsize::new(0)) }; MOST + 1];
@@ -306,7 +306,7 @@ pub struct SharedBits {
 }
 
 impl SharedBits {
-    /// Maps so many bytes of a file, from an offset on, which is a multiple of a page.
+    /// Maps `size` bytes of a file from an offset on, which is a multiple of a page.
     pub fn new(file: &OwnedFd, offset: u64, size: u64) -> io::Result<SharedBits> {
         let len = usize::try_from(size).map_err(io::Error::other)?;
         let offset = libc::off_t::try_from(offset).map_err(io::Error::other)?;

@@ -10,7 +10,7 @@ const LEN: usize = 1 << 20;
 const SHIFT: u64 = 0xffff_0000_0000;
 const BEHIND: u64 = USUAL | ACCESS_PLATFORM;
 
-// A ring whose addresses and buffers go through a table of so many ranges.
+// A ring whose addresses and buffers go through a table of a limited number of ranges.
 fn started(program: &Program, features: u64) -> FrontEnd {
     let mut front = program.connect();
     front.negotiate(features);

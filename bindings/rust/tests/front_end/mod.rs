@@ -101,7 +101,7 @@ fn long(bytes: &[u8], at: usize) -> u64 {
     u64::from_le_bytes(bytes[at..at + 8].try_into().unwrap())
 }
 
-// Whether so many addresses from one on have an end that is an address.
+// Whether the end of a range of addresses is an address.
 fn has_end(from: u64, size: u64) -> bool {
     u128::from(from) + u128::from(size) < 1 << 64
 }

@@ -33,7 +33,7 @@ impl Numbers {
     }
 }
 
-/// A memory of one block of so many bytes at an address, with dirty pages of 16 bytes.
+/// A memory of one block at an address, with dirty pages of 16 bytes.
 pub fn memory_of(machine: &Machine, addr: u64, size: usize) -> MemoryId {
     let block = machine.block(size, 16).unwrap();
     let region = machine.region(block, at(addr)).unwrap();
@@ -101,7 +101,7 @@ impl<'a> Driver<'a> {
         queue.set_ready(true);
     }
 
-    /// The device's half, for so many descriptors in flight.
+    /// The device's half, for a number of descriptors in flight.
     pub fn queue(&self, max_descriptors: usize) -> Queue<'a> {
         let queue = self.memory.machine().queue(self.size, max_descriptors).unwrap();
         self.set_up(&queue);

@@ -50,7 +50,7 @@ impl Image {
         }
     }
 
-    /// A number of so many bytes.
+    /// A number of a given width in bytes.
     fn number(&self, addr: u64, count: u64) -> Result<u64, Refusal> {
         if addr.checked_add(count - 1).is_none() {
             return Err(Refusal::new("AddressOverflow"));
@@ -223,7 +223,7 @@ pub fn total(segments: &[Segment], is_written: bool) -> u64 {
     those.map(|segment| segment.len).sum()
 }
 
-/// The addresses of at most so many bytes that a device reads, or writes, from an offset on.
+/// The addresses of the bytes that a device reads, or writes, from an offset on, up to a number of them.
 pub fn addresses(segments: &[Segment], is_written: bool, offset: u64, count: usize) -> Vec<u64> {
     let (mut before, mut found) = (offset, Vec::new());
     for segment in segments.iter().filter(|segment| segment.is_written == is_written) {

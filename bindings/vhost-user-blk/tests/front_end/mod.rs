@@ -68,7 +68,7 @@ pub struct Program {
 }
 
 impl Program {
-    /// Starts the program on an image of so many bytes, each of which tells its sector.
+    /// Starts the program on an image of `len` bytes, each of which depends on its sector.
     pub fn start(name: &str, len: usize, words: &[&str]) -> Program {
         let folder = Path::new(env!("CARGO_TARGET_TMPDIR")).join(name);
         let _ = fs::remove_dir_all(&folder);
@@ -381,7 +381,7 @@ impl FrontEnd {
 
     // ---- the I/O table
 
-    /// Has the device reach rings and buffers by I/O addresses, which lie this far behind the guest's. Each page leads to
+    /// Has the device reach rings and buffers by I/O addresses, which lie this far after the guest's. Each page leads to
     /// its own, to read and write.
     pub fn translate(&mut self, shift: u64) {
         let (mine, other) = UnixStream::pair().unwrap();
@@ -468,7 +468,7 @@ impl FrontEnd {
         assert!(self.is_done(SET_MEM_TABLE, &FrontEnd::table(&[(0, RAM as u64, 0)]), &[&ram]));
     }
 
-    /// Starts a ring of so many descriptors from an index on. The rings before it are started.
+    /// Starts a ring of `size` descriptors from an index on. The rings before it are started.
     pub fn start_ring(&mut self, size: u16, base: u16) -> usize {
         let index = self.rings.len();
         let ring = Ring {
