@@ -20,8 +20,7 @@ const REQUESTS: usize = 20_000;
 
 // Nanoseconds that this thread has worked.
 fn own_time() -> u64 {
-    let words = std::fs::read_to_string("/proc/thread-self/schedstat").unwrap();
-    words.split(' ').next().unwrap().parse().unwrap()
+    time_of(libc::CLOCK_THREAD_CPUTIME_ID)
 }
 
 // The least of several rounds, in nanoseconds each.
@@ -159,13 +158,11 @@ fn put(front: &FrontEnd, depth: usize) {
     }
 }
 
-// What a processor works for each request in the program. A round is longer than those of the parts: another process' time
-// is known less exactly than one's own.
+// What a processor works for each request in the program.
 fn whole(program: &Program, front: &mut FrontEnd, depth: usize) -> f64 {
-    let longer = 5;
     least(|| {
         let begun = program.processor_time();
-        for round in 0..longer * REQUESTS / depth {
+        for round in 0..REQUESTS / depth {
             for i in 0..depth {
                 let data = front.places(0, 3 * i as u16).0;
                 front.write(data - 0x1000 + 8, &(place(round * depth + i) / 512).to_le_bytes());
@@ -178,7 +175,7 @@ fn whole(program: &Program, front: &mut FrontEnd, depth: usize) -> f64 {
             }
         }
         program.processor_time() - begun
-    }) / longer as f64
+    })
 }
 
 #[test]
