@@ -13,9 +13,13 @@
 # The guest is Debian's kernel with an initial RAM disk of busybox, made here: tools/real_guest_init.sh is its first
 # process. QEMU emulates the processor, so no KVM is needed.
 #
-# VHOST_USER_BLK names the program (without it cargo builds it), and REAL_GUEST_SECONDS is how long a guest may take. A
-# guest that waits for what does not come fails before that, and one that is only slow does not fail.
+# VHOST_USER_BLK names the program (without it cargo builds it), QEMU names QEMU, and REAL_GUEST_SECONDS is how long a
+# guest may take. A guest that waits for what does not come fails before that, and one that is only slow does not fail.
+#
+# Before version 9.0 QEMU forgets some pages that emulated processors wrote, each time it looks for such pages while a
+# guest moves ("physmem: Fix migration dirty bitmap coherency with TCG memory access"). So a guest is moved in one go.
 set -u
+QEMU=${QEMU:-qemu-system-x86_64}
 TOP=$(cd "$(dirname "${BASH_SOURCE[0]}")/.." && pwd)
 LIMIT=${REAL_GUEST_SECONDS:-900}
 # A guest waits if it said nothing for so many seconds, and wanted a processor for less than a tenth of them. It runs in
@@ -64,7 +68,7 @@ VARIANTS=(default no-event-idx no-indirect queue-16 queue-256 queue-1024 two-que
 
 missing() {
     local found=()
-    command -v qemu-system-x86_64 > /dev/null || found+=(qemu-system-x86)
+    command -v "$QEMU" > /dev/null || found+=(qemu-system-x86)
     [ -n "$(kernel)" ] || found+=(linux-image-amd64)
     [ -x /bin/busybox ] && ! ldd /bin/busybox > /dev/null 2>&1 || found+=(busybox-static)
     [ -x /sbin/mke2fs ] && [ -x /sbin/debugfs ] || found+=(e2fsprogs)
@@ -167,7 +171,7 @@ start_qemu() {
     fi
     mkfifo "$room/in$part" "$room/monitor$part.in" "$room/monitor$part.out"
     cat "$room/monitor$part.out" > "$room/monitor$part" &
-    qemu-system-x86_64 -accel tcg,thread=multi -machine q35,memory-backend=ram -smp 2 \
+    "$QEMU" -accel tcg,thread=multi -machine q35,memory-backend=ram -smp 2 \
         -m 256M -object memory-backend-memfd,id=ram,size=256M,share=on -nodefaults -no-user-config -display none \
         -chardev "pipe,id=monitor,path=$room/monitor$part" -mon chardev=monitor "$@" \
         -no-reboot -kernel "$(kernel)" -initrd "$shared/initrd" -append "$words id=disk.img" "${disk[@]}" \
@@ -324,17 +328,29 @@ wait_for_line() {
     done
 }
 
-# Moves the guest this way. It has time to read the disk after all of its memory was copied once: until then QEMU is not
-# allowed to stop it.
+# The KiB of memory that QEMU has still to move.
+left_to_move() {
+    order info migrate
+    sleep 0.2
+    grep -a '^remaining ram: ' "$room/monitor$part" | tail -n 1 | sed 's/[^0-9]//g'
+}
+
+# Moves the guest this way. It reads the disk after most of its memory was copied once, and before the rest is: QEMU is
+# too slow meanwhile to come to an end.
 move_by() {
+    local left
     echo moving >&"$guest_in"
     wait_for_line '^ready' "$room/console" || return
-    order migrate_set_parameter max-bandwidth 64M
+    order migrate_set_parameter max-bandwidth 32M
     order migrate_set_parameter downtime-limit 1
     order "$1"
-    wait_for_line 'dirty sync count: \([2-9]\|[1-9][0-9]\)' "$room/monitor$part" "info migrate" || return
+    until left=$(left_to_move) && [ -n "$left" ] && [ "$left" -le $((64 << 10)) ]; do
+        kill -0 "$qemu_pid" 2> /dev/null || return 1
+    done
+    order migrate_set_parameter max-bandwidth 1M
     echo filling >&"$guest_in"
     wait_for_line '^filled' "$room/console" || return
+    grep -aq 'status: completed' "$room/monitor$part" && echo "the guest moved too early" >> "$room/why"
     order migrate_set_parameter downtime-limit 10000
     order migrate_set_parameter max-bandwidth 4G
     wait_for_move && return

@@ -238,8 +238,8 @@ load() {
 }
 
 # Load until the guest has moved, and memory that the disk alone fills while it moves: a back end that forgets to mark what
-# it writes leaves other bytes there. Three lines come on the console: the guest is about to move, all of its memory was
-# copied once, and it has moved.
+# it writes leaves other bytes there. Three lines come on the console: the guest is about to move, most of its memory was
+# copied, and it has moved.
 move_away() {
     AREA=$((1 << 20))
     check_disk 0
@@ -283,6 +283,8 @@ wait_for_file() {
 }
 
 main() {
+    # Lines that come on the console do not appear amid those that are written there.
+    stty -echo < /dev/console
     while read -r module; do
         insmod "/modules/$module" || fail "insmod $module"
     done < /modules/list
