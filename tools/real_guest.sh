@@ -309,7 +309,8 @@ move_guest() {
             [ -S "$room/way" ] && break
             sleep 0.1
         done
-        move_by "migrate -d $way" || { kill -KILL "$incoming"; return; }
+        # shellcheck disable=SC2086
+        move_by "migrate -d $way" || { kill -KILL "$incoming" $first_backend; return; }
         end_first "$first_qemu" "$first_watch" "$first_backend"
         qemu_pid=$incoming guest_in=$incoming_in part=2
     fi
