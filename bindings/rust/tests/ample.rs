@@ -43,10 +43,10 @@ fn many_of_each_kind() {
     for whole in [layout, grown] {
         let memory = machine.memory(machine.plain(whole).unwrap()).unwrap();
         for (number, (_, block)) in regions.iter().enumerate() {
-            let mut bytes = [0; 8];
-            memory.read_slice(&mut bytes, at(16 * number as u64)).unwrap();
-            assert_eq!(u64::from_le_bytes(bytes), number as u64);
-            assert_eq!(machine.dirty_block(*block).unwrap(), [0]);
+            let place = at(16 * number as u64);
+            assert_eq!(memory.read_obj::<u64>(place).unwrap(), number as u64);
+            memory.write_obj(number as u64, place).unwrap();
+            assert_eq!(machine.harvest_block(*block).unwrap(), [0]);
         }
     }
     for number in 0..MANY - 1 {
@@ -123,17 +123,21 @@ fn many_dirty_pages() {
         machine
             .set_mapping(table, at(0), at(0), pages, Permissions::ReadWrite)
             .unwrap();
-        let memory = machine.new_memory(layout, translator, space, true).unwrap();
-        let memory = machine.memory(memory).unwrap();
-        memory.write_slice(&vec![7; pages], at(0)).unwrap();
+        let plain = machine.memory(machine.plain(layout).unwrap()).unwrap();
+        let behind = machine.new_memory(layout, translator, space, true).unwrap();
+        let behind = machine.memory(behind).unwrap();
         let all: Vec<usize> = (0..pages).collect();
-        assert!(machine.dirty_block(block).unwrap() == all && machine.dirty_space(space).unwrap() == all);
+        // A write by I/O addresses marks their space, and another one the block.
+        plain.write_slice(&vec![7; pages], at(0)).unwrap();
+        assert!(machine.dirty_block(block).unwrap() == all && machine.dirty_space(space).unwrap().is_empty());
+        behind.write_slice(&vec![7; pages], at(0)).unwrap();
+        assert!(machine.dirty_space(space).unwrap() == all);
         assert!(machine.harvest_block(block).unwrap() == all && machine.harvest_space(space).unwrap() == all);
         assert!(machine.dirty_block(block).unwrap().is_empty() && machine.harvest_space(space).unwrap().is_empty());
         machine.mark_block(block, 1, pages - 1).unwrap();
         assert!(machine.harvest_block(block).unwrap() == all[1..]);
-        assert_eq!(memory.mark_reached(at(0), pages).unwrap(), pages);
-        assert!(machine.harvest_block(block).unwrap() == all);
+        assert_eq!(behind.mark_reached(at(0), pages).unwrap(), pages);
+        assert!(machine.harvest_block(block).unwrap() == all && machine.dirty_space(space).unwrap().is_empty());
     }
 }
 
