@@ -11,7 +11,7 @@ use vm_memory_guest::{BlockId, HostMemory};
 
 // The lengths of the blocks and of their pages, the block of a frame, how many bytes it has from the first page on, and
 // what comes of it. Of a frame that is taken, the first page is then made zeros.
-type Case = (&'static [(u64, u64)], usize, usize, &'static str);
+type Case = (&'static [(u64, u64)], u32, u32, &'static str);
 
 const SHORT: (u64, u64) = (0x10, 0x10);
 
@@ -70,20 +70,20 @@ fn receiver_of<B: NewBitmap + Drop>(
 }
 
 // The kind and the payload's length of a frame, its block and its first page, written by hand.
-fn head_of(alloc: Global, kind: u32, len: usize, block: usize) -> Result<Vec<u8>, Fail> {
+fn head_of(alloc: Global, kind: u32, len: u32, block: u32) -> Result<Vec<u8>, Fail> {
     let mut frame = Vec::new(alloc);
     frame.extend_from_slice(&kind.to_le_bytes())?;
-    frame.extend_from_slice(&(len as u32).to_le_bytes())?;
-    frame.extend_from_slice(&(block as u32).to_le_bytes())?;
+    frame.extend_from_slice(&len.to_le_bytes())?;
+    frame.extend_from_slice(&block.to_le_bytes())?;
     frame.extend_from_slice(&0u64.to_le_bytes())?;
     Ok(frame)
 }
 
 // A frame of pages.
-fn frame_of(alloc: Global, block: usize, count: usize) -> Result<Vec<u8>, Fail> {
+fn frame_of(alloc: Global, block: u32, count: u32) -> Result<Vec<u8>, Fail> {
     let mut frame = head_of(alloc, 1, count.saturating_add(12), block)?;
     for place in 0..count {
-        frame.push(byte_at(place))?;
+        frame.push(byte_at(place as usize))?;
     }
     Ok(frame)
 }
@@ -92,16 +92,20 @@ fn frame_of(alloc: Global, block: usize, count: usize) -> Result<Vec<u8>, Fail> 
 fn expect_blocks<B: NewBitmap + Drop>(
     host: &HostMemory<B>,
     blocks: &[(u64, u64)],
-    block: usize,
+    block: u32,
     zeros: usize,
-    count: usize,
+    count: u32,
 ) -> Result<(), Fail> {
     for (number, (len, _)) in blocks.iter().enumerate() {
         let bytes = bytes_of(host, BlockId(number));
         if bytes.len() as u64 != *len {
             return Err(Fail::new("a block has another length"));
         }
-        let moved = if number == block { count } else { 0 };
+        let moved = if number == block as usize {
+            count as usize
+        } else {
+            0
+        };
         for (place, byte) in bytes.iter().enumerate() {
             let is_moved = zeros <= place && place < moved;
             let wanted = if is_moved { byte_at(place) } else { 0 };
@@ -139,7 +143,7 @@ fn run<B: NewBitmap + Drop>(
     let taken = receiver.take(&mut zeros.as_slice(), host);
     expect_text(number, told(alloc, taken)?.as_str(), "Round")?;
     let page_size = blocks
-        .get(block)
+        .get(block as usize)
         .map_or(0, |(_, page_size)| *page_size as usize);
     expect_blocks(host, blocks, block, page_size, count)
 }
@@ -155,15 +159,15 @@ fn frames_are_as_long_as_the_longest_block(rt: HostRuntime) -> Result<(), Fail> 
 // Frames to the last block and to one that there is not.
 #[test]
 fn a_header_has_up_to_256_blocks(rt: HostRuntime) -> Result<(), Fail> {
-    for count in [17usize, 64, 65, 255, 256] {
-        let blocks = vec![in rt.alloc(); SHORT; count]?;
+    for count in [17u32, 64, 65, 255, 256] {
+        let blocks = vec![in rt.alloc(); SHORT; count as usize]?;
         let mut host = Host::new(rt.alloc());
         let mut receiver = receiver_of(rt.alloc(), &mut host, blocks.as_slice())?;
         let last = count.saturating_sub(1);
         for (block, wanted) in [(last, "Round"), (count, "Block")] {
             let frame = frame_of(rt.alloc(), block, 0x10)?;
             let taken = receiver.take(&mut frame.as_slice(), &mut host);
-            expect_text(count, told(rt.alloc(), taken)?.as_str(), wanted)?;
+            expect_text(count as usize, told(rt.alloc(), taken)?.as_str(), wanted)?;
         }
         expect_blocks(&host, blocks.as_slice(), last, 0, 0x10)?;
     }

@@ -161,7 +161,8 @@ fn places_of(alloc: Global, ask: Ask, writes: bool, len: usize) -> Result<Vec<u6
     Ok(places)
 }
 
-// Tries a request, maps what it misses up to the next of some addresses and tries it again. Tells what each try came to.
+// Tries a request, and again after it mapped what is missed up to the next of some addresses. Tells what each try came
+// to.
 fn tell_tries<R: Request>(
     host: &mut Host,
     table: &DeviceTable,
