@@ -65,6 +65,9 @@ fn receiver_of<B: NewBitmap + Drop>(
         })?;
         address = address.saturating_add(*len);
     }
+    if entries.len() > 256 {
+        return Err(Fail::new("no header has so many blocks"));
+    }
     let header = encode_header(alloc, Options::default(), entries.as_slice())?;
     Ok(Receiver::begin(alloc, &mut header.as_slice(), host, 0x100_0000)?)
 }
