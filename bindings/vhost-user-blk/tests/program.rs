@@ -5,6 +5,7 @@ mod front_end;
 use front_end::*;
 use std::fs::{self, File};
 use std::os::unix::net::UnixStream;
+use std::path::Path;
 use std::thread::sleep;
 use std::time::{Duration, Instant};
 
@@ -43,6 +44,29 @@ fn requests_reach_the_image() {
     let mut wanted = image_of(LEN + 100);
     wanted[LEN - 512..LEN].fill(0xab);
     assert_eq!(fs::read(&program.image).unwrap(), wanted);
+}
+
+// An image of 2 TiB, most of which is a hole: sectors around 2^31, 2^32 and 2^40 bytes, and the last one.
+#[test]
+fn a_large_image_is_written_in_place() {
+    let folder = Path::new(env!("CARGO_TARGET_TMPDIR")).join("large");
+    let _ = fs::remove_dir_all(&folder);
+    fs::create_dir_all(&folder).unwrap();
+    File::create(folder.join("disk.img")).unwrap().set_len(1 << 41).unwrap();
+    let program = Program::start_again(&folder, &[]);
+    let mut front = started(&program, USUAL);
+    let places = [31, 32, 40, 41].map(|bits| (1_u64 << bits) / 512);
+    let sectors: Vec<u64> = places.iter().flat_map(|place| [place - 1, *place]).collect();
+    for (i, &sector) in sectors[..7].iter().enumerate() {
+        front.write_disk(0, sector, &[i as u8 + 1; 512]);
+    }
+    for (i, &sector) in sectors[..7].iter().enumerate() {
+        assert_eq!(front.read_disk(0, sector, 512), [i as u8 + 1; 512]);
+        assert_eq!(bytes_at(&program.image, 512 * sector, 512), [i as u8 + 1; 512]);
+    }
+    assert_eq!(front.request(0, 1, sectors[7], 512).0, 1);
+    assert_eq!(front.read_disk(0, 0, 512), [0; 512]);
+    assert_eq!(fs::metadata(&program.image).unwrap().len(), 1 << 41);
 }
 
 #[test]

@@ -203,7 +203,8 @@ impl<D: Disk> Scene<D> for Whole {
     }
 }
 
-fn open(rt: &HostRuntime, name: &str) -> Result<File, Fail> {
+/// A file that is read and written.
+pub(crate) fn open(rt: &HostRuntime, name: &str) -> Result<File, Fail> {
     let file = File::options().read(true).write(true).open(rt, name)?;
     Ok(file)
 }

@@ -6,6 +6,8 @@ mod bench;
 #[cfg(test)]
 mod disks;
 #[cfg(test)]
+mod files;
+#[cfg(test)]
 mod flushes;
 #[cfg(test)]
 mod kicks;

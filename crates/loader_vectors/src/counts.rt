@@ -1,4 +1,4 @@
-//! ELF files of many program headers.
+//! ELF files of many program headers, and of long segments.
 
 use crate::images::{ELF, image_of, put};
 use linux_loader::{Elf, ImageBytes};
@@ -27,7 +27,7 @@ fn file_of(alloc: Global, count: usize) -> Result<Vec<u8>, Fail> {
 
 #[test]
 fn many_program_headers(rt: HostRuntime) -> Result<(), Fail> {
-    for count in [1, 16, 17, 64, 65, 300] {
+    for count in [1, 16, 17, 64, 65, 300, 512, 513, 65_534] {
         let file = file_of(rt.alloc(), count)?;
         let mut image = ImageBytes::new(file.as_slice());
         match Elf::plan(rt.alloc(), None, &mut image, None) {
@@ -37,6 +37,36 @@ fn many_program_headers(rt: HostRuntime) -> Result<(), Fail> {
             }
             Err(error) => return Err(Fail::new(format_args!("{count}: {error:?}"))),
         }
+    }
+    Ok(())
+}
+
+// Segments of many bytes in memory, of which one comes from the file.
+#[test]
+fn long_segments(rt: HostRuntime) -> Result<(), Fail> {
+    for size in [
+        0x7fff_ffff,
+        0x8000_0000,
+        0xffff_ffff,
+        0x1_0000_0000,
+        0x100_0000_0000,
+        0x8000_0000_0000_0000u64,
+    ] {
+        let mut file = file_of(rt.alloc(), 2)?;
+        // The second header begins at 120, and its segment at 0x1110.
+        put(&mut file, (160, 8, size));
+        let mut image = ImageBytes::new(file.as_slice());
+        let plan = Elf::plan(rt.alloc(), None, &mut image, None)?;
+        let end = plan.result.kernel_end;
+        let last = plan
+            .segments
+            .as_slice()
+            .last()
+            .map_or(0, |segment| segment.size);
+        assert!(rt;
+            last == size && end == size.wrapping_add(0x1110),
+            "{size:#x}: {last:#x} {end:#x}"
+        );
     }
     Ok(())
 }

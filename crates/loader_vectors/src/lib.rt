@@ -8,6 +8,8 @@ mod counts;
 #[cfg(test)]
 mod elves;
 #[cfg(test)]
+mod files;
+#[cfg(test)]
 mod images;
 #[cfg(test)]
 mod lines;

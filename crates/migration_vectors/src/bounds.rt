@@ -16,7 +16,8 @@ const CASES: [(usize, usize, usize, usize, usize); 5] = [
     (0x14_0000, 0x1000, 1, 0x100, 0x10_0000 + 20),
     // Pages that do not follow one another have a frame each: here of 36 bytes, and of 20 for one of zeros between two.
     // Before the last one 2^20 - 32 bytes wait, and then there is no room for 16 more.
-    (0x10_0000, 0x10, 2, 2 * 18_724 + 1, 18_724 * 56 + 36),
+    // The block has more than 2^16 pages.
+    (0x10_0010, 0x10, 2, 2 * 18_724 + 1, 18_724 * 56 + 36),
     // Two pages have more than 2^20 bytes.
     (0x18_0000, 0x8_0001, 0, 1, 20),
     // One page of the greatest size.

@@ -10,15 +10,20 @@ use std::test::Fail;
 use vm_memory_base::{ExactBitmap, GuestAddress, NewBitmap};
 use vm_memory_guest::{BlockId, HostMemory};
 
-/// Takes this many bytes, and then fails.
+/// Takes this many bytes, and then fails. Each other write is interrupted.
 #[derive(Drop)]
 pub(crate) struct Cut {
     pub(crate) bytes: Vec<u8>,
     pub(crate) left: usize,
+    pub(crate) is_interrupted: bool,
 }
 
 impl Write for Cut {
     fn write(&mut self, buf: &[u8]) -> io::Result<usize> {
+        self.is_interrupted = !self.is_interrupted;
+        if self.is_interrupted {
+            return Err(io::Error::from(ErrorKind::Interrupted));
+        }
         let count = buf.len().min(self.left);
         if count == 0 && !buf.is_empty() {
             return Err(io::Error::from(ErrorKind::BrokenPipe));
@@ -82,6 +87,7 @@ fn tried<B: ExactBitmap, C: NewBitmap + Drop>(
     let mut cut = Cut {
         bytes: Vec::new(alloc),
         left,
+        is_interrupted: false,
     };
     let options = Options { digests: true };
     let Ok(mut sender) = Sender::begin(alloc, host, places, options, &mut cut) else {

@@ -8,6 +8,8 @@ mod cuts;
 #[cfg(test)]
 mod guests;
 #[cfg(test)]
+mod lengths;
+#[cfg(test)]
 mod moves;
 #[cfg(test)]
 mod receiving;

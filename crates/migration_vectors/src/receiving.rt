@@ -24,6 +24,7 @@ fn received<B: NewBitmap + Drop>(
     let mut writer = Cut {
         bytes: Vec::new(alloc),
         left,
+        is_interrupted: false,
     };
     let mut input = stream;
     let mut receiver = match Receiver::begin(alloc, &mut input, host, LIMIT) {

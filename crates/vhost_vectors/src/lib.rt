@@ -2,15 +2,21 @@
 #![tactic(auto)]
 
 #[cfg(test)]
+mod chains;
+#[cfg(test)]
 mod channels;
 #[cfg(test)]
 mod invalidations;
+#[cfg(test)]
+mod large;
 #[cfg(test)]
 mod limits;
 #[cfg(test)]
 mod messages;
 #[cfg(test)]
 mod misses;
+#[cfg(test)]
+mod replies;
 #[cfg(test)]
 mod running;
 #[cfg(test)]
