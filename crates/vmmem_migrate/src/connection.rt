@@ -21,7 +21,9 @@ pub const VERIFY_PATIENCE: u64 = 600;
 pub struct Connection<'a, R> {
     rt: &'a R,
     stream: &'a TcpStream,
-    until: Instant,
+    // None until something is moved: then it is so many seconds after that.
+    until: Option<Instant>,
+    patience: u64,
     sent: u64,
     received: u64,
 }
@@ -34,13 +36,25 @@ fn after<R: Clock>(rt: &R, seconds: u64) -> io::Result<Instant> {
     }
 }
 
+// The time that is left up to a deadline, of which less than a millisecond counts as none.
+fn left_until<R: Clock>(rt: &R, until: Instant) -> io::Result<Duration>
+    ensures { IfOk result (λ left. 0 < as_nanos left) }
+{
+    let left = until.duration_since(Instant::now(rt)?);
+    if left.as_nanos() < 1_000_000 {
+        return Err(io::Error::from(ErrorKind::TimedOut));
+    }
+    Ok(left)
+}
+
 impl<'a, R: Clock> Connection<'a, R> {
     /// What comes first has this many seconds from now.
     pub fn new(rt: &'a R, stream: &'a TcpStream, seconds: u64) -> io::Result<Connection<'a, R>> {
         Ok(Connection {
             rt,
             stream,
-            until: after(rt, seconds)?,
+            until: Some(after(rt, seconds)?),
+            patience: seconds,
             sent: 0,
             received: 0,
         })
@@ -48,8 +62,15 @@ impl<'a, R: Clock> Connection<'a, R> {
 
     /// What comes next has this many seconds from now, as a whole.
     pub fn allow(&mut self, seconds: u64) -> io::Result<()> {
-        self.until = after(self.rt, seconds)?;
+        self.until = Some(after(self.rt, seconds)?);
         Ok(())
+    }
+
+    /// What comes next has this many seconds, as a whole, from when this end first waits for it. What is here already
+    /// costs no look at the clock.
+    pub fn allow_once_awaited(&mut self, seconds: u64) {
+        self.until = None;
+        self.patience = seconds;
     }
 
     /// How many bytes were written.
@@ -64,24 +85,29 @@ impl<'a, R: Clock> Connection<'a, R> {
 
     /// Whether the time is over.
     pub fn is_late(&self) -> bool {
-        self.left().is_err()
+        match self.until {
+            Some(until) => left_until(self.rt, until).is_err(),
+            None => false,
+        }
     }
 
-    // The time that is left, of which less than a millisecond counts as none.
-    fn left(&self) -> io::Result<Duration>
+    // The time that is left.
+    fn left(&mut self) -> io::Result<Duration>
         ensures { IfOk result (λ left. 0 < as_nanos left) }
     {
-        let left = self.until.duration_since(Instant::now(self.rt)?);
-        if left.as_nanos() < 1_000_000 {
-            return Err(io::Error::from(ErrorKind::TimedOut));
-        }
-        Ok(left)
+        let until = match self.until {
+            Some(until) => until,
+            None => after(self.rt, self.patience)?,
+        };
+        self.until = Some(until);
+        left_until(self.rt, until)
     }
 }
 
 impl<'a, R: Clock> Read for Connection<'a, R> {
     fn read(&mut self, buf: &mut [u8]) -> io::Result<usize> {
-        self.stream.set_read_timeout(Some(self.left()?))?;
+        let left = self.left()?;
+        self.stream.set_read_timeout(Some(left))?;
         let mut stream = self.stream;
         let count = stream.read(buf)?;
         self.received = self.received.saturating_add(count as u64);
@@ -91,7 +117,8 @@ impl<'a, R: Clock> Read for Connection<'a, R> {
 
 impl<'a, R: Clock> Write for Connection<'a, R> {
     fn write(&mut self, buf: &[u8]) -> io::Result<usize> {
-        self.stream.set_write_timeout(Some(self.left()?))?;
+        let left = self.left()?;
+        self.stream.set_write_timeout(Some(left))?;
         let mut stream = self.stream;
         let count = stream.write(buf)?;
         self.sent = self.sent.saturating_add(count as u64);

@@ -46,13 +46,15 @@ struct ReceivingEnd<'a, R> {
     round: Round,
 }
 
-// The round that comes: when it began, how many frames and bytes had come then, and when its last line was printed.
+// The round that comes: when it began, how many frames and bytes had come then, when its last line was printed, and how
+// many bytes had come when the clock was last looked at.
 #[derive(Clone, Copy)]
 struct Round {
     start: Instant,
     frames: u64,
     bytes: u64,
     told: Instant,
+    seen: u64,
 }
 
 // How many microseconds lie between two lines of a round.
@@ -108,6 +110,7 @@ fn begin<'a, R: Clock>(
             frames: 0,
             bytes,
             told: now,
+            seen: bytes,
         },
     })
 }
@@ -115,10 +118,7 @@ fn begin<'a, R: Clock>(
 impl<'a, R: Clock + Print> ReceivingEnd<'a, R> {
     // Takes the next frame, which has its time as a whole.
     fn take(&mut self) -> Result<Stage, Refusal> {
-        let connection = self.reader.get_mut();
-        if connection.allow(PATIENCE).is_err() {
-            return Err(Refusal::Failed);
-        }
+        self.reader.get_mut().allow_once_awaited(PATIENCE);
         self.receiver.take(&mut self.reader, &mut self.host)
     }
 
@@ -133,9 +133,14 @@ impl<'a, R: Clock + Print> ReceivingEnd<'a, R> {
         })
     }
 
-    // Tells each second what came of this round, and how much of the first is left.
+    // Tells each second what came of this round, and how much of the first is left. The clock is looked at if bytes came.
     fn tell_progress(&mut self) -> Result<()> {
-        if self.tells && micros_since(self.rt, self.round.told)? >= TELLING {
+        let received = self.reader.get_ref().received();
+        if !self.tells || received == self.round.seen {
+            return Ok(());
+        }
+        self.round.seen = received;
+        if micros_since(self.rt, self.round.told)? >= TELLING {
             self.round.told = Instant::now(self.rt)?;
             let came = self.came()?;
             tell_came(self.rt, came, false)?;
@@ -152,11 +157,13 @@ impl<'a, R: Clock + Print> ReceivingEnd<'a, R> {
             tell_came(self.rt, self.came()?, true)?;
         }
         let now = Instant::now(self.rt)?;
+        let bytes = self.reader.get_ref().received();
         self.round = Round {
             start: now,
             frames: self.frames,
-            bytes: self.reader.get_ref().received(),
+            bytes,
             told: now,
+            seen: bytes,
         };
         self.rounds = self.rounds.saturating_add(1);
         Ok(())
