@@ -61,6 +61,11 @@ Uncategorized Uncategorized
 Uncategorized Uncategorized
 ";
 
+const NOT_OPENED_SO: &str = "\
+Bad file descriptor (os error 9)
+Bad file descriptor (os error 9)
+";
+
 #[test]
 fn files_are_read_or_written(rt: HostRuntime) -> Result<(), Fail> {
     let mut out = String::new(rt.alloc());
@@ -83,7 +88,15 @@ fn files_are_read_or_written(rt: HostRuntime) -> Result<(), Fail> {
     let ended = source.read_exact_volatile(&mut lent);
     let text = format!(in rt.alloc(); "{ended:?} {lent:?}")?;
     let wanted = "Err(ReadExactFault { touched: 0, error: IOError(Kind(UnexpectedEof)) }) [0, 0]";
-    expect_text(3, text.as_str(), wanted)
+    expect_text(3, text.as_str(), wanted)?;
+    // The error keeps the text of the system.
+    let mut text = String::new(rt.alloc());
+    for answer in [source.write_volatile(&lent), sink.read_volatile(&mut lent)] {
+        if let Err(error) = answer {
+            writeln!(text, "{error}")?;
+        }
+    }
+    expect_text(4, text.as_str(), NOT_OPENED_SO)
 }
 
 // What a file tells of four bytes where it has room for two, by a handle or by the call of the system, and how long it

@@ -1,11 +1,14 @@
 //! Bytes in memory and scripts as sources and sinks.
 
 use crate::told::{fills, reads, writes};
+use std::alloc::Global;
 use std::fmt::Write;
 use std::io::Cursor;
 use std::test::Fail;
 use test_text::expect_text;
-use vm_memory_base::{ByteList, ReadVolatile, ScriptSink, ScriptSource, SinkStep, SourceStep};
+use vm_memory_base::{
+    ByteList, ReadVolatile, ScriptSink, ScriptSource, SinkStep, SourceStep, WriteVolatile,
+};
 
 // What a source does at a try.
 #[derive(Clone, Copy)]
@@ -199,4 +202,55 @@ fn sinks_take_what_they_can(rt: HostRuntime) -> Result<(), Fail> {
         writeln!(out, "{:?}", sink.into_taken().as_slice())?;
     }
     expect_text(0, out.as_str(), WRITES)
+}
+
+// Whether a place with room for so many bytes takes as many of the list by one try, and keeps what lies past them; and
+// whether a vector takes all.
+fn takes(alloc: Global, bytes: &[u8], room: usize) -> Result<bool, Fail> {
+    let mut place = vec![in alloc; 255u8; room.saturating_add(2)]?;
+    let room = room.min(place.len());
+    let mut sink = &mut place[..room];
+    let count = sink.write_volatile(bytes)?;
+    let left = sink.len();
+    let has_bytes = bytes
+        .iter()
+        .zip(place.iter())
+        .take(count)
+        .all(|(sent, taken)| sent == taken);
+    let is_rest = place.iter().skip(count).all(|byte| *byte == 255);
+    let mut vector: Vec<u8> = Vec::new(alloc);
+    let is_whole = vector.write_volatile(bytes)? == bytes.len() && vector.as_slice() == bytes;
+    Ok(
+        is_whole
+            && has_bytes
+            && is_rest
+            && count == room.min(bytes.len())
+            && left == room.saturating_sub(count),
+    )
+}
+
+// Places with room for one byte less than they are given, for all, and for one more.
+#[test]
+fn places_take_long_lists(rt: HostRuntime) -> Result<(), Fail> {
+    for len in [0x40usize, 0x1001, 0x1_0001, 0x10_0001] {
+        let bytes: Vec<u8> = (0..len).map(|k| (k % 251) as u8).collect(rt.alloc())?;
+        for room in [len.saturating_sub(1), len, len.saturating_add(1)] {
+            assert!(rt;
+                takes(rt.alloc(), bytes.as_slice(), room)?,
+                "{room} of {len} bytes"
+            );
+        }
+    }
+    Ok(())
+}
+
+// A sink has room for many bytes, of which it takes few.
+#[test]
+fn sinks_have_much_room(rt: HostRuntime) -> Result<(), Fail> {
+    for room in [0x401_0000, 0x1001_0000, 0x4001_0000] {
+        let mut sink = ScriptSink::new(rt.alloc(), &[SinkStep::Take(1)], room)?;
+        sink.write_all_volatile(&[1, 2, 3])?;
+        assert!(rt; sink.taken() == [1, 2, 3].as_slice());
+    }
+    Ok(())
 }

@@ -2,6 +2,7 @@
 
 use std::process::Abort;
 use std::sync::atomic::Ordering;
+use test_text::next_number;
 use vm_memory_base::{AtomicAccess, AtomicInteger, Be16, ByteValued, Le16};
 
 // Bytes of which each is another.
@@ -61,11 +62,50 @@ fn round_trips(rt: HostRuntime) {
     assert!(rt; <(u16, u8)>::from_slice(&[1, 2, 3]) == Some((0x0201, 3)));
 }
 
-// A value through the atomic integer that stands for its type.
-fn through_atomic<T: AtomicAccess + PartialEq>(rt: &impl Abort, value: T)
+// The ends of each type of integer and their neighbours, as 8 bytes, the lowest first.
+const WORDS: [u64; 32] = [
+    0,
+    1,
+    2,
+    0x7e,
+    0x7f,
+    0x80,
+    0x81,
+    0xfe,
+    0xff,
+    0x100,
+    0x7ffe,
+    0x7fff,
+    0x8000,
+    0x8001,
+    0xfffe,
+    0xffff,
+    0x1_0000,
+    0x7fff_fffe,
+    0x7fff_ffff,
+    0x8000_0000,
+    0x8000_0001,
+    0xffff_fffe,
+    0xffff_ffff,
+    0x1_0000_0000,
+    0x1_0000_0001,
+    0x7fff_ffff_ffff_fffe,
+    0x7fff_ffff_ffff_ffff,
+    0x8000_0000_0000_0000,
+    0x8000_0000_0000_0001,
+    0xffff_ffff_0000_0000,
+    0xffff_ffff_ffff_fffe,
+    0xffff_ffff_ffff_ffff,
+];
+
+// A value of these bytes through the atomic integer that stands for its type.
+fn through_atomic<T: AtomicAccess + PartialEq>(rt: &impl Abort, bytes: &[u8])
 where
     T::A: Drop,
 {
+    let Some(value) = T::from_slice(bytes) else {
+        return rt.abort();
+    };
     let word = T::A::new(value.into());
     assert!(rt; T::from(word.load(Ordering::Relaxed)) == value);
     word.store(T::zeroed().into(), Ordering::Relaxed);
@@ -74,16 +114,23 @@ where
     assert!(rt; T::from(word.load(Ordering::SeqCst)) == value);
 }
 
+// The ends, and other values of as many bytes.
 #[test]
 fn atomic_values(rt: HostRuntime) {
-    through_atomic(&rt, 0xa5u8);
-    through_atomic(&rt, 0xa5a5u16);
-    through_atomic(&rt, u32::MAX);
-    through_atomic(&rt, u64::MAX);
-    through_atomic(&rt, usize::MAX);
-    through_atomic(&rt, i8::MIN);
-    through_atomic(&rt, i16::MIN);
-    through_atomic(&rt, -3i32);
-    through_atomic(&rt, i64::MIN);
-    through_atomic(&rt, isize::MIN);
+    let mut state = 5;
+    for number in 0..1000usize {
+        let other = next_number(&mut state).wrapping_mul(0x9e37_79b9_7f4a_7c15);
+        let word = WORDS.get(number).copied().unwrap_or(other);
+        let bytes = word.to_le_bytes();
+        through_atomic::<u8>(&rt, &bytes[..1]);
+        through_atomic::<u16>(&rt, &bytes[..2]);
+        through_atomic::<u32>(&rt, &bytes[..4]);
+        through_atomic::<u64>(&rt, &bytes);
+        through_atomic::<usize>(&rt, &bytes);
+        through_atomic::<i8>(&rt, &bytes[..1]);
+        through_atomic::<i16>(&rt, &bytes[..2]);
+        through_atomic::<i32>(&rt, &bytes[..4]);
+        through_atomic::<i64>(&rt, &bytes);
+        through_atomic::<isize>(&rt, &bytes);
+    }
 }

@@ -1,5 +1,6 @@
 //! Bitmaps that are marked through shared references.
 
+use crate::bitmaps::{MANY_WORDS, has_two_pages};
 use std::num::NonZeroUsize;
 use std::test::Fail;
 use vm_memory_base::{AtomicBitmap, Bitmap, NewBitmap, SharedBitmap, event_law};
@@ -26,7 +27,7 @@ struct Case {
     words: &'static [u64],
 }
 
-const CASES: [Case; 21] = [
+const CASES: [Case; 26] = [
     Case {
         bytes: 1025,
         page_size: 128,
@@ -263,6 +264,78 @@ const CASES: [Case; 21] = [
         told: (2, 200),
         words: &[0b1],
     },
+    // Pages that fill a word are dirty when there is one more, and when a second word is full.
+    Case {
+        bytes: 64,
+        page_size: 1,
+        steps: &[Step::SetRange(62, 2), Step::Enlarge(1)],
+        told: (65, 65),
+        words: &[0xc000_0000_0000_0000, 0],
+    },
+    Case {
+        bytes: 1,
+        page_size: 1,
+        steps: &[
+            Step::Set(0),
+            Step::Enlarge(62),
+            Step::Set(62),
+            Step::Enlarge(1),
+            Step::Set(63),
+            Step::Enlarge(1),
+            Step::Set(64),
+            Step::Enlarge(63),
+            Step::Set(127),
+            Step::Enlarge(1),
+        ],
+        told: (129, 129),
+        words: &[0xc000_0000_0000_0001, 0x8000_0000_0000_0001, 0],
+    },
+    // Bytes far past the last page have no page, whichever of their bits are set.
+    Case {
+        bytes: 200,
+        page_size: 1,
+        steps: &[
+            Step::SetRange(0x1_0000, 3),
+            Step::SetRange(0x1_0000_0001, 3),
+            Step::Mark(0x100_0000_0002, 3),
+            Step::MarkShared(0x1_0000_0000_0003, 3),
+            Step::SetRange(0x8000_0000_0000_0004, 3),
+            Step::SetRange(0xffff_ffff_ffff_ff00, usize::MAX),
+            Step::Set(0x1_0000_0005),
+            Step::Set(0x8000_0000_0000_0006),
+        ],
+        told: (200, 200),
+        words: &[0, 0, 0, 0],
+    },
+    Case {
+        bytes: 200,
+        page_size: 1,
+        steps: &[
+            Step::SetRange(0, usize::MAX),
+            Step::ResetRange(0x1_0000, 3),
+            Step::ResetRange(0x1_0000_0001, 3),
+            Step::ResetRange(0x100_0000_0002, 3),
+            Step::ResetRange(0x1_0000_0000_0003, 3),
+            Step::ResetRange(0x8000_0000_0000_0004, 3),
+            Step::Reset(0x1_0000_0005),
+            Step::Reset(0x8000_0000_0000_0006),
+        ],
+        told: (200, 200),
+        words: &[u64::MAX, u64::MAX, u64::MAX, 0xff],
+    },
+    // Pages of 2^48 bytes.
+    Case {
+        bytes: 0xc8_0000_0000_0000,
+        page_size: 0x1_0000_0000_0000,
+        steps: &[
+            Step::SetRange(0x4_ffff_ffff_ffff, 2),
+            Step::Mark(0xc7_0000_0000_0000, 1),
+            Step::MarkShared(0x40_8000_0000_0000, 0x1_0000_0000_0000),
+            Step::ResetRange(0x5_8000_0000_0000, 1),
+        ],
+        told: (200, 0xc8_0000_0000_0000),
+        words: &[0x10, 0b11, 0, 0x80],
+    },
     // Offsets and lengths past 2^32.
     Case {
         bytes: 0x30_0000_0000,
@@ -425,18 +498,44 @@ fn many_pages(rt: HostRuntime) -> Result<(), Fail> {
     bitmap.reset_addr_range(0x1_0041, 0xe_ffbf);
     bitmap.set_bit(count);
     assert!(rt; bitmap.is_addr_set(0x1_0001) && bitmap.is_bit_set(count - 1));
-    let words = bitmap.get_and_reset(rt.alloc())?;
-    for (number, word) in words.iter().enumerate() {
-        let wanted = match number {
-            0x400 => u64::MAX - 1,
-            0x401 | 0x4000 => 1,
-            _ => 0,
-        };
-        assert!(rt; *word == wanted, "word {number}");
+    let copy = bitmap.clone()?;
+    for one in [&copy, &bitmap] {
+        let words = one.get_and_reset(rt.alloc())?;
+        for (number, word) in words.iter().enumerate() {
+            let wanted = match number {
+                0x400 => u64::MAX - 1,
+                0x401 | 0x4000 => 1,
+                _ => 0,
+            };
+            assert!(rt; *word == wanted, "word {number}");
+        }
     }
+    copy.set_addr_range(0, usize::MAX);
+    copy.reset();
+    let words = copy.get_and_reset(rt.alloc())?;
+    assert!(rt; words.iter().all(|word| *word == 0));
     let mut large = AtomicBitmap::with_len(rt.alloc(), 0x1_0000_1000)?;
     assert!(rt; large.len() == count && large.byte_size() == 0x1_0000_1000);
+    large.set_addr_range(0xffff_ffff, 2);
     large.enlarge(0x1000)?;
     assert!(rt; large.len() == 0x10_0002 && large.byte_size() == 0x1_0000_2000);
+    assert!(rt; large.is_bit_set(count - 2) && large.is_bit_set(count - 1));
+    assert!(rt; !large.is_bit_set(count));
+    Ok(())
+}
+
+// More words than 2^20, two of which have a page.
+#[test]
+fn many_words(rt: HostRuntime) -> Result<(), Fail> {
+    let bitmap = AtomicBitmap::new(rt.alloc(), MANY_WORDS, NonZeroUsize::MIN)?;
+    bitmap.set_addr_range(0x400_0000, 1);
+    bitmap.set_bit(MANY_WORDS - 1);
+    let copy = bitmap.clone()?;
+    for one in [&copy, &bitmap] {
+        let words = one.get_and_reset(rt.alloc())?;
+        assert!(rt; has_two_pages(words.as_slice()));
+        let left = one.get_and_reset(rt.alloc())?;
+        assert!(rt; left.iter().all(|word| *word == 0));
+    }
     Ok(())
 }

@@ -90,6 +90,40 @@ fn many_pages_are_harvested(rt: HostRuntime) -> Result<(), Fail> {
     Ok(())
 }
 
+/// So many pages have more words than 2^20.
+pub const MANY_WORDS: usize = 0x401_0041;
+
+/// Whether words are those of `MANY_WORDS` pages, of which page 2^26 and the last are dirty.
+pub fn has_two_pages(words: &[u64]) -> bool {
+    words.len() == 0x10_0402
+        && words.iter().enumerate().all(|(number, word)| {
+            *word
+                == if number == 0x10_0000 || number == 0x10_0401 {
+                    1
+                } else {
+                    0
+                }
+        })
+}
+
+#[test]
+fn many_words_are_taken(rt: HostRuntime) -> Result<(), Fail> {
+    let mut bitmap = ExclusiveBitmap::new(rt.alloc(), MANY_WORDS, NonZeroUsize::MIN)?;
+    for page in [0x400_0000, MANY_WORDS - 1] {
+        bitmap.mark_dirty(page, 1);
+    }
+    let pages = [0x400_0000, MANY_WORDS - 1];
+    assert!(rt; bitmap.dirty_pages(rt.alloc())?.as_slice() == pages.as_slice());
+    let words = bitmap.get_and_reset(rt.alloc())?;
+    assert!(rt; has_two_pages(words.as_slice()));
+    bitmap.mark_dirty(0x400_0000, 1);
+    bitmap.mark_dirty(MANY_WORDS - 1, usize::MAX);
+    assert!(rt; bitmap.harvest(rt.alloc())?.as_slice() == pages.as_slice());
+    let words = bitmap.get_and_reset(rt.alloc())?;
+    assert!(rt; words.iter().all(|word| *word == 0));
+    Ok(())
+}
+
 // A size of pages, a mark of a clean bitmap of 200 of them, and its words then.
 const MARKS: [(usize, (usize, usize), [u64; 4]); 9] = [
     (1, (60, 10), [0xf000_0000_0000_0000, 0x3f, 0, 0]),

@@ -186,19 +186,21 @@ fn no_page_is_left_that_nobody_marked(rt: HostRuntime) -> Result<(), Fail> {
     expect_words(words.as_slice(), 3, &[])
 }
 
-// Marks and harvests of 2^20 + 1 pages.
+// Marks and harvests of many pages, the last of which, of this number, is the first of its word.
 fn expect_many(
     alloc: Global,
     bitmap: &TrackedBitmap,
     harvester: &mut Harvester,
     one: &mut Marker,
     other: &mut Marker,
+    last: usize,
 ) -> Result<(), Fail>
     requires one { IsMarkerOf one.old bitmap.now }
     requires other { IsMarkerOf other.old bitmap.now }
     requires harvester { IsHarvesterOf harvester.old bitmap.now }
     ensures harvester { IsHarvesterOf harvester.new bitmap.now }
 {
+    let words = last.div_ceil(32).saturating_add(1);
     bitmap.mark(one, 0xffff, 2);
     bitmap.mark(other, 0x1_0000, 1);
     expect_told(bitmap, one, 0x1_0000, true)?;
@@ -206,33 +208,53 @@ fn expect_many(
         alloc,
         bitmap,
         harvester,
-        0x8001,
+        words,
         &[(0x7ff, 0x8000_0000), (0x800, 1)],
     )?;
-    bitmap.mark(other, 0x10_0000, usize::MAX);
+    bitmap.mark(other, last, usize::MAX);
     bitmap.mark(one, 0x3_0021, 0);
-    expect_told(bitmap, one, 0x10_0000, true)?;
+    expect_told(bitmap, one, last, true)?;
+    expect_taken(alloc, bitmap, harvester, words, &[(last / 32, 1)])?;
+    bitmap.mark(other, last, 1);
     expect_told(bitmap, one, 0x1_0000, false)?;
-    expect_told(bitmap, one, 0x10_0001, false)
+    expect_told(bitmap, one, last.saturating_add(1), false)
 }
 
+// Of 2^20 + 1 pages, and of a page more than 2^20 words have.
 #[test]
 fn many_pages_of_many_markers(rt: HostRuntime) -> Result<(), Fail> {
-    let (bitmap, mut harvester, mut markers) = TrackedBitmap::new(
-        rt.alloc(),
-        0x10_0001,
-        NonZeroUsize::MIN,
-        65,
-    )?;
-    assert!(rt; markers.len() == 65 && bitmap.len() == 0x10_0001);
-    let Some(mut one) = next_marker(&bitmap, &mut markers) else {
-        return Err(Fail::new("there is no marker"));
-    };
-    let Some(mut other) = next_marker(&bitmap, &mut markers) else {
-        return Err(Fail::new("there is no other marker"));
-    };
-    expect_many(rt.alloc(), &bitmap, &mut harvester, &mut one, &mut other)?;
-    expect_left(rt.alloc(), bitmap, harvester, 0x8001, &[(0x8000, 1)])
+    for last in [0x10_0000usize, 0x201_0020] {
+        let count = last.saturating_add(1);
+        let (bitmap, mut harvester, mut markers) = TrackedBitmap::new(
+            rt.alloc(),
+            count,
+            NonZeroUsize::MIN,
+            5001,
+        )?;
+        assert!(rt; markers.len() == 5001 && bitmap.len() == count);
+        let Some(mut one) = next_marker(&bitmap, &mut markers) else {
+            return Err(Fail::new("there is no marker"));
+        };
+        let Some(mut other) = next_marker(&bitmap, &mut markers) else {
+            return Err(Fail::new("there is no other marker"));
+        };
+        expect_many(
+            rt.alloc(),
+            &bitmap,
+            &mut harvester,
+            &mut one,
+            &mut other,
+            last,
+        )?;
+        expect_left(
+            rt.alloc(),
+            bitmap,
+            harvester,
+            (last / 32).saturating_add(1),
+            &[(last / 32, 1)],
+        )?;
+    }
+    Ok(())
 }
 
 // Of 64 pages of a size: what is marked, which bytes are told to be dirty, and the words left.
