@@ -188,22 +188,18 @@ module _ {B : Type 0} (m : Memory) (host : Host B) (terms : Terms) (given room :
       (can_of-request terms (text_bytes m host given 16) (length given - 16) (length room - 1) (length room)
       (omega (arith, some)) small))
 
--- what the first step answers, over a reader and a writer of the chain
-pub can_serve : {B : Type 0} (m : Memory) (host : Host B) (terms now : Terms) (given room left writer : List Entry)
+-- what the first step answers can be done
+pub can_serve : {B : Type 0} (m : Memory) (host : Host B) (terms now : Terms) (given room : List Entry)
     (answer : Result Request GuestMemoryError) (asked : Request × Bool) → Goes given → now ≡ terms
-    → Begins m host now given room answer → asked ≡ asked_of answer → left ≡ drop 16 given → writer ≡ room
-    → terms.sectors < 2 ^ 55
-    → Asks m host terms given room asked.0 asked.1 × CanDo terms.sectors asked.0 (length left) (length writer)
-can_serve m host terms now given room left writer answer asked goes same begun is rest all small =
+    → Begins m host now given room answer → asked ≡ asked_of answer → terms.sectors < 2 ^ 55
+    → Asks m host terms given room asked.0 asked.1
+    × CanDo terms.sectors asked.0 (length (drop 16 given)) (length room)
+can_serve m host terms now given room answer asked goes same begun is small =
     let asks : Asks m host terms given room asked.0 asked.1 =
     subst (λ (p : Request × Bool). Asks m host terms given room p.0 p.1) (sym is)
     (asks_of m host terms given room answer goes
-    (subst (λ (t : Terms). Begins m host t given room answer) same begun)) in (
-      asks,
-      subst (λ (ls : List Entry). CanDo terms.sectors asked.0 (length ls) (length writer)) (sym rest)
-          (subst (λ (ls : List Entry). CanDo terms.sectors asked.0 (length (drop 16 given)) (length ls)) (sym all)
-          (can_of m host terms given room asked.0 asked.1 asks small)),
-    )
+    (subst (λ (t : Terms). Begins m host t given room answer) same begun)) in
+    (asks, can_of m host terms given room asked.0 asked.1 asks small)
 
 -- a reader that skipped a header, or all that there is
 pub after_header : (es left : List Entry) (passed : ℕ) → passed ≡ min 16 (length es) → left ≡ drop passed es

@@ -1,5 +1,6 @@
 pub mod ChainFacts
 pub mod DiskFacts
+pub mod LentFacts
 pub mod ProcessFacts
 pub mod ServeFacts
 pub mod StepFacts

@@ -1,7 +1,11 @@
 -- What the parts of a call say of one another. No public clause cites this module.
 use Rattle.std.specs.Prelude.{◌≡◌, ℕ, ◌+◌, ◌*◌, ◌%◌, ◌<◌, ◌≤◌, ◌^◌, Bool, true, false, List, length, Option, Result, Ok, Err}
-use Rattle.vm_memory_guest.specs.Host.{Host}
+use Rattle.vm_memory_base.specs.declared.iotlb.Permissions.TheVariants as permissions
+use Rattle.vm_memory_guest.specs.Access.{access_of}
+use Rattle.vm_memory_guest.specs.Dirt.{path_cells}
+use Rattle.vm_memory_guest.specs.Host.{Host, bytes_at}
 use Rattle.vm_memory_guest.specs.Memory as memory
+use Rattle.vm_memory_guest.specs.Memory.{route}
 use Rattle.vm_memory_guest.specs.declared.region.error.GuestMemoryError.{GuestMemoryError}
 use Rattle.vm_memory_guest.specs.declared.region.error.GuestMemoryError.TheVariants.{IommuError, Memory}
 use Rattle.vm_memory_device.specs.Chain.{Entry}
@@ -46,6 +50,11 @@ CanDo sectors Flush given room = Unit {0}
 CanDo sectors (GetId len) given room = (len ≤ 20) × (len < room)
 CanDo sectors (Refused status) given room = Unit {0}
 CanDo sectors Unserved given room = Unit {0}
+
+-- an access at an address reaches all of its N bytes, and these are the bytes
+abbrev pub IsLent : {B : Type 0} → memory.Memory → Host B → ℕ → ℕ → List ℕ → Type 0
+IsLent m host a n bytes = let p = (access_of m.regions (route m host.tables) a n permissions.Read).path in
+    (length p ≡ n) × (bytes ≡ bytes_at host.blocks (path_cells p))
 
 module _ {B D : Type 0} (marks : B → ℕ → ℕ → B → Type 0) (bytes : D → Option (List ℕ)) (sectors : D → ℕ)
     (calls : D → Call → Bool → D → Type 0) (m : memory.Memory) where

@@ -1,5 +1,5 @@
 //! Disks of whole sectors.
-ghost use Rattle.std.specs.Prelude.{◌≡◌, ◌+◌, ◌*◌, ◌%◌, ◌^◌, ◌<◌, ◌≤◌, ℕ, Bool, List, length, Option, Some, OnOk, MatchResult, is_ok};
+ghost use Rattle.std.specs.Prelude.{◌≡◌, ◌+◌, ◌*◌, ◌%◌, ◌^◌, ◌<◌, ◌≤◌, ℕ, Bool, true, List, length, Option, Some, OnOk, MatchOption, MatchResult, is_ok};
 ghost use Rattle.virtio_blk.specs.Disk.{Call, reads, writes, flushes, LieAt, after_write};
 
 pub(crate) mod file;
@@ -50,6 +50,17 @@ pub trait Disk: Drop {
         ensures calls { calls self.old (reads sector buf.new) (is_ok result) self.new }
         ensures bytes { bytes self.new ≡ bytes self.old }
         ensures sectors { sectors self.new ≡ sectors self.old };
+
+    /// Lends `len` bytes of whole sectors from one on, if it has them in memory. That counts as a read that was done. A
+    /// disk that has none in memory returns `None`, as this does, and is read.
+    fn lend(&self, sector: u64, len: usize) -> Option<&[u8]>
+        requires whole { len % 512 ≡ 0 }
+        requires inside { 512 * sector + len ≤ 512 * sectors self.now }
+        ensures { MatchOption result (Unit {0}) (λ lent. (length lent.now ≡ len)
+            × LieAt (512 * sector) lent.now (bytes self.now) × calls self.now (reads sector lent.now) true self.now) }
+    {
+        None
+    }
 
     /// Writes whole sectors from one on. After an error no byte of the disk has changed.
     fn write(&mut self, sector: u64, data: &[u8]) -> Result<(), DiskError>

@@ -4,6 +4,7 @@
 mod device;
 mod disk;
 mod features;
+mod lent;
 mod request;
 mod steps;
 mod text;

@@ -1,6 +1,7 @@
 //! Data between guest memory and a disk, in pieces.
-ghost use Rattle.std.specs.Prelude.{◌≡◌, ◌⊎◌, ◌+◌, ◌-◌, ◌*◌, ◌%◌, ◌^◌, ◌<◌, ◌≤◌, ℕ, true, false, List, length, take, drop, MatchResult};
+ghost use Rattle.std.specs.Prelude.{◌≡◌, ◌⊎◌, ◌+◌, ◌-◌, ◌*◌, ◌%◌, ◌^◌, ◌<◌, ◌≤◌, ℕ, true, false, List, length, take, drop, MatchBool, MatchOption, MatchResult};
 ghost use Rattle.vm_memory_base.specs.declared.iotlb.Permissions.TheVariants.{Read, Write};
+ghost use Rattle.vm_memory_device.specs.Chain.{entries_from, readable, text};
 ghost use Rattle.vm_memory_guest.specs.Host.{shape_of, Holds};
 ghost use Rattle.virtio_blk.specs.Disk.{LieAt, after_write, reads, writes};
 ghost use Rattle.virtio_blk.specs.Served.{Flushes, Loads, Stores, StoresToStay};
@@ -8,22 +9,44 @@ ghost use Rattle.virtio_blk.specs.Texts.{Accessed, StopsAt, StopsWithin, WritesA
 
 use super::PIECE;
 use crate::disk::Disk;
+use crate::lent::{data_behind, data_segment, lent};
 use crate::request::{VIRTIO_BLK_S_IOERR, VIRTIO_BLK_S_OK};
 use crate::text::{Stop, Written, read_all, write_front};
-use vm_memory_base::Bitmap;
-use vm_memory_device::{ChainReader, ChainWriter};
+use vm_memory_base::{Bitmap, GuestAddress};
+use vm_memory_device::{Chain, ChainReader, ChainWriter};
 use vm_memory_guest::{GuestMemory, HostMemory};
 
-// Moves the next bytes of a text to the disk, from a sector on, through a buffer that has room for just these.
+// Writes bytes to the disk, from a sector on.
+fn put<D: Disk>(disk: &mut D, sector: u64, bytes: &[u8]) -> Result<(), Stop>
+    requires whole { length bytes.now % 512 ≡ 0 }
+    requires inside { 512 * sector + length bytes.now ≤ 512 * D.sectors disk.old }
+    ensures took { MatchResult result
+        (λ _. (D.bytes disk.new ≡ after_write (512 * sector) bytes.now (D.bytes disk.old))
+        × D.calls disk.old (writes sector bytes.now) true disk.new)
+        (λ stop. (stop.wanted ≡ false) × (D.bytes disk.new ≡ D.bytes disk.old)
+        × D.calls disk.old (writes sector bytes.now) false disk.new) }
+    ensures sectors { D.sectors disk.new ≡ D.sectors disk.old }
+{
+    match disk.write(sector, bytes) {
+        Ok(()) => Ok(()),
+        Err(_) => Err(Stop { wanted: false }),
+    }
+}
+
+// Moves the next bytes of a text to the disk, from a sector on. Guest memory lends them, if it is known where they are
+// and they lie in one window. Else they go through a buffer that has room for just these.
 fn store_piece<D: Disk, M: GuestMemory, B: Bitmap>(
     disk: &mut D,
     reader: &mut ChainReader<'_>,
     mem: &M,
     host: &HostMemory<B>,
+    start: Option<GuestAddress>,
     sector: u64,
     piece: &mut [u8],
 ) -> Result<(), Stop>
     requires held { Holds (shape_of host.now) (M.names mem.now) }
+    requires placed { MatchOption start (Unit {0}) (λ a. reader.old ≡ entries_from a.0 (length reader.old)) }
+    requires some { 0 < length piece.old }
     requires enough { length piece.old ≤ length reader.old }
     requires whole { length piece.old % 512 ≡ 0 }
     requires inside { 512 * sector + length piece.old ≤ 512 * D.sectors disk.old }
@@ -38,23 +61,31 @@ fn store_piece<D: Disk, M: GuestMemory, B: Bitmap>(
         ⊎ ((disk.new ≡ disk.old) × StopsWithin m host.now.tables Read reader.old n stop.wanted))) }
     ensures sectors { D.sectors disk.new ≡ D.sectors disk.old }
 {
-    read_all(reader, mem, host, piece)?;
-    match disk.write(sector, piece) {
-        Ok(()) => Ok(()),
-        Err(_) => Err(Stop { wanted: false }),
+    match lent(mem, host, start, piece.len()) {
+        Some(bytes) => {
+            reader.skip(piece.len());
+            put(disk, sector, bytes)
+        }
+        None => {
+            read_all(reader, mem, host, piece)?;
+            put(disk, sector, piece)
+        }
     }
 }
 
-// Moves a text to the disk, from a sector on, and says the status, and whether an allocation failed.
+// Moves a text to the disk, from a sector on, and says the status, and whether an allocation failed. It is known where
+// all of the text begins, or not.
 pub(super) fn store<D: Disk, M: GuestMemory, B: Bitmap>(
     disk: &mut D,
     reader: &mut ChainReader<'_>,
     mem: &M,
     host: &HostMemory<B>,
+    start: Option<GuestAddress>,
     sector: u64,
     buffer: &mut [u8],
 ) -> (u8, bool)
     requires held { Holds (shape_of host.now) (M.names mem.now) }
+    requires placed { MatchOption start (Unit {0}) (λ a. reader.old ≡ entries_from a.0 (length reader.old)) }
     requires whole { length reader.old % 512 ≡ 0 }
     requires inside { 512 * sector + length reader.old ≤ 512 * D.sectors disk.old }
     requires small { D.sectors disk.old < 2 ^ 55 }
@@ -67,7 +98,8 @@ pub(super) fn store<D: Disk, M: GuestMemory, B: Bitmap>(
     while moved < len {
         let count = (len - moved).min(PIECE);
         let at = sector + (moved / 512) as u64;
-        match store_piece(disk, reader, mem, host, at, &mut buffer[..count]) {
+        let here = data_behind(start, moved);
+        match store_piece(disk, reader, mem, host, here, at, &mut buffer[..count]) {
             Ok(()) => moved += count,
             Err(stop) => return (VIRTIO_BLK_S_IOERR, stop.wanted),
         }
@@ -92,10 +124,12 @@ pub(super) fn store_to_stay<D: Disk, M: GuestMemory, B: Bitmap>(
     reader: &mut ChainReader<'_>,
     mem: &M,
     host: &HostMemory<B>,
+    start: Option<GuestAddress>,
     sector: u64,
     buffer: &mut [u8],
 ) -> (u8, bool)
     requires held { Holds (shape_of host.now) (M.names mem.now) }
+    requires placed { MatchOption start (Unit {0}) (λ a. reader.old ≡ entries_from a.0 (length reader.old)) }
     requires whole { length reader.old % 512 ≡ 0 }
     requires inside { 512 * sector + length reader.old ≤ 512 * D.sectors disk.old }
     requires small { D.sectors disk.old < 2 ^ 55 }
@@ -103,15 +137,53 @@ pub(super) fn store_to_stay<D: Disk, M: GuestMemory, B: Bitmap>(
     ensures { StoresToStay D.bytes D.sectors D.calls (M.memory mem.now) host.now reader.old sector (length reader.old)
         disk.old result.0 result.1 disk.new }
 {
-    let (stored, wanted) = store(disk, reader, mem, host, sector, buffer);
+    let (stored, wanted) = store(disk, reader, mem, host, start, sector, buffer);
     if stored != VIRTIO_BLK_S_OK {
         return (stored, wanted);
     }
     (flush(disk), wanted)
 }
 
-// Moves bytes of the disk, from a sector on, to the next bytes of a text, through a buffer that has room for just
-// these. It says how many were moved, and whether an allocation failed for the next one.
+// A reader of the data of a write: all readable bytes after the header.
+fn data_reader(chain: &Chain) -> ChainReader<'_>
+    ensures { result ≡ drop 16 (text (readable chain.now)) }
+{
+    let mut reader = chain.reader();
+    reader.skip(16);
+    reader
+}
+
+// Moves the data of a write to the disk, from a sector on, brings it to where it stays if that is asked for, and says
+// the status, and whether memory was wanted.
+pub(super) fn store_data<D: Disk, M: GuestMemory, B: Bitmap>(
+    disk: &mut D,
+    mem: &M,
+    host: &HostMemory<B>,
+    chain: &Chain,
+    sector: u64,
+    flush: bool,
+    buffer: &mut [u8],
+) -> (u8, bool)
+    requires held { Holds (shape_of host.now) (M.names mem.now) }
+    requires whole { length (drop 16 (text (readable chain.now))) % 512 ≡ 0 }
+    requires inside { 512 * sector + length (drop 16 (text (readable chain.now))) ≤ 512 * D.sectors disk.old }
+    requires small { D.sectors disk.old < 2 ^ 55 }
+    requires room { length buffer.old ≡ 65536 }
+    ensures { let m = M.memory mem.now in let es = drop 16 (text (readable chain.now)) in MatchBool flush
+        (StoresToStay D.bytes D.sectors D.calls m host.now es sector (length es) disk.old result.0 result.1 disk.new)
+        (Stores D.bytes D.sectors D.calls m host.now es sector (length es) disk.old result.0 result.1 disk.new) }
+{
+    let mut reader = data_reader(chain);
+    let start = data_segment(chain, reader.left());
+    if flush {
+        store_to_stay(disk, &mut reader, mem, host, start, sector, buffer)
+    } else {
+        store(disk, &mut reader, mem, host, start, sector, buffer)
+    }
+}
+
+// Moves bytes of the disk, from a sector on, to the next bytes of a text. The disk lends them, or they go through a
+// buffer that has room for just these. It says how many were moved, and whether an allocation failed for the next one.
 fn load_piece<D: Disk, M: GuestMemory, B: Bitmap>(
     disk: &mut D,
     writer: &mut ChainWriter<'_>,
@@ -125,18 +197,21 @@ fn load_piece<D: Disk, M: GuestMemory, B: Bitmap>(
     requires whole { length piece.old % 512 ≡ 0 }
     requires inside { 512 * sector + length piece.old ≤ 512 * D.sectors disk.old }
     ensures most { result.count ≤ length piece.old }
-    ensures lie { LieAt (512 * sector) (take result.count piece.new) (D.bytes disk.old) }
-    ensures written { WritesAt B.marks (M.memory mem.now) writer.old (take result.count piece.new) host.old host.new }
-    ensures call { ((result.count ≡ 0) × (result.wanted ≡ false)
-        × D.calls disk.old (reads sector piece.new) false disk.new)
-        ⊎ (D.calls disk.old (reads sector piece.new) true disk.new × (result.count < length piece.old
-        → StopsAt (M.memory mem.now) host.old.tables Write writer.old (length piece.old) result.wanted result.count)) }
+    ensures gave { (given : List ℕ) × (length given ≡ length piece.old)
+        × LieAt (512 * sector) (take result.count given) (D.bytes disk.old)
+        × WritesAt B.marks (M.memory mem.now) writer.old (take result.count given) host.old host.new
+        × (((result.count ≡ 0) × (result.wanted ≡ false) × D.calls disk.old (reads sector given) false disk.new)
+        ⊎ (D.calls disk.old (reads sector given) true disk.new × (result.count < length piece.old
+        → StopsAt (M.memory mem.now) host.old.tables Write writer.old (length piece.old) result.wanted result.count))) }
     ensures place { writer.new ≡ drop result.count writer.old }
     ensures bytes { D.bytes disk.new ≡ D.bytes disk.old }
     ensures sectors { D.sectors disk.new ≡ D.sectors disk.old }
     ensures tables { host.new.tables ≡ host.old.tables }
     ensures shape { shape_of host.new ≡ shape_of host.old }
 {
+    if let Some(bytes) = disk.lend(sector, piece.len()) {
+        return write_front(writer, mem, host, bytes);
+    }
     if disk.read(sector, piece).is_err() {
         return Written {
             count: 0,

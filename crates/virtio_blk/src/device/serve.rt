@@ -1,5 +1,6 @@
 //! How a chain is served.
-ghost use Rattle.std.specs.Prelude.{◌≡◌, ◌-◌, ◌<◌, ◌≤◌, ◌||◌, List, ℕ, length};
+ghost use Rattle.std.specs.Prelude.{◌≡◌, ◌-◌, ◌<◌, ◌≤◌, ◌^◌, ◌||◌, List, ℕ, length, drop};
+ghost use Rattle.vm_memory_device.specs.Chain.{readable, text, writable};
 ghost use Rattle.vm_memory_guest.specs.Host.{shape_of, Holds};
 ghost use Rattle.virtio_blk.specs.Config.{counted};
 ghost use Rattle.virtio_blk.specs.Inside.{CanDo, Did, asked_of, length_of};
@@ -7,13 +8,13 @@ ghost use Rattle.virtio_blk.specs.Served.{Names, Serves};
 ghost use Rattle.virtio_blk.specs.Texts.{WritesAt};
 
 use super::BlockDevice;
-use super::pieces::{flush, load, store, store_to_stay};
+use super::pieces::{flush, load, store_data};
 use crate::disk::Disk;
 use crate::request::{ID_LEN, Request, VIRTIO_BLK_S_IOERR, VIRTIO_BLK_S_OK};
 use crate::steps::{begin, finish};
 use crate::text::{Written, is_memory, write_front};
 use vm_memory_base::Bitmap;
-use vm_memory_device::{Chain, ChainReader, ChainWriter};
+use vm_memory_device::{Chain, ChainWriter};
 use vm_memory_guest::{GuestMemory, GuestMemoryResult, HostMemory};
 
 // What a chain asks for, and whether an allocation failed for that. If it cannot be found out, it is refused.
@@ -77,37 +78,35 @@ impl<D: Disk> BlockDevice<D> {
         }
     }
 
-    // Does what a request asks for whose data lies at one text, or goes to the front of another. It returns the status,
-    // how many bytes went there, and whether an allocation failed for an access.
+    // Does what the request of a chain asks for. It returns the status, how many bytes went to the front of the chain's
+    // writable ones, and whether an allocation failed for an access.
     fn act<M: GuestMemory, B: Bitmap>(
         &mut self,
         request: Request,
         mem: &M,
         host: &mut HostMemory<B>,
-        reader: &mut ChainReader<'_>,
-        writer: &mut ChainWriter<'_>,
+        chain: &Chain,
     ) -> (u8, Written)
         requires held { Holds (shape_of host.old) (M.names mem.now) }
-        requires can { CanDo (D.sectors self.old.disk) request (length reader.old) (length writer.old) }
-        ensures did { Did B.marks D.bytes D.sectors D.calls (M.memory mem.now) request reader.old writer.old
+        requires can { CanDo (D.sectors self.old.disk) request (length (drop 16 (text (readable chain.now))))
+            (length (text (writable chain.now))) }
+        ensures did { Did B.marks D.bytes D.sectors D.calls (M.memory mem.now) request
+            (drop 16 (text (readable chain.now))) (text (writable chain.now))
             self.old host.old result.0 result.1.count result.1.wanted self.new host.new }
-        ensures rest { result.1.count ≤ length writer.old - 1 }
+        ensures rest { result.1.count ≤ length (text (writable chain.now)) - 1 }
+        ensures short { result.1.count < 2 ^ 32 }
         ensures shape { shape_of host.new ≡ shape_of host.old }
     {
         match request {
             Request::Read { sector, .. } => {
+                let mut writer = chain.writer();
                 let buffer = self.buffer.as_mut_slice();
-                load(&mut self.disk, writer, mem, host, sector, buffer)
+                load(&mut self.disk, &mut writer, mem, host, sector, buffer)
             }
-            Request::Write { sector, flush, .. } if flush => {
+            Request::Write { sector, flush, .. } => {
                 let buffer = self.buffer.as_mut_slice();
                 let disk = &mut self.disk;
-                let (status, wanted) = store_to_stay(disk, reader, mem, host, sector, buffer);
-                (status, Written { count: 0, wanted })
-            }
-            Request::Write { sector, .. } => {
-                let buffer = self.buffer.as_mut_slice();
-                let (status, wanted) = store(&mut self.disk, reader, mem, host, sector, buffer);
+                let (status, wanted) = store_data(disk, mem, host, chain, sector, flush, buffer);
                 (status, Written { count: 0, wanted })
             }
             Request::Flush => (
@@ -117,7 +116,10 @@ impl<D: Disk> BlockDevice<D> {
                     wanted: false,
                 },
             ),
-            Request::GetId { len } => tell_id(&self.id, len, writer, mem, host),
+            Request::GetId { len } => {
+                let mut writer = chain.writer();
+                tell_id(&self.id, len, &mut writer, mem, host)
+            }
             Request::Refused { status } => (
                 status,
                 Written {
@@ -153,10 +155,7 @@ impl<D: Disk> BlockDevice<D> {
         ensures shape { shape_of host.new ≡ shape_of host.old }
     {
         let (request, unread) = asked_of(begin(self.terms(), mem, host, chain));
-        let mut reader = chain.reader();
-        reader.skip(16);
-        let mut writer = chain.writer();
-        let (status, written) = self.act(request, mem, host, &mut reader, &mut writer);
+        let (status, written) = self.act(request, mem, host, chain);
         let moved = written.count;
         let finished = finish(mem, host, chain, status, moved);
         let (len, untold) = length_of(finished, moved as u32);

@@ -53,6 +53,12 @@ impl Disk for MemoryDisk {
         Ok(())
     }
 
+    #[inline]
+    fn lend(&self, sector: u64, len: usize) -> Option<&[u8]> {
+        let at = sector as usize * 512;
+        Some(&self.bytes.as_slice()[at..at + len])
+    }
+
     fn write(&mut self, sector: u64, data: &[u8]) -> Result<(), DiskError> {
         put(self.bytes.as_mut_slice(), sector as usize * 512, data);
         Ok(())

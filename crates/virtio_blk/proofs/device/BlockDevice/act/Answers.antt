@@ -1,11 +1,12 @@
-use Rattle.std.proofs.Common.{◌≡◌, ◌-◌, false, [], arith, length, refl}
+use Rattle.std.proofs.Common.{◌≡◌, ◌-◌, [], arith, drop, length, refl}
+use Rattle.vm_memory_device.specs.Chain.{readable, text, writable}
 use Rattle.virtio_blk.proofs.TextFacts.{writes_none}
 use Rattle.virtio_blk.proofs.device.BlockDevice.act.Goals as goal
 
 pub returns-in-Read-clause-did : goal.returns-in-Read-clause-did
 returns-in-Read-clause-did g c =
-    let loaded = c.load.ensures.loaded in
-    let len : length c.args.writer.now - 1 ≡ c.in-Read.len =
+    let loaded = rw c.writer-writer.ensures.text at c.load.ensures.loaded in
+    let len : length (text (writable c.args.chain.now)) - 1 ≡ c.in-Read.len =
     let can = rw c.in-Read.is at c.requires.can in omega (arith, can.2) in
     rw (c.in-Read.is, ← c.self.view_is, ← len) (record {
       sent = loaded.0;
@@ -18,28 +19,16 @@ returns-in-Read-clause-did g c =
 
 pub returns-in-Write-clause-did : goal.returns-in-Write-clause-did
 returns-in-Write-clause-did g c =
-    let len : c.in-Write.len ≡ length c.args.reader.now =
+    let chain = c.args.chain.now in
+    let len : c.in-Write.len ≡ length (drop 16 (text (readable chain))) =
     let can = rw c.in-Write.is at c.requires.can in can.2 in
     rw (c.in-Write.is, ← c.self.view_is) (record {
       sent = [];
-      disk = c.store_to_stay-status.new.disk;
+      disk = c.store_data-status.new.disk;
       count = refl;
-      does = (refl, rw (c.if-flush.true, len) c.store_to_stay-status.ensures);
-      written = writes_none g.B.Bitmap.marks (g.M.GuestMemory.memory c.args.mem.now) c.args.writer.now c.args.host.now;
-      is = refl;
-    })
-
-pub returns-in-Write-2-clause-did : goal.returns-in-Write-2-clause-did
-returns-in-Write-2-clause-did g c =
-    let len : c.in-Write-2.len ≡ length c.args.reader.now =
-    let can = rw c.in-Write-2.is at c.requires.can in can.2 in
-    let done : c.in-Write-2.flush ≡ false = cc (c.in-Write.is, c.in-Write-2.is, c.if-flush.false) in
-    rw (c.in-Write-2.is, ← c.self.view_is) (record {
-      sent = [];
-      disk = c.store-status.new.disk;
-      count = refl;
-      does = (refl, rw (done, len) c.store-status.ensures);
-      written = writes_none g.B.Bitmap.marks (g.M.GuestMemory.memory c.args.mem.now) c.args.writer.now c.args.host.now;
+      does = (refl, rw len c.store_data-status.ensures);
+      written = writes_none g.B.Bitmap.marks (g.M.GuestMemory.memory c.args.mem.now) (text (writable chain))
+          c.args.host.now;
       is = refl;
     })
 
@@ -50,13 +39,14 @@ returns-in-Flush-clause-did g c =
       disk = c.flush.new.disk;
       count = refl;
       does = (refl, refl, c.flush.ensures);
-      written = writes_none g.B.Bitmap.marks (g.M.GuestMemory.memory c.args.mem.now) c.args.writer.now c.args.host.now;
+      written = writes_none g.B.Bitmap.marks (g.M.GuestMemory.memory c.args.mem.now) (text (writable c.args.chain.now))
+          c.args.host.now;
       is = refl;
     })
 
 pub returns-in-GetId-clause-did : goal.returns-in-GetId-clause-did
 returns-in-GetId-clause-did g c =
-    let told = c.tell_id.ensures.told in
+    let told = rw c.writer-writer-in-GetId.ensures.text at c.tell_id.ensures.told in
     rw (c.in-GetId.is, ← c.self.view_is) (record {
       sent = told.0;
       disk = c.self.inside.disk;
@@ -73,7 +63,8 @@ returns-in-Refused-clause-did g c =
       disk = c.args.self.now.disk;
       count = refl;
       does = (refl, refl, refl, refl);
-      written = writes_none g.B.Bitmap.marks (g.M.GuestMemory.memory c.args.mem.now) c.args.writer.now c.args.host.now;
+      written = writes_none g.B.Bitmap.marks (g.M.GuestMemory.memory c.args.mem.now) (text (writable c.args.chain.now))
+          c.args.host.now;
       is = refl;
     })
 
@@ -84,6 +75,7 @@ returns-in-Unserved-clause-did g c =
       disk = c.args.self.now.disk;
       count = refl;
       does = (refl, refl, refl);
-      written = writes_none g.B.Bitmap.marks (g.M.GuestMemory.memory c.args.mem.now) c.args.writer.now c.args.host.now;
+      written = writes_none g.B.Bitmap.marks (g.M.GuestMemory.memory c.args.mem.now) (text (writable c.args.chain.now))
+          c.args.host.now;
       is = refl;
     })

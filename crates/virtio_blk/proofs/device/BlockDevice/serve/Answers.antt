@@ -1,22 +1,16 @@
-use Rattle.std.proofs.Common.{List, ap, drop, length, subst, ◌-◌, ◌≤◌, ◌∙◌}
-use Rattle.vm_memory_device.specs.Chain.{Entry, readable, text, writable}
-use Rattle.virtio_blk.specs.Config.{terms_of}
-use Rattle.virtio_blk.specs.Inside.{Did}
-use Rattle.virtio_blk.proofs.ChainFacts.{after_header, can_serve, served_of}
+use Rattle.virtio_blk.proofs.ChainFacts.{can_serve, served_of}
 use Rattle.virtio_blk.proofs.StepFacts.{goes-text}
 use Rattle.virtio_blk.proofs.device.BlockDevice.serve.Goals as goal
+use Rattle.virtio_blk.specs.Config.{terms_of}
+use Rattle.vm_memory_device.specs.Chain.{readable, text, writable}
 
 pub act-status-requires-clause-can : goal.act-status-requires-clause-can
 act-status-requires-clause-can g c =
     let chain = c.args.chain.now in
-    let left = after_header c.reader-reader.result c.skip.new.self c.skip.result c.skip.ensures.passed
-    c.skip.ensures.place ∙ ap (drop 16) c.reader-reader.ensures.text in
-    let both = can_serve (g.M.GuestMemory.memory c.args.mem.now) c.args.host.now
+    (can_serve (g.M.GuestMemory.memory c.args.mem.now) c.args.host.now
     (terms_of g.D.Disk.sectors c.args.self.now) c.terms.result (text (readable chain)) (text (writable chain))
-    c.skip.new.self c.writer-writer.result c.begin.result c.asked_of-request.result (goes-text (readable chain))
-    c.terms.ensures.terms c.begin.ensures.begun c.asked_of-request.ensures left c.writer-writer.ensures.text
-    c.terms.ensures.small in
-    both.1
+    c.begin.result c.asked_of-request.result (goes-text (readable chain)) c.terms.ensures.terms
+    c.begin.ensures.begun c.asked_of-request.ensures c.terms.ensures.small).1
 
 pub returns-clause-served : goal.returns-clause-served
 returns-clause-served g c =
@@ -25,19 +19,11 @@ returns-clause-served g c =
     let D = g.D.Disk in
     let p = c.act-status in
     let asked = c.asked_of-request.result in
-    let left = after_header c.reader-reader.result c.skip.new.self c.skip.result c.skip.ensures.passed
-    c.skip.ensures.place ∙ ap (drop 16) c.reader-reader.ensures.text in
     let both = can_serve m c.args.host.now (terms_of D.sectors c.args.self.now) c.terms.result
-    (text (readable chain)) (text (writable chain)) c.skip.new.self c.writer-writer.result c.begin.result asked
-    (goes-text (readable chain)) c.terms.ensures.terms c.begin.ensures.begun c.asked_of-request.ensures left
-    c.writer-writer.ensures.text c.terms.ensures.small in
-    let Does = λ (given room : List Entry). Did g.B.Bitmap.marks D.bytes D.sectors D.calls m
-    asked.0 given room c.args.self.now c.args.host.now p.result.0 p.result.1.count p.result.1.wanted p.new.self
-    p.new.host in
-    let did = subst (λ (es : List Entry). Does es (text (writable chain))) left
-    (subst (λ (es : List Entry). Does c.skip.new.self es) c.writer-writer.ensures.text p.ensures.did) in
+    (text (readable chain)) (text (writable chain)) c.begin.result asked
+    (goes-text (readable chain)) c.terms.ensures.terms c.begin.ensures.begun c.asked_of-request.ensures
+    c.terms.ensures.small in
     served_of g.B.Bitmap.marks D.bytes D.sectors D.calls m (text (readable chain)) (text (writable chain))
     c.args.self.now c.args.host.now asked p.result.0 p.result.1.count p.result.1.wanted p.new.self p.new.host
-    c.finish-finished.result c.length_of-len.result c.count.new.self c.finish-finished.new.host both.0 did
-    (subst (λ (es : List Entry). p.result.1.count ≤ length es - 1) c.writer-writer.ensures.text p.ensures.rest)
-    c.finish-finished.ensures.finished c.length_of-len.ensures c.count.ensures
+    c.finish-finished.result c.length_of-len.result c.count.new.self c.finish-finished.new.host both.0 p.ensures.did
+    p.ensures.rest c.finish-finished.ensures.finished c.length_of-len.ensures c.count.ensures

@@ -1,4 +1,4 @@
-use Rattle.std.proofs.Common.{◌≡◌, ◌+◌, ◌-◌, ◌*◌, ◌/◌, ◌<◌, ◌≤◌, true, arith, length, min, take, take_all, sym, subst}
+use Rattle.std.proofs.Common.{◌≡◌, ◌∙◌, ◌+◌, ◌-◌, ◌*◌, ◌/◌, ◌<◌, ◌≤◌, true, arith, length, min, take, take_all, sym, subst}
 use Rattle.std.proofs.lemmas.List.{length-take-le}
 use Rattle.virtio_blk.specs.Disk.{reads}
 use Rattle.virtio_blk.proofs.ServeFacts.{loaded_ends, loaded_more, loaded_none, gave_all, piece_ends-before, piece_whole, LoadedPiece}
@@ -18,10 +18,11 @@ returns-then-done-count-clause-loaded g c =
     length-take-le n l.buffer (omega (arith, c.min-count.ensures, l.auto.buffer, c.requires.room)) in
     let at : 512 * (c.args.sector + l.moved / 512) ≡ 512 * c.args.sector + l.moved =
     omega (arith, l.invariant.whole) in
-    let got = c.load_piece-done.new.piece in
+    let gave = c.load_piece-done.ensures.gave in
+    let got = gave.0 in
     let done = c.load_piece-done.result.count in
     let most : done ≤ n = rw e at c.load_piece-done.ensures.most in
-    let given : length got ≡ n = omega (arith, e, c.load_piece-done.auto.piece) in
+    let given : length got ≡ n = gave.1 ∙ e in
     let fits : done ≤ length got = omega (arith, most, given) in
     let few : done < length got = omega (arith, c.if-done-count.true, given) in
     let len = length c.args.writer.now - 1 in
@@ -33,9 +34,9 @@ returns-then-done-count-clause-loaded g c =
     (g.M.GuestMemory.memory c.args.mem.now) c.args.host.now c.args.writer.now c.args.sector c.args.disk.now
     l.moved done (take done got) l.disk c.load_piece-done.new.disk l.host c.load_piece-done.new.host l.writer
     c.load_piece-done.new.writer = record {
-      lie = rw at at c.load_piece-done.ensures.lie;
+      lie = rw at at gave.2;
       count = length-take-le done got fits;
-      written = c.load_piece-done.ensures.written;
+      written = gave.3;
       place = c.load_piece-done.ensures.place;
       disk = (c.load_piece-done.ensures.bytes, c.load_piece-done.ensures.sectors);
       tables = c.load_piece-done.ensures.tables;
@@ -45,7 +46,7 @@ returns-then-done-count-clause-loaded g c =
     (g.M.GuestMemory.memory c.args.mem.now) c.args.host.now c.args.writer.now c.args.sector c.args.disk.now
     len l.moved done c.load_piece-done.result.wanted got l.disk c.load_piece-done.new.disk l.host
     c.load_piece-done.new.host l.writer c.load_piece-done.new.writer all l.invariant few size came short
-    (rw (e, ← given) at c.load_piece-done.ensures.call)
+    (rw (e, ← given) at gave.4)
 
 pub loop-moved-preserved : goal.loop-moved-preserved
 loop-moved-preserved g c =
@@ -56,21 +57,23 @@ loop-moved-preserved g c =
     let at : 512 * (c.args.sector + l.moved / 512) ≡ 512 * c.args.sector + l.moved =
     omega (arith, l.invariant.whole) in
     let done = c.load_piece-done.result.count in
-    let bs = take done c.load_piece-done.new.piece in
+    let gave = c.load_piece-done.ensures.gave in
+    let got = gave.0 in
+    let given : length got ≡ n = gave.1 ∙ e in
+    let bs = take done got in
     let most : done ≤ n = rw e at c.load_piece-done.ensures.most in
     let all : done ≡ n = omega (arith, most, c.if-done-count.false) in
     let len = length c.args.writer.now - 1 in
     let size = c.left-len.ensures in
     let is : n ≡ min (len - l.moved) 65536 = rw (← size) c.min-count.ensures in
-    let same : bs ≡ c.load_piece-done.new.piece =
-    take_all done c.load_piece-done.new.piece (omega (arith, all, e, c.load_piece-done.auto.piece)) in
+    let same : bs ≡ got = take_all done got (omega (arith, all, given)) in
     let came : LoadedPiece g.B.Bitmap.marks g.D.Disk.bytes g.D.Disk.sectors g.D.Disk.calls
     (g.M.GuestMemory.memory c.args.mem.now) c.args.host.now c.args.writer.now c.args.sector c.args.disk.now
     l.moved done bs l.disk c.load_piece-done.new.disk l.host c.load_piece-done.new.host l.writer
     c.load_piece-done.new.writer = record {
-      lie = rw at at c.load_piece-done.ensures.lie;
-      count = length-take-le done c.load_piece-done.new.piece (omega (arith, most, e, c.load_piece-done.auto.piece));
-      written = c.load_piece-done.ensures.written;
+      lie = rw at at gave.2;
+      count = length-take-le done got (omega (arith, most, given));
+      written = gave.3;
       place = c.load_piece-done.ensures.place;
       disk = (c.load_piece-done.ensures.bytes, c.load_piece-done.ensures.sectors);
       tables = c.load_piece-done.ensures.tables;
@@ -87,4 +90,4 @@ loop-moved-preserved g c =
     (omega (arith, c.loop-moved-test.true, size)) (omega (arith, c.requires.some)) l.invariant.ends))
     (subst (λ xs. g.D.Disk.calls l.disk (reads (c.args.sector + l.moved / 512) xs) true c.load_piece-done.new.disk)
     (sym same)
-    (gave_all (rw e at c.load_piece-done.ensures.call) (omega (arith, all, is, c.loop-moved-test.true, size))))
+    (gave_all (rw e at gave.4) (omega (arith, all, is, c.loop-moved-test.true, size))))

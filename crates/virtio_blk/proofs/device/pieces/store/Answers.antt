@@ -1,5 +1,6 @@
 use Rattle.std.proofs.Common.{◌≡◌, ◌+◌, ◌-◌, ◌*◌, ◌/◌, arith, length, min, refl, take}
 use Rattle.std.proofs.lemmas.List.{length-take-le}
+use Rattle.virtio_blk.proofs.LentFacts.{placed_then}
 use Rattle.virtio_blk.proofs.ServeFacts.{has_sectors, piece_ends, piece_whole, stored_more, stored_none, stored_stop}
 use Rattle.virtio_blk.proofs.device.pieces.store.Goals as goal
 
@@ -7,6 +8,12 @@ pub loop-moved-init : goal.loop-moved-init
 loop-moved-init g c =
     stored_none g.D.Disk.bytes g.D.Disk.sectors g.D.Disk.calls (g.M.GuestMemory.memory c.args.mem.now)
     c.args.host.now c.args.reader.now c.args.sector c.args.disk.now
+
+pub store_piece-requires-clause-placed : goal.store_piece-requires-clause-placed
+store_piece-requires-clause-placed g c =
+    let l = c.loop-moved in
+    placed_then c.args.start c.data_behind-here.result c.args.reader.now l.reader l.moved c.requires.placed
+    c.data_behind-here.ensures l.invariant.place l.invariant.most
 
 pub returns-in-Err : goal.returns-in-Err
 returns-in-Err g c =
