@@ -3,5 +3,10 @@ mod FieldLemmas
 mod HistoryLemmas
 mod LawLemmas
 mod LinkedLemmas
+mod PackedChainLemmas
+mod PackedHistoryLemmas
+mod PackedLawLemmas
+mod PackedLemmas
+mod PackedRingLemmas
 mod RingLemmas
 mod StoreLemmas

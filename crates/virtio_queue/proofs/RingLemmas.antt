@@ -80,7 +80,7 @@ answer_is may_want expected x (inl is) = sym is
 answer_is may_want expected x (inr (is, wants)) = absurd (cc)
 
 -- of two places that were found, each was found
-both_found : {X Y : Type 0} (r : Result X QueueError) (s : Result Y QueueError) (x : X) (y : Y)
+pub both_found : {X Y : Type 0} (r : Result X QueueError) (s : Result Y QueueError) (x : X) (y : Y)
     → ◌≡◌ {A = Result (X × Y) QueueError} (and_then r (λ a. and_then s (λ b. Ok (a, b)))) (Ok (x, y))
     → (r ≡ Ok x) × (s ≡ Ok y)
 both_found {X} {Y} (Ok a) (Ok b) x y is =

@@ -7,6 +7,14 @@ pub mod Fields
 pub mod History
 pub mod Linked
 pub mod Notification
+pub mod Packed
+pub mod PackedDriver
+pub mod PackedEvents
+pub mod PackedHistory
+pub mod PackedInside
+pub mod PackedLaws
+pub mod PackedRing
+pub mod PackedUsed
 pub mod Rings
 pub mod State
 pub mod Used

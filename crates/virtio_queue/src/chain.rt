@@ -52,7 +52,7 @@ fn follow<M: GuestMemory, B: Bitmap>(
 }
 
 // How many descriptors an indirect table has.
-fn indirect_len(descriptor: &Descriptor) -> Result<u16, QueueError>
+pub(crate) fn indirect_len(descriptor: &Descriptor) -> Result<u16, QueueError>
     ensures { result ≡ indirect_len descriptor.now }
 {
     if descriptor.has_next() {

@@ -8,7 +8,7 @@ mod barrier;
 mod notification;
 mod used;
 
-use self::barrier::BarrierWord;
+pub(crate) use self::barrier::BarrierWord;
 pub use self::notification::{VRING_AVAIL_F_NO_INTERRUPT, VRING_USED_F_NO_NOTIFY};
 use crate::error::QueueError;
 use crate::state::QueueState;

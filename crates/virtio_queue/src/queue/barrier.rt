@@ -5,13 +5,13 @@ use std::sync::atomic::{AtomicU64, Ordering};
 // A word that only its queue writes. Loads and stores of guest memory are plain moves, which a processor reorders (on
 // x86 a store and a later load), and the library's `fence` does nothing: a step on an atomic word keeps them apart.
 #[derive(Drop)]
-pub(super) struct BarrierWord {
+pub(crate) struct BarrierWord {
     passed: AtomicU64,
 }
 
 impl BarrierWord {
     #[inline]
-    pub(super) fn new() -> BarrierWord {
+    pub(crate) fn new() -> BarrierWord {
         BarrierWord {
             passed: AtomicU64::new(0),
         }
@@ -20,7 +20,7 @@ impl BarrierWord {
     // Each access of memory that comes before it is done, for every processor, before one that comes after it. It
     // writes another number each time, so that no compiler may make it a load, or nothing.
     #[inline]
-    pub(super) fn full_barrier(&self) {
+    pub(crate) fn full_barrier(&self) {
         self.passed.fetch_add(1, Ordering::SeqCst);
     }
 }

@@ -1,0 +1,108 @@
+-- Notifications of packed queues: the event suppression structures, of 4 bytes each. The first 16 bits are an offset with
+-- its wrap counter, and the others are flags.
+use Rattle.std.specs.Prelude.{◌≡◌, ℕ, ◌+◌, ◌-◌, ◌*◌, ◌%◌, nat_lt, nat_le, Bool, true, false, not, ◌==◌, ◌&&◌, ◌||◌, if◌then◌else◌, Option, Some, None, Result, Ok, Err, MatchBool, MatchResult}
+use Rattle.vm_memory_base.specs.declared.iotlb.Permissions.TheVariants as permissions
+use Rattle.vm_memory_guest.specs.Host.{Host}
+use Rattle.vm_memory_guest.specs.Memory.{Memory}
+use Rattle.vm_memory_guest.specs.Window.{Window}
+use Rattle.virtio_queue.specs.Fields.{stored_at, window_at, word_at, word_window, MayWant, Refuses, StoresWord}
+use Rattle.virtio_queue.specs.Packed.{PackedVirtqueue, of_bits, to_bits}
+use Rattle.virtio_queue.specs.PackedRing.{has_next}
+use Rattle.virtio_queue.specs.Rings.{WantsThen, and_then}
+use Rattle.virtio_queue.specs.declared.error.QueueError.{QueueError}
+use Rattle.virtio_queue.specs.declared.error.QueueError.TheVariants as errors
+use Rattle.virtio_queue.specs.declared.packed.position.RingPosition.{RingPosition}
+use Rattle.virtio_queue.specs.declared.packed.state.PackedState.{PackedState}
+
+-- the flags: notify of each buffer, of none, or of the one at the offset. The highest value is reserved
+abbrev pub is_disabled : ℕ → Bool
+is_disabled flags = flags % 4 == 1
+
+abbrev pub is_by_offset : ℕ → Bool
+is_by_offset flags = flags % 4 == 2
+
+-- positions count up to twice the size, and then from 0 again
+abbrev pub count_of : ℕ → RingPosition → ℕ
+count_of size p = if p.wrap then p.slot else size + p.slot
+
+-- how many slots lie from a position up to the next one
+abbrev pub slots_between : ℕ → ℕ → ℕ → ℕ
+slots_between size i next = if nat_lt i next then next - i else 2 * size + next - i
+
+-- whether a position is one of the n slots before the next one. An offset past the ring is taken for such
+abbrev pub is_passed : ℕ → ℕ → RingPosition → RingPosition → Bool
+is_passed size n next event = nat_le size event.slot
+    || nat_le (slots_between size (count_of size event) (count_of size next)) n
+
+module _ {B : Type 0} (m : Memory) (host : Host B) where
+  -- whether the driver wants to know of the last n slots, by its flags. If it is not known how many are new, it does
+  abbrev pub wants_by_offset : PackedState → ℕ → Result Bool QueueError
+  wants_by_offset q n = and_then (word_at m host q.driver_area 0) (λ event.
+      Ok (is_passed q.size n q.next_used (of_bits event)))
+
+  abbrev pub wants_notification : PackedState → Option ℕ → Result Bool QueueError
+  wants_notification q None = Ok true
+  wants_notification q (Some n) = and_then (word_at m host q.driver_area 2) (λ flags.
+      if q.event_idx_enabled && is_by_offset flags then wants_by_offset q n else Ok (not (is_disabled flags)))
+
+  abbrev pub needs_notification : PackedVirtqueue → Result Bool QueueError
+  needs_notification q =
+      if q.state.ready then wants_notification q.state q.added else Err errors.QueueNotReady
+
+  -- to find out may fail to allocate, where it is not known without a look
+  abbrev pub MayWantEvent : PackedState → Option ℕ → Type 0
+  MayWantEvent q None = ⊥
+  MayWantEvent q (Some n) = WantsThen (MayWant m host q.driver_area 2 2 permissions.Read)
+      (word_at m host q.driver_area 2) (λ flags. (q.event_idx_enabled && is_by_offset flags ≡ true)
+      × MayWant m host q.driver_area 0 2 permissions.Read)
+
+  abbrev pub MayWantNeeds : PackedVirtqueue → Type 0
+  MayWantNeeds q = (q.state.ready ≡ true) × MayWantEvent q.state q.added
+
+-- the queue after it was asked whether the driver needs a notification: from now on slots count anew
+abbrev pub after_asked : PackedVirtqueue → Result Bool QueueError → PackedVirtqueue
+after_asked q (Ok needs) = record { state = q.state; added = Some 0 }
+after_asked q (Err e) = q
+
+-- what a device writes to be notified of the next chain: with event indices, of the slot at the offset, and else of each
+abbrev pub kick_flags : PackedState → ℕ
+kick_flags q = if q.event_idx_enabled then 2 else 0
+
+-- where it writes the offset and the flags, and where it finds the flags of the next chain
+abbrev pub kick_places : {B : Type 0} → Memory → Host B → PackedState → Result (Window × Window × Window) QueueError
+kick_places m host q = and_then (word_window m host q.device_area 0) (λ offset.
+    and_then (word_window m host q.device_area 2) (λ flags.
+    and_then (window_at m host q.desc_ring (16 * q.next_avail.slot + 14) permissions.Read) (λ next.
+    Ok (offset, flags, next))))
+
+-- to look them up may fail to allocate
+abbrev pub MayWantKick : {B : Type 0} → Memory → Host B → PackedState → Type 0
+MayWantKick m host q = WantsThen (MayWant m host q.device_area 0 2 permissions.Write)
+    (word_window m host q.device_area 0) (λ offset.
+    WantsThen (MayWant m host q.device_area 2 2 permissions.Write) (word_window m host q.device_area 2) (λ flags.
+    MayWant m host q.desc_ring (16 * q.next_avail.slot + 14) 2 permissions.Read))
+
+-- what a device waits for: the driver finds in memory that it has to notify, and has made no chain available beyond those
+-- that were popped
+pub record Waits {B : Type 0} (m : Memory) (host : Host B) (q : PackedState) : Type 0 where
+  pub asks : stored_at m host q.device_area 2 ≡ Ok (kick_flags q)
+  pub none : has_next m host q ≡ Ok false
+
+module _ {B : Type 0} (marks : B → ℕ → ℕ → B → Type 0) (m : Memory) (q : PackedState) where
+  -- the offset was written, and then the flags, and then whether there is a chain by now is returned. Or one of the
+  -- three was refused, and nothing changed
+  abbrev pub Enables : Host B → Result Bool QueueError → Host B → Type 0
+  Enables old answer new = MatchResult answer
+      (λ more. (mid : Host B) × StoresWord marks m q.device_area 0 (to_bits q.next_avail) old (Ok tt) mid
+      × StoresWord marks m q.device_area 2 (kick_flags q) mid (Ok tt) new × (has_next m new q ≡ Ok more))
+      (λ e. Refuses (MayWantKick m old q) (kick_places m old q) e × (new ≡ old))
+
+  -- a queue that is not ready is refused, and nothing changes
+  abbrev pub EnablesIfReady : Host B → Result Bool QueueError → Host B → Type 0
+  EnablesIfReady old answer new =
+      MatchBool q.ready (Enables old answer new) ((answer ≡ Err errors.QueueNotReady) × (new ≡ old))
+
+  -- the driver is asked not to notify, by the flags
+  abbrev pub Disables : Host B → Result (Unit {0}) QueueError → Host B → Type 0
+  Disables old answer new = MatchBool q.ready (StoresWord marks m q.device_area 2 1 old answer new)
+      ((answer ≡ Err errors.QueueNotReady) × (new ≡ old))

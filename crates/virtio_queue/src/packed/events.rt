@@ -1,0 +1,190 @@
+//! Notifications: when the driver has to be notified of used slots, and the device of available ones.
+ghost use Rattle.std.specs.Prelude.{◌≡◌, ◌*◌, ◌<◌, ◌≤◌, ◌^◌, false, true, Ok, IfOk, OnOk};
+ghost use Rattle.vm_memory_guest.specs.Host.{shape_of, Holds};
+ghost use Rattle.vm_memory_guest.specs.Window.{window_names};
+ghost use Rattle.virtio_queue.specs.Fields.{Answers, is_word, stored_at};
+ghost use Rattle.virtio_queue.specs.PackedEvents.{Disables, EnablesIfReady, MayWantEvent, MayWantKick, MayWantNeeds, Waits, after_asked, count_of, is_passed, kick_flags, kick_places, needs_notification, wants_by_offset, wants_notification};
+
+use super::PackedQueue;
+use super::descriptor::is_available;
+use super::position::RingPosition;
+use super::state::PackedState;
+use crate::error::QueueError;
+use crate::fields::{load_in, load_word, store_in, store_word, window_at};
+use crate::queue::BarrierWord;
+use vm_memory_base::{Bitmap, Permissions};
+use vm_memory_guest::laws::effects::{writes_keep_shapes, written_is_read_back};
+use vm_memory_guest::laws::typed::loads_and_stores_are_by_bytes;
+use vm_memory_guest::{GuestMemory, HostMemory, VolatileSlice};
+
+/// The flags by which a side asks for a notification of each chain.
+pub const VRING_PACKED_EVENT_FLAG_ENABLE: u16 = 0;
+
+/// The flags by which a side asks for no notification.
+pub const VRING_PACKED_EVENT_FLAG_DISABLE: u16 = 1;
+
+/// The flags by which a side asks for a notification of the slot at the offset.
+pub const VRING_PACKED_EVENT_FLAG_DESC: u16 = 2;
+
+// A position as a count that goes on to twice the size.
+#[inline]
+fn count_of(size: u32, position: RingPosition) -> u32
+    requires { size ≤ 2 ^ 15 }
+    ensures count { result ≡ count_of size position }
+    ensures below { position.slot < size → result < 2 * size }
+{
+    let slot = u32::from(position.slot);
+    if position.wrap { slot } else { size + slot }
+}
+
+// Whether the position of an event is one of so many in front of the next one.
+#[inline]
+fn is_passed(size: u16, count: u32, next: RingPosition, event: RingPosition) -> bool
+    requires fits { size ≤ 2 ^ 15 }
+    requires slot { next.slot < size }
+    ensures { result ≡ is_passed size count next event }
+{
+    if event.slot >= size {
+        return true;
+    }
+    let size = u32::from(size);
+    let next = count_of(size, next);
+    let event = count_of(size, event);
+    let between = if event < next {
+        next - event
+    } else {
+        2 * size + next - event
+    };
+    between <= count
+}
+
+// Whether the driver wants to know of the last slots, if it is known how many are new.
+fn wants_notification<M: GuestMemory, B: Bitmap>(
+    mem: &M,
+    host: &HostMemory<B>,
+    state: &PackedState,
+    added: Option<u32>,
+    barrier: &BarrierWord,
+) -> Result<bool, QueueError>
+    requires held { Holds (shape_of host.now) (M.names mem.now) }
+    requires fits { state.now.size ≤ 2 ^ 15 }
+    requires slot { state.now.next_used.slot < state.now.size }
+    ensures { let m = M.memory mem.now in
+        Answers (MayWantEvent m host.now state.now added) (wants_notification m host.now state.now added) result }
+{
+    let Some(count) = added else {
+        return Ok(true);
+    };
+    let flags = load_word(mem, host, state.driver_area, 2)? % 4;
+    if state.event_idx_enabled && flags == VRING_PACKED_EVENT_FLAG_DESC {
+        barrier.full_barrier();
+        let event = RingPosition::from_bits(load_word(mem, host, state.driver_area, 0)?);
+        return Ok(is_passed(state.size, count, state.next_used, event));
+    }
+    Ok(flags != VRING_PACKED_EVENT_FLAG_DISABLE)
+}
+
+// The flags that a device writes to be notified.
+#[inline]
+fn kick_flags(state: &PackedState) -> u16
+    ensures { result ≡ kick_flags state.now }
+{
+    if state.event_idx_enabled {
+        VRING_PACKED_EVENT_FLAG_DESC
+    } else {
+        VRING_PACKED_EVENT_FLAG_ENABLE
+    }
+}
+
+// Where a device writes when it is to be notified: the offset and the flags. And where it finds the flags of the next
+// chain.
+#[inline]
+fn kick_places<M: GuestMemory, B: Bitmap>(
+    mem: &M,
+    host: &HostMemory<B>,
+    state: &PackedState,
+) -> Result<(VolatileSlice, VolatileSlice, VolatileSlice), QueueError>
+    requires { Holds (shape_of host.now) (M.names mem.now) }
+    ensures places { let m = M.memory mem.now in
+        Answers (MayWantKick m host.now state.now) (kick_places m host.now state.now) result }
+    ensures held { IfOk result (λ p. Holds (shape_of host.now) (window_names p.0)
+        × Holds (shape_of host.now) (window_names p.1) × Holds (shape_of host.now) (window_names p.2)) }
+    ensures words { IfOk result (λ p. (is_word p.0 ≡ true) × (is_word p.1 ≡ true) × (is_word p.2 ≡ true)) }
+{
+    let offset = window_at(mem, host, state.device_area, 0, Permissions::Write)?;
+    let flags = window_at(mem, host, state.device_area, 2, Permissions::Write)?;
+    let behind = 16 * u64::from(state.next_avail.slot) + 14;
+    let next = window_at(mem, host, state.desc_ring, behind, Permissions::Read)?;
+    Ok((offset, flags, next))
+}
+
+impl PackedQueue {
+    /// Whether the driver has to be notified of what was returned since the last call of this. It has to if its flags
+    /// ask for it, or, with event indices, if they lead to its offset and that is one of the slots that were used. An
+    /// offset past the ring is taken for one of them. The first call after `from_state`, `set_size` or `set_vring_base`
+    /// returns true.
+    pub fn needs_notification<M: GuestMemory, B: Bitmap>(
+        &mut self,
+        mem: &M,
+        host: &HostMemory<B>,
+    ) -> Result<bool, QueueError>
+        requires { Holds (shape_of host.now) (M.names mem.now) }
+        ensures needs { let m = M.memory mem.now in
+            Answers (MayWantNeeds m host.now self.old) (needs_notification m host.now self.old) result }
+        ensures asked { self.new ≡ after_asked self.old result }
+    {
+        if !self.state.ready {
+            return Err(QueueError::QueueNotReady);
+        }
+        self.barrier.full_barrier();
+        let needs = wants_notification(mem, host, &self.state, self.added, &self.barrier)?;
+        self.added = Some(0);
+        Ok(needs)
+    }
+
+    /// Asks the driver to notify the device of the next chain: with event indices by the offset of its first slot, and
+    /// else of each chain. It returns whether there is a chain by then. If there is, the device goes on popping, since
+    /// the driver may not notify it of that. If there is not, it waits for the next one. All fields are looked up before
+    /// one is written, so a call that is refused changes nothing.
+    pub fn enable_notification<M: GuestMemory, B: Bitmap>(
+        &self,
+        mem: &M,
+        host: &mut HostMemory<B>,
+    ) -> Result<bool, QueueError>
+        requires { Holds (shape_of host.old) (M.names mem.now) }
+        ensures enabled { EnablesIfReady B.marks (M.memory mem.now) self.now.state host.old result host.new }
+        ensures waits { result ≡ Ok false → Waits (M.memory mem.now) host.new self.now.state }
+        ensures shape { shape_of host.new ≡ shape_of host.old }
+    {
+        if !self.state.ready {
+            return Err(QueueError::QueueNotReady);
+        }
+        written_is_read_back();
+        writes_keep_shapes::<B>();
+        loads_and_stores_are_by_bytes::<()>();
+        let state = &self.state;
+        let (offset, flags, next) = kick_places(mem, host, state)?;
+        store_in(&offset, host, state.next_avail.to_bits());
+        self.barrier.full_barrier();
+        store_in(&flags, host, kick_flags(state));
+        self.barrier.full_barrier();
+        Ok(is_available(load_in(&next, host), state.next_avail.wrap))
+    }
+
+    /// Asks the driver not to notify the device, also with event indices.
+    pub fn disable_notification<M: GuestMemory, B: Bitmap>(
+        &self,
+        mem: &M,
+        host: &mut HostMemory<B>,
+    ) -> Result<(), QueueError>
+        requires { Holds (shape_of host.old) (M.names mem.now) }
+        ensures disabled { Disables B.marks (M.memory mem.now) self.now.state host.old result host.new }
+        ensures shape { shape_of host.new ≡ shape_of host.old }
+    {
+        if !self.state.ready {
+            return Err(QueueError::QueueNotReady);
+        }
+        let flags = VRING_PACKED_EVENT_FLAG_DISABLE;
+        store_word(mem, host, self.state.device_area, 2, flags)
+    }
+}
