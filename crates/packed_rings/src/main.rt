@@ -1,6 +1,6 @@
-//! Pops chains of packed rings that a hostile driver might have written, and compares each answer with a slow reading of
-//! the same bytes, which is written apart. It prints how many rings ended in each way. Then it returns chains in every
-//! order of four, in rings of many sizes, and says of how many chains the driver learned.
+//! Pops chains of packed rings that a hostile driver might have written, and compares each answer with a slow reading
+//! of the same bytes, which is written apart. It prints how many rings ended in each way. Then it returns chains in
+//! every order of four, in rings of many sizes, and says of how many chains the driver learned.
 #![tactic(auto)]
 
 mod orders;
