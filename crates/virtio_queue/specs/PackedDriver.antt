@@ -46,7 +46,8 @@ offset_of DriverFlags = 2
 offset_of DeviceOffset = 0
 offset_of DeviceFlags = 2
 
--- the bytes of a descriptor are those of a split one with the id in place of the flags, and the flags in place of `next`
+-- the bytes of a descriptor are those of a split one with the id in place of the flags, and the flags in place of
+-- `next`
 abbrev pub split_of : PackedDescriptor → Descriptor
 split_of d = record { addr = d.addr; len = d.len; flags = d.id; next = d.flags }
 

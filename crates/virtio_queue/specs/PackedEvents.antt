@@ -1,5 +1,5 @@
--- Notifications of packed queues: the event suppression structures, of 4 bytes each. The first 16 bits are an offset with
--- its wrap counter, and the others are flags.
+-- Notifications of packed queues: the event suppression structures, of 4 bytes each. The first 16 bits are an offset
+-- with its wrap counter, and the others are flags.
 use Rattle.std.specs.Prelude.{◌≡◌, ℕ, ◌+◌, ◌-◌, ◌*◌, ◌%◌, nat_lt, nat_le, Bool, true, false, not, ◌==◌, ◌&&◌, ◌||◌, if◌then◌else◌, Option, Some, None, Result, Ok, Err, MatchBool, MatchResult}
 use Rattle.vm_memory_base.specs.declared.iotlb.Permissions.TheVariants as permissions
 use Rattle.vm_memory_guest.specs.Host.{Host}
@@ -64,7 +64,8 @@ abbrev pub after_asked : PackedVirtqueue → Result Bool QueueError → PackedVi
 after_asked q (Ok needs) = record { state = q.state; added = Some 0 }
 after_asked q (Err e) = q
 
--- what a device writes to be notified of the next chain: with event indices, of the slot at the offset, and else of each
+-- what a device writes to be notified of the next chain: with event indices, of the slot at the offset, and else of
+-- each
 abbrev pub kick_flags : PackedState → ℕ
 kick_flags q = if q.event_idx_enabled then 2 else 0
 
@@ -82,8 +83,8 @@ MayWantKick m host q = WantsThen (MayWant m host q.device_area 0 2 permissions.W
     WantsThen (MayWant m host q.device_area 2 2 permissions.Write) (word_window m host q.device_area 2) (λ flags.
     MayWant m host q.desc_ring (16 * q.next_avail.slot + 14) 2 permissions.Read))
 
--- what a device waits for: the driver finds in memory that it has to notify, and has made no chain available beyond those
--- that were popped
+-- what a device waits for: the driver finds in memory that it has to notify, and has made no chain available beyond
+-- those that were popped
 pub record Waits {B : Type 0} (m : Memory) (host : Host B) (q : PackedState) : Type 0 where
   pub asks : stored_at m host q.device_area 2 ≡ Ok (kick_flags q)
   pub none : has_next m host q ≡ Ok false

@@ -16,8 +16,8 @@ pub record Cell : Type 0 where
   pub used : Bool
   pub entry : Entry
 
--- a ring, and where its sides stand: the driver with what it makes available and what it takes, and the device with what
--- it pops and what it returns
+-- a ring, and where its sides stand: the driver with what it makes available and what it takes, and the device with
+-- what it pops and what it returns
 pub record Ring : Type 0 where
   pub cells : ℕ → Cell
   pub publishes : RingPosition

@@ -7,19 +7,19 @@ use vm_memory_guest::GuestMemoryError;
 /// Why a call of a queue was refused.
 #[derive(Debug, Drop, Error)]
 pub enum QueueError {
-    /// The greatest size of a queue is a power of two, 1 to 32768.
+    /// The greatest size of a queue is 1 to 32768, and of a split one a power of two.
     #[error("invalid greatest size of a queue")]
     InvalidMaxSize,
-    /// The size of a queue is a power of two, 1 to the greatest.
+    /// The size of a queue is 1 to the greatest, and of a split one a power of two.
     #[error("invalid size of a queue")]
     InvalidSize,
     /// The table of descriptors lies at a multiple of 16.
     #[error("descriptor table is not aligned")]
     InvalidDescTableAlign,
-    /// The available ring lies at a multiple of 2.
+    /// The available ring lies at a multiple of 2, and the driver's area of a packed queue at one of 4.
     #[error("available ring is not aligned")]
     InvalidAvailRingAlign,
-    /// The used ring lies at a multiple of 4.
+    /// The used ring lies at a multiple of 4, and so does the device's area of a packed queue.
     #[error("used ring is not aligned")]
     InvalidUsedRingAlign,
     /// The queue is not ready.
@@ -28,10 +28,11 @@ pub enum QueueError {
     /// A field of the queue lies past the greatest address.
     #[error("address overflow")]
     AddressOverflow,
-    /// The driver's index is more than the queue's size ahead.
+    /// The driver's index is more than the queue's size ahead, or a packed queue cannot stand at these positions.
     #[error("invalid index of the available ring")]
     InvalidAvailRingIndex,
-    /// A head or the next descriptor is at or past the length of its table.
+    /// A head or the next descriptor is at or past the length of its table, or a buffer took no slot of a packed queue,
+    /// or more than are out.
     #[error("invalid descriptor index")]
     InvalidDescriptorIndex,
     /// A chain has more descriptors than its table: it is a loop.

@@ -119,8 +119,8 @@ impl PackedQueue {
 
     /// A queue of this state. The first part that a queue cannot have is refused: `InvalidMaxSize`, `InvalidSize`,
     /// `InvalidDescTableAlign`, `InvalidAvailRingAlign` of the driver's area, `InvalidUsedRingAlign` of the device's
-    /// area, `InvalidAvailRingIndex` of the positions, in this order. Which slots the driver was notified of is not part
-    /// of a state, so the queue's first `needs_notification` is true.
+    /// area, `InvalidAvailRingIndex` of the positions, in this order. Which slots the driver was notified of is not
+    /// part of a state, so the queue's first `needs_notification` is true.
     pub fn from_state(state: PackedState) -> Result<PackedQueue, QueueError>
         ensures { MatchResult result
             (λ queue. (queue ≡ record { state = state; added = None }) × (state_error state ≡ None))
@@ -257,9 +257,9 @@ impl PackedQueue {
         avail + used * 0x1_0000
     }
 
-    /// Sets both positions, as `vring_base` gives them. Which slots the driver was notified of is not known then, so the
-    /// next `needs_notification` is true. `InvalidAvailRingIndex` if a slot is not in the ring, or more slots would be
-    /// out than it has.
+    /// Sets both positions, as `vring_base` gives them. Which slots the driver was notified of is not known then, so
+    /// the next `needs_notification` is true. `InvalidAvailRingIndex` if a slot is not in the ring, or more slots would
+    /// be out than it has.
     pub fn set_vring_base(&mut self, base: u32) -> Result<(), QueueError>
         ensures { (result, self.new) ≡ at_base self.old base }
     {

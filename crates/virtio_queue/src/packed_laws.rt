@@ -32,9 +32,9 @@ pub fn packed_flags_are_those_of_histories()
 
 /// After all events in which a chain takes a slot or more, the driver has at most the ring's slots out, and the device
 /// returns no more slots than it popped, in whatever order: the chains that were popped are the first of those that
-/// were made available, in order, and the next one is what is popped next. So none is popped twice and none is lost. And
-/// the entries that the driver took are the first of those that were returned, in order, and the next one is what it
-/// takes next. The size need not be a power of two.
+/// were made available, in order, and the next one is what is popped next. So none is popped twice and none is lost.
+/// And the entries that the driver took are the first of those that were returned, in order, and the next one is what
+/// it takes next. The size need not be a power of two.
 pub fn packed_chains_and_entries_keep_their_order()
     ensures { (size : ℕ) (events : List Event) → 0 < size → AllMay size events first
         → let s = story size events first in

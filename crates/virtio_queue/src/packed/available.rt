@@ -39,8 +39,8 @@ impl PackedQueue {
     /// The next chain that the driver has made available, with what it is returned by, or `None` if there is none. Its
     /// place moves on over the slots of the chain, and stays if there is none or it is refused.
     ///
-    /// The first thing that is wrong is refused, in the order of README.md, "Packed queues". After an error a device has
-    /// to be reset: the next call finds the same error as long as the driver leaves it there.
+    /// The first thing that is wrong is refused, in the order of README.md, "Packed queues". After an error a device
+    /// has to be reset: the next call finds the same error as long as the driver leaves it there.
     pub fn pop_descriptor_chain<M: GuestMemory, B: Bitmap>(
         &mut self,
         alloc: Global,

@@ -33,7 +33,8 @@ pub enum PackedField {
 }
 
 /// The driver's half of a packed queue: for tests of devices, and for programs that play a driver. All its fields are
-/// public, and any field can be set to anything, so that a driver can go wrong on purpose. It keeps no table of its ids.
+/// public, and any field can be set to anything, so that a driver can go wrong on purpose. It keeps no table of its
+/// ids.
 ///
 /// ```text
 /// let mut driver = PackedDriver::new(GuestAddress(0x1000), 7)?;
@@ -128,7 +129,8 @@ impl PackedDriver {
     ) -> Result<u16, QueueError>
         requires { Holds (shape_of host.now) (M.names mem.now) }
         ensures { let m = M.memory mem.now in let area = area_of self.now field in
-            Answers (MayWant m host.now area (offset_of field) 2 Read) (word_at m host.now area (offset_of field)) result }
+            Answers (MayWant m host.now area (offset_of field) 2 Read)
+            (word_at m host.now area (offset_of field)) result }
     {
         let (area, offset) = self.place(field);
         load_word(mem, host, area, offset)
@@ -169,7 +171,8 @@ impl PackedDriver {
     }
 
     /// Puts a descriptor into the next slot, with the flags that make it available, and moves on. A chain is put by one
-    /// call for each of its descriptors, the device doing nothing meanwhile. `InvalidSize` if the ring has no such slot.
+    /// call for each of its descriptors, the device doing nothing meanwhile. `InvalidSize` if the ring has no such
+    /// slot.
     pub fn publish<M: GuestMemory, B: Bitmap>(
         &mut self,
         mem: &M,

@@ -144,8 +144,8 @@ impl PackedQueue {
 
     /// Asks the driver to notify the device of the next chain: with event indices by the offset of its first slot, and
     /// else of each chain. It returns whether there is a chain by then. If there is, the device goes on popping, since
-    /// the driver may not notify it of that. If there is not, it waits for the next one. All fields are looked up before
-    /// one is written, so a call that is refused changes nothing.
+    /// the driver may not notify it of that. If there is not, it waits for the next one. All fields are looked up
+    /// before one is written, so a call that is refused changes nothing.
     pub fn enable_notification<M: GuestMemory, B: Bitmap>(
         &self,
         mem: &M,

@@ -2,8 +2,8 @@
 
 use super::position::RingPosition;
 
-/// Everything that a packed queue keeps outside guest memory, as a plain value: to be stored, or sent to the host that a
-/// machine moves to. `PackedQueue::state` gives it, and `PackedQueue::from_state` makes a queue of it.
+/// Everything that a packed queue keeps outside guest memory, as a plain value: to be stored, or sent to the host that
+/// a machine moves to. `PackedQueue::state` gives it, and `PackedQueue::from_state` makes a queue of it.
 #[derive(Clone, Copy, Debug, PartialEq, Eq)]
 pub struct PackedState {
     /// The greatest size that the device allows.

@@ -29,8 +29,8 @@ returns-clause-enabled g c =
     let mid_tables = keep (offset ∷ []) (to_le_bytes w16 (to_bits q.next_avail)) old mid first in
     let tables = keep (flags ∷ []) (to_le_bytes w16 (kick_flags q)) mid new second ∙ mid_tables in
     let each = g.met.M.GuestMemory.each_fits c.args.mem.now in
-    let loads = λ (a : ℕ). c.loads_and_stores_are_by_bytes.ensures.loads m.regions (route m new.tables) a 2 permissions.Read
-    new.blocks each in
+    let loads = λ (a : ℕ). c.loads_and_stores_are_by_bytes.ensures.loads m.regions (route m new.tables) a 2
+    permissions.Read new.blocks each in
     rw (← c.self.view_is) (rw c.is_available.ensures
     (enabled g.B.Bitmap.marks m q old mid new offset flags next c.load_in.result loads c.if-not-self.false places
     mid_tables tables c.load_in.ensures first second))
@@ -53,8 +53,8 @@ returns-clause-waits g c none =
     let mid_tables = keep (offset ∷ []) (to_le_bytes w16 (to_bits q.next_avail)) old mid first in
     let last_tables = keep (flags ∷ []) (to_le_bytes w16 (kick_flags q)) mid new second in
     let each = g.met.M.GuestMemory.each_fits c.args.mem.now in
-    let loads = λ (a : ℕ). c.loads_and_stores_are_by_bytes.ensures.loads m.regions (route m new.tables) a 2 permissions.Read
-    new.blocks each in
+    let loads = λ (a : ℕ). c.loads_and_stores_are_by_bytes.ensures.loads m.regions (route m new.tables) a 2
+    permissions.Read new.blocks each in
     let small : c.kick_flags.result < 2 ^ 16 = search rules in
     let there = window_stays m old mid q.device_area 2 flags mid_tables permissions.Write
     (kick_found m old q offset flags next places).1 in

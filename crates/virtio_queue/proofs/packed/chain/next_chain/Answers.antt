@@ -44,7 +44,8 @@ returns-in-Ok-clause-chain g c =
     (at ∙ ap (λ (xs : List Segment). xs ++ map segment_of front) start) in
     let (same, sound) = c.in-Ok.ensures in
     inl (ap (λ (n : ℕ). Ok (record { id = c.in_ok-last.last.id; slots = n }, c.in-Ok.chain)) count
-    ∙ ap (λ (xs : List Segment). Ok (buffer_of l, xs)) same ∙ sym (chain_found m host q l listed more ss there is sound))
+    ∙ ap (λ (xs : List Segment). Ok (buffer_of l, xs)) same
+    ∙ sym (chain_found m host q l listed more ss there is sound))
 
 pub returns-in-Err-clause-chain : goal.returns-in-Err-clause-chain
 returns-in-Err-clause-chain g c =

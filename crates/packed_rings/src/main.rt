@@ -1,0 +1,182 @@
+//! Pops chains of packed rings that a hostile driver might have written, and compares each answer with a slow reading
+//! of the same bytes, which is written apart. It prints how many rings ended in each way. Then it returns chains in
+//! every order of four, in rings of many sizes, and says of how many chains the driver learned.
+#![tactic(auto)]
+
+mod orders;
+mod rings;
+mod slow;
+
+use anyhow::{Context, bail};
+use rings::{BEGIN, Image, Numbers, SIZE, Setup};
+use slow::Outcome;
+use std::alloc::Global;
+use virtio_queue::{PackedBuffer, PackedQueue, QueueError};
+use vm_memory_base::GuestAddress;
+use vm_memory_device::ChainFault;
+use vm_memory_guest::{Bytes, GuestMemoryMmap, HostMemory};
+
+const RINGS: u64 = 1_000_000;
+
+// The ways in which a ring can end, by their names.
+const ENDS: [&str; 13] = [
+    "chain",
+    "chain not returned",
+    "none",
+    "DescriptorLoop",
+    "IndirectWithNext",
+    "InvalidIndirectTable",
+    "InvalidChain order",
+    "InvalidChain length",
+    "InvalidChain range",
+    "GuestMemory",
+    "AddressOverflow",
+    "Memory",
+    "other",
+];
+
+// The name of an error.
+fn name_of(error: &QueueError) -> &'static str {
+    match error {
+        QueueError::DescriptorLoop => "DescriptorLoop",
+        QueueError::IndirectWithNext => "IndirectWithNext",
+        QueueError::InvalidIndirectTable => "InvalidIndirectTable",
+        QueueError::InvalidChain(ChainFault::Order) => "InvalidChain order",
+        QueueError::InvalidChain(ChainFault::TooLong) => "InvalidChain length",
+        QueueError::InvalidChain(ChainFault::Range) => "InvalidChain range",
+        QueueError::GuestMemory(_) => "GuestMemory",
+        QueueError::AddressOverflow => "AddressOverflow",
+        QueueError::Memory => "Memory",
+        _ => "other",
+    }
+}
+
+// Whether the slot that is used next has these bytes after a chain was returned, or none of it could be written.
+fn is_returned(
+    memory: &GuestMemoryMmap,
+    host: &mut HostMemory<()>,
+    image: &Image,
+    setup: &Setup,
+    queue: &mut PackedQueue,
+    buffer: PackedBuffer,
+) -> anyhow::Result<&'static str> {
+    if !host.holds(memory) {
+        bail!("the host does not hold the memory");
+    }
+    let len = u32::from(buffer.id % 3);
+    // Chains that were popped before are returned first, as one.
+    let before = PackedBuffer {
+        id: 7,
+        slots: setup.out,
+    };
+    if setup.out > 0 && queue.add_used(memory, host, before, 1).is_err() {
+        return Ok("chain not returned");
+    }
+    if !host.holds(memory) || queue.add_used(memory, host, buffer, len).is_err() {
+        return Ok("chain not returned");
+    }
+    let state = queue.state();
+    if state.next_used != state.next_avail {
+        bail!("a slot is left");
+    }
+    let at = setup.ring.wrapping_add(16 * u64::from(setup.avail.slot));
+    let mut bytes = [0; 16];
+    if !host.holds(memory) {
+        bail!("the host does not hold the memory");
+    }
+    memory.read_slice(host, &mut bytes, GuestAddress(at))?;
+    let wanted = slow::used_bytes(image, at, buffer.id, setup.avail.wrap, len);
+    if bytes != wanted {
+        bail!("a used slot has other bytes");
+    }
+    Ok("chain")
+}
+
+// How a ring ends, if a queue and the slow reading agree.
+fn end_of(
+    alloc: Global,
+    memory: &GuestMemoryMmap,
+    host: &mut HostMemory<()>,
+    image: &Image,
+    setup: &Setup,
+) -> anyhow::Result<&'static str> {
+    let mut queue = setup.queue()?;
+    if !host.holds(memory) {
+        bail!("the host does not hold the memory");
+    }
+    let answer = queue.pop_descriptor_chain(alloc, memory, host);
+    let stands = queue.state().next_avail;
+    match (slow::popped(alloc, image, setup)?, answer) {
+        (Outcome::Nothing, Ok(None)) => {
+            if stands != setup.avail {
+                bail!("the device moved on with no chain");
+            }
+            Ok("none")
+        }
+        (Outcome::Refused(name), Err(error)) => {
+            if stands != setup.avail || name != name_of(&error) {
+                bail!("another refusal");
+            }
+            Ok(name)
+        }
+        (Outcome::Chain(id, slots, segments), Ok(Some((buffer, chain)))) => {
+            if stands != slow::steps(setup.size, setup.avail, slots) {
+                bail!("the device stands elsewhere");
+            }
+            if buffer != (PackedBuffer { id, slots }) || chain.segments() != segments.as_slice() {
+                bail!("another chain");
+            }
+            is_returned(memory, host, image, setup, &mut queue, buffer)
+        }
+        _ => bail!("the queue and the slow reading differ"),
+    }
+}
+
+// Puts the bytes of a ring into memory.
+fn put(host: &mut HostMemory<()>, memory: &GuestMemoryMmap, image: &Image) -> anyhow::Result<()> {
+    if !host.holds(memory) {
+        bail!("the host does not hold the memory");
+    }
+    memory.write_slice(host, image.as_slice(), GuestAddress(BEGIN))?;
+    Ok(())
+}
+
+// Counts how so many rings end.
+fn run(
+    alloc: Global,
+    host: &mut HostMemory<()>,
+    memory: &GuestMemoryMmap,
+    counts: &mut [u64; 13],
+) -> anyhow::Result<()> {
+    let mut numbers = Numbers::new(1);
+    let mut image = Image::new(alloc)?;
+    for _ in 0..RINGS {
+        let setup = rings::write(&mut numbers, &mut image);
+        put(host, memory, &image)?;
+        let end = end_of(alloc, memory, host, &image, &setup)?;
+        let place = ENDS.iter().position(|name| *name == end);
+        let place = place.context("each end has a name")?;
+        if let Some(count) = counts.get_mut(place) {
+            *count = count.wrapping_add(1);
+        }
+    }
+    Ok(())
+}
+
+fn main(rt: HostRuntime) -> anyhow::Result<()> {
+    let mut host = HostMemory::new(rt.alloc());
+    let ranges = [(GuestAddress(BEGIN), SIZE)];
+    let memory = GuestMemoryMmap::from_ranges(rt.alloc(), &mut host, &ranges)?;
+    let mut counts = [0; 13];
+    run(rt.alloc(), &mut host, &memory, &mut counts)?;
+    for (name, count) in ENDS.iter().zip(counts.iter()) {
+        println!(rt; "{name} {count}")?;
+    }
+    for size in orders::SIZES {
+        let count = orders::all(rt.alloc(), size)?;
+        println!(rt; "size {size}: {count} chains in every order")?;
+    }
+    let events = orders::events(rt.alloc())?;
+    println!(rt; "{events} events")?;
+    Ok(())
+}
