@@ -5,3 +5,4 @@ pub mod InvalidationLemmas
 pub mod TableLemmas
 pub mod MissLemmas
 pub mod ReplyLemmas
+pub mod TryLemmas

@@ -4,3 +4,4 @@ pub mod Invalidation
 pub mod Misses
 pub mod Reaches
 pub mod Replies
+pub mod Tries

@@ -1,14 +1,17 @@
 //! Accesses of guest memory that can be tried again.
-ghost use Rattle.std.specs.Prelude.{◌≡◌, ◌≤◌, length, map, vec_len};
+ghost use Rattle.std.specs.Prelude.{◌≡◌, ◌+◌, ◌<◌, ◌≤◌, ℕ, drop, length, map, take, vec_len, IfSome};
 ghost use Rattle.vm_memory_base.specs.Lookup.{range_in};
 ghost use Rattle.vm_memory_base.specs.Table.{says};
-ghost use Rattle.vm_memory_guest.specs.Host.{shape_of};
+ghost use Rattle.vm_memory_base.specs.declared.iotlb.Permissions.TheVariants.{Read, Write};
+ghost use Rattle.vm_memory_guest.specs.Host.{shape_of, Holds};
 ghost use Rattle.vhost_iotlb.specs.Reaches.{Reaches, first_of, front_of, stopped_at};
+ghost use Rattle.vhost_iotlb.specs.Tries.{AreAt, ComesTo, Fills, Puts, is_untranslated, said_by};
 
 use crate::request::{Outcome, Request};
 use vm_memory_base::{
     Bitmap, GuestAddress, IommuError, Iotlb, IovaRange, LookupError, Permissions,
 };
+use vm_memory_guest::laws::accesses::accesses_are_by_bytes;
 use vm_memory_guest::{Bytes, GuestMemory, GuestMemoryError, HostMemory, TlbId};
 
 /// How many bytes of an access from an address on a table allows, up to the first that it misses or forbids, and what
@@ -76,11 +79,99 @@ fn front_of(iova: u64, len: usize, outcome: Outcome) -> usize
 }
 
 // Whether an access was refused because its table does not allow all of it. Then no byte was moved.
-fn is_untranslated(error: &GuestMemoryError) -> bool {
+fn is_untranslated(error: &GuestMemoryError) -> bool
+    ensures { result ≡ is_untranslated error.now }
+{
     matches!(
         error,
         GuestMemoryError::IommuError(IommuError::CannotResolve { .. })
     )
+}
+
+// Where an access goes on of which so many bytes are done, if the host holds what it names.
+#[inline]
+fn next_place<M: GuestMemory, B: Bitmap>(
+    memory: &M,
+    host: &HostMemory<B>,
+    table: TlbId,
+    address: GuestAddress,
+    done: usize,
+) -> Option<u64>
+    ensures held { IfSome result (λ at. Holds (shape_of host.now) (M.names memory.now)) }
+    ensures there { IfSome result (λ at. table.0 < length host.now.tables) }
+    ensures place { IfSome result (λ at. at ≡ address.0 + done) }
+{
+    if !host.holds(memory) || !host.shape().has_table(table) {
+        return None;
+    }
+    address.0.checked_add(done as u64)
+}
+
+// Reads the bytes at an address, as far as a table lets it. It returns how many came, and what that comes to.
+#[inline]
+fn read_some<M: GuestMemory, B: Bitmap>(
+    memory: &M,
+    host: &HostMemory<B>,
+    table: TlbId,
+    at: u64,
+    bytes: &mut [u8],
+) -> (usize, Outcome)
+    requires held { Holds (shape_of host.now) (M.names memory.now) }
+    requires there { table.0 < length host.now.tables }
+    ensures read { AreAt (M.memory memory.now) host.now at (take result.0 bytes.new) }
+    ensures comes_to { ComesTo (said_by host.now table.0) at (length bytes.old) Read result.0 result.1 }
+    ensures most { result.0 ≤ length bytes.old }
+{
+    accesses_are_by_bytes::<()>();
+    let len = bytes.len();
+    // The access looks up by itself: how far it gets is asked only after a refusal.
+    let Err(error) = memory.read_slice(host, bytes, GuestAddress(at)) else {
+        return (len, Outcome::Done);
+    };
+    if !is_untranslated(&error) {
+        return (0, Outcome::Failed);
+    }
+    let (count, outcome) = reach(host.table(table), at, len, Permissions::Read);
+    if count == 0 {
+        return (0, outcome);
+    }
+    match memory.read_slice(host, &mut bytes[..count], GuestAddress(at)) {
+        Ok(()) => (count, outcome),
+        Err(_) => (0, Outcome::Failed),
+    }
+}
+
+// Writes bytes to an address, as far as a table lets it. It returns how many went there, and what that comes to.
+#[inline]
+fn write_some<M: GuestMemory, B: Bitmap>(
+    memory: &M,
+    host: &mut HostMemory<B>,
+    table: TlbId,
+    at: u64,
+    bytes: &[u8],
+) -> (usize, Outcome)
+    requires held { Holds (shape_of host.old) (M.names memory.now) }
+    requires there { table.0 < length host.old.tables }
+    ensures wrote { Puts B.marks (M.memory memory.now) table.0 at bytes.now result.0 result.1 host.old host.new }
+    ensures shape { shape_of host.new ≡ shape_of host.old }
+    ensures most { result.0 ≤ length bytes.now }
+{
+    accesses_are_by_bytes::<()>();
+    // The access looks up by itself: how far it gets is asked only after a refusal.
+    let Err(error) = memory.write_slice(host, bytes, GuestAddress(at)) else {
+        return (bytes.len(), Outcome::Done);
+    };
+    if !is_untranslated(&error) {
+        return (0, Outcome::Failed);
+    }
+    let (count, outcome) = reach(host.table(table), at, bytes.len(), Permissions::Write);
+    if count == 0 {
+        return (0, outcome);
+    }
+    match memory.write_slice(host, &bytes[..count], GuestAddress(at)) {
+        Ok(()) => (count, outcome),
+        Err(_) => (0, Outcome::Failed),
+    }
 }
 
 /// A read of guest memory behind a table, as far as its mappings go, and on from there at the next try.
@@ -126,39 +217,17 @@ impl<'a, M: GuestMemory> ReadBytes<'a, M> {
 impl<M: GuestMemory> Request for ReadBytes<'_, M> {
     ghost is_done = { λ r. r.done ≡ vec_len r.bytes };
 
-    ghost tries = { λ marks r outcome s old new. new ≡ old };
+    ghost tries = { λ marks r outcome s old new. (new ≡ old)
+        × (s.memory ≡ r.memory) × (s.table ≡ r.table) × (s.address ≡ r.address)
+        × Fills (M.memory r.memory.now) old r.table.0 r.address.0 r.bytes.items r.done outcome s.bytes.items s.done };
 
     fn attempt<B: Bitmap>(&mut self, host: &mut HostMemory<B>) -> Outcome {
-        if !host.holds(self.memory) || !host.shape().has_table(self.table) {
-            return Outcome::Failed;
-        }
-        let Some(at) = self.address.0.checked_add(self.done as u64) else {
+        let Some(at) = next_place(self.memory, host, self.table, self.address, self.done) else {
             return Outcome::Failed;
         };
         let rest = &mut self.bytes.as_mut_slice()[self.done..];
-        let left = rest.len();
-        // The access looks up by itself: how far it gets is asked only after a refusal.
-        let Err(error) = self.memory.read_slice(host, rest, GuestAddress(at)) else {
-            self.done = self.bytes.len();
-            return Outcome::Done;
-        };
-        if !is_untranslated(&error) {
-            return Outcome::Failed;
-        }
-        let (count, outcome) = reach(host.table(self.table), at, left, Permissions::Read);
-        if count == 0 {
-            return outcome;
-        }
-        let end = self.done + count;
-        let front = &mut self.bytes.as_mut_slice()[self.done..end];
-        if self
-            .memory
-            .read_slice(host, front, GuestAddress(at))
-            .is_err()
-        {
-            return Outcome::Failed;
-        }
-        self.done = end;
+        let (count, outcome) = read_some(self.memory, host, self.table, at, rest);
+        self.done += count;
         outcome
     }
 }
@@ -199,39 +268,19 @@ impl<'a, M: GuestMemory> WriteBytes<'a, M> {
 impl<M: GuestMemory> Request for WriteBytes<'_, M> {
     ghost is_done = { λ r. r.done ≡ length r.bytes.now };
 
-    ghost tries = { λ marks r outcome s old new. shape_of new ≡ shape_of old };
+    ghost tries = { λ marks r outcome s old new. (shape_of new ≡ shape_of old)
+        × (s.memory ≡ r.memory) × (s.table ≡ r.table) × (s.address ≡ r.address) × (s.bytes ≡ r.bytes)
+        × (count : ℕ) × (s.done ≡ r.done + count)
+        × Puts marks (M.memory r.memory.now) r.table.0 (r.address.0 + r.done) (drop r.done r.bytes.now) count outcome
+        old new };
 
     fn attempt<B: Bitmap>(&mut self, host: &mut HostMemory<B>) -> Outcome {
-        if !host.holds(self.memory) || !host.shape().has_table(self.table) {
-            return Outcome::Failed;
-        }
-        let Some(at) = self.address.0.checked_add(self.done as u64) else {
+        let Some(at) = next_place(self.memory, host, self.table, self.address, self.done) else {
             return Outcome::Failed;
         };
         let rest = &self.bytes[self.done..];
-        let left = rest.len();
-        // The access looks up by itself: how far it gets is asked only after a refusal.
-        let Err(error) = self.memory.write_slice(host, rest, GuestAddress(at)) else {
-            self.done = self.bytes.len();
-            return Outcome::Done;
-        };
-        if !is_untranslated(&error) {
-            return Outcome::Failed;
-        }
-        let (count, outcome) = reach(host.table(self.table), at, left, Permissions::Write);
-        if count == 0 {
-            return outcome;
-        }
-        let end = self.done + count;
-        let front = &self.bytes[self.done..end];
-        if self
-            .memory
-            .write_slice(host, front, GuestAddress(at))
-            .is_err()
-        {
-            return Outcome::Failed;
-        }
-        self.done = end;
+        let (count, outcome) = write_some(self.memory, host, self.table, at, rest);
+        self.done += count;
         outcome
     }
 }
