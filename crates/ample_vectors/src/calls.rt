@@ -8,7 +8,8 @@ use std::num::NonZeroUsize;
 use std::slice;
 use std::sync::{Arc, Wait};
 use std::test::Fail;
-use test_machines::{layout_of, write_of};
+use test_machines::{layout_of, machine_of, read_of, write_of};
+use test_regions::Place;
 use vm_memory::{
     BitmapId, BlockId, BlockRange, ByteList, Command, ExactBitmap, ExclusiveBitmap, GuestAddress,
     GuestMemoryRegion, GuestRegionMmap, HostMemory, Iommu, Journal, Machine, MmapRegion,
@@ -22,6 +23,9 @@ pub type TestMachine = Machine<GuestRegionMmap, TableIommu, ExclusiveBitmap>;
 const SIZE: usize = 5000;
 
 const ROUNDS: usize = 40;
+
+// How many mappings have a long look-up.
+const MAPPINGS: u64 = 5001;
 
 // Two regions of a block.
 fn regions_at(
@@ -46,7 +50,7 @@ fn regions_at(
 // A machine of one block, a space and a table, and nothing made yet.
 pub fn bare_machine(alloc: Global) -> Result<TestMachine, Fail> {
     let mut host = HostMemory::new(alloc);
-    let _ = host.new_space(ExclusiveBitmap::new(alloc, 0x8000, NonZeroUsize::MIN)?)?;
+    let _ = host.new_space(ExclusiveBitmap::new(alloc, 0x2_0000, NonZeroUsize::MIN)?)?;
     let _ = host.new_block_with(SIZE, ExclusiveBitmap::new(alloc, SIZE, NonZeroUsize::MIN)?)?;
     let _ = host.new_table()?;
     let regions = regions_at(alloc, &host, BlockId(0))?;
@@ -235,7 +239,55 @@ fn others() -> [Command; 8] {
     ]
 }
 
-// All commands of a round. In the first a write reaches all pages.
+// Commands with long replies: all bytes that a sink takes, the dirty pages of a long write, and what many mappings lead
+// to and leave out.
+fn push_long(alloc: Global, commands: &mut Vec<Command>) -> Result<(), AllocError> {
+    commands.push(Command::WriteTo {
+        memory: 0,
+        addr: GuestAddress(0),
+        count: SIZE,
+        sink: SinkList::from_vec(vec![in alloc; SinkStep::Take(SIZE)]?),
+    })?;
+    for number in 0..14u64 {
+        let iova = number.wrapping_mul(SIZE as u64).wrapping_add(0x8000);
+        commands.push(set_of(iova, 0, SIZE, Permissions::ReadWrite))?;
+    }
+    let bytes = ByteList::from_vec(vec![in alloc; 5u8; 14 * SIZE]?);
+    let addr = GuestAddress(0x8000);
+    commands.push(Command::WriteSlice {
+        memory: 1,
+        addr,
+        bytes,
+    })?;
+    commands.push(Command::Dirty(BitmapId::Space(0)))?;
+    for (first, step) in [(0x10_0000u64, 2u64), (0x20_0000, 1)] {
+        for number in 0..MAPPINGS {
+            let iova = number.wrapping_mul(step).wrapping_add(first);
+            commands.push(set_of(iova, number.wrapping_mul(2), 1, Permissions::Read))?;
+        }
+        for access in [Permissions::Read, Permissions::Write] {
+            commands.push(Command::Lookup {
+                table: 0,
+                iova: GuestAddress(first),
+                length: MAPPINGS.wrapping_mul(step) as usize,
+                access,
+            })?;
+        }
+    }
+    Ok(())
+}
+
+fn set_of(iova: u64, to: u64, length: usize, perm: Permissions) -> Command {
+    Command::Set {
+        table: 0,
+        iova: GuestAddress(iova),
+        map_to: GuestAddress(to),
+        length,
+        perm,
+    }
+}
+
+// All commands of a round. In the first a write reaches all pages, and replies are long.
 fn round_of(alloc: Global, round: usize) -> Result<Vec<Command>, AllocError> {
     let mut commands = Vec::new(alloc);
     commands.push(layout_of(alloc, &[0])?)?;
@@ -247,27 +299,29 @@ fn round_of(alloc: Global, round: usize) -> Result<Vec<Command>, AllocError> {
     push_transfers(alloc, &mut commands, byte)?;
     commands.append(&mut Vec::from_array(alloc, accesses())?)?;
     commands.append(&mut Vec::from_array(alloc, others())?)?;
+    if round == 0 {
+        push_long(alloc, &mut commands)?;
+    }
     Ok(commands)
 }
 
-// Calls each command of the rounds, and runs it on another machine. Fails where the answers differ.
+// Calls each command, and runs it on another machine. Fails where the answers differ.
 fn expect_called<W: Wait, R: GuestMemoryRegion, I: Iommu, B: ExactBitmap>(
     rt: &W,
     alloc: Global,
     shared: &SharedMachine<R, I, B>,
     machine: &mut Machine<R, I, B>,
+    commands: Vec<Command>,
     replies: &mut Vec<Reply>,
 ) -> Result<(), Fail> {
-    for round in 0..ROUNDS {
-        for command in round_of(alloc, round)? {
-            run(machine, slice::from_ref(&command), replies)?;
-            let wanted = replies.last().ok_or("there is no reply")?;
-            let wanted = format!(in alloc; "{} {wanted:?}", replies.len().saturating_sub(1))?;
-            let (number, reply) = shared.call(rt, command).map_err(|_| AllocError)?;
-            let told = format!(in alloc; "{number} {reply:?}")?;
-            if told != wanted {
-                return Err(Fail::new(format_args!("{told}, not {wanted}")));
-            }
+    for command in commands {
+        run(machine, slice::from_ref(&command), replies)?;
+        let wanted = replies.last().ok_or("there is no reply")?;
+        let wanted = format!(in alloc; "{} {wanted:?}", replies.len().saturating_sub(1))?;
+        let (number, reply) = shared.call(rt, command).map_err(|_| AllocError)?;
+        let told = format!(in alloc; "{number} {reply:?}")?;
+        if told != wanted {
+            return Err(Fail::new(format_args!("{told}, not {wanted}")));
         }
     }
     Ok(())
@@ -313,7 +367,92 @@ fn calls_are_answered_as_runs_are(rt: HostRuntime) -> Result<(), Fail> {
     let shared = SharedMachine::new(Journal::new(bare_machine(rt.alloc())?));
     let mut machine = bare_machine(rt.alloc())?;
     let mut replies = Vec::new(rt.alloc());
-    expect_called(&rt, rt.alloc(), &shared, &mut machine, &mut replies)?;
+    for round in 0..ROUNDS {
+        let commands = round_of(rt.alloc(), round)?;
+        expect_called(
+            &rt,
+            rt.alloc(),
+            &shared,
+            &mut machine,
+            commands,
+            &mut replies,
+        )?;
+    }
     assert!(rt; replies.len() > 1100);
     expect_entries(&rt, rt.alloc(), shared, replies.as_slice())
+}
+
+// Each command is the first of a journal, where it finds nothing made, and comes again in two rounds after that.
+#[test]
+fn the_first_entry_is_told_of_no_other(rt: HostRuntime) -> Result<(), Fail> {
+    for number in 0..1000usize {
+        let first: Vec<Command> = round_of(rt.alloc(), 1)?
+            .into_iter()
+            .skip(number)
+            .take(1)
+            .collect(rt.alloc())?;
+        if first.is_empty() {
+            assert!(rt; number > 25);
+            break;
+        }
+        let shared = SharedMachine::new(Journal::new(bare_machine(rt.alloc())?));
+        let mut machine = bare_machine(rt.alloc())?;
+        let mut replies = Vec::new(rt.alloc());
+        for commands in [first, round_of(rt.alloc(), 1)?, round_of(rt.alloc(), 2)?] {
+            expect_called(
+                &rt,
+                rt.alloc(),
+                &shared,
+                &mut machine,
+                commands,
+                &mut replies,
+            )?;
+        }
+    }
+    Ok(())
+}
+
+// Fails if a call of a long read of zeros, the last byte of which is 7, has another reply, or its entry has. Of very
+// long replies just the ends are compared.
+fn expect_long_read<W: Wait, R: GuestMemoryRegion, I: Iommu, B: ExactBitmap>(
+    rt: &W,
+    shared: &SharedMachine<R, I, B>,
+    command: Command,
+    len: usize,
+) -> Result<(), Fail> {
+    let (number, reply) = shared.call(rt, command).map_err(|_| AllocError)?;
+    for reply in [Some(reply), shared.fetch(rt, number)?] {
+        let Some(Reply::Bytes(bytes)) = reply else {
+            return Err(Fail::new("no bytes were read"));
+        };
+        let bytes = bytes.as_slice();
+        let (zeros, last) = bytes.split_at(len.min(bytes.len()));
+        let is_zero = zeros.iter().take(0x2_0000).all(|byte| *byte == 0);
+        if zeros.len() != len || last != [7].as_slice() || !is_zero {
+            return Err(Fail::new(format_args!("{} bytes are others", zeros.len())));
+        }
+    }
+    Ok(())
+}
+
+// The last byte of each memory, and how many are asked for.
+const LONG_READS: [(usize, usize); 4] = [
+    (0x1000, 0x1001),
+    (0x1_0000, 0x2_0000),
+    (0x10_0000, 0x10_0001),
+    (0x100_0000, 0x200_0000),
+];
+
+#[test]
+fn calls_have_room_for_long_replies(rt: HostRuntime) -> Result<(), Fail> {
+    for (last, count) in LONG_READS {
+        let machine = machine_of(rt.alloc(), &[Place::Block(0, last.saturating_add(1))])?;
+        let shared = SharedMachine::new(Journal::new(machine));
+        let write = write_of(rt.alloc(), 0, last as u64, &[7])?;
+        for command in [layout_of(rt.alloc(), &[0])?, Command::Plain(0), write] {
+            shared.call(&rt, command).map_err(|_| AllocError)?;
+        }
+        expect_long_read(&rt, &shared, read_of(0, 0, count), last)?;
+    }
+    Ok(())
 }

@@ -73,9 +73,11 @@ fn a_bad_line_ends_a_script_after_its_replies(rt: HostRuntime) -> Result<(), Fai
     Ok(())
 }
 
-// What fails, once.
+// What fails, once, or is interrupted.
 #[derive(Clone, Copy)]
 enum Failing {
+    /// The read after 13 bytes and each write are interrupted so many times in a row.
+    Interrupted(usize),
     /// A read, after this many bytes.
     Read(usize, io::ErrorKind),
     /// A write, after this many bytes were taken.
@@ -90,6 +92,8 @@ struct FailingReader<'a> {
     text: &'a [u8],
     at: usize,
     failing: Option<Failing>,
+    // How often in a row it was interrupted.
+    tries: usize,
 }
 
 impl<'a> Read for FailingReader<'a> {
@@ -99,6 +103,13 @@ impl<'a> Read for FailingReader<'a> {
                 self.failing = None;
                 return Err(io::Error::from(kind));
             }
+        }
+        if let Some(Failing::Interrupted(times)) = self.failing
+            && self.at == 13
+            && self.tries < times
+        {
+            self.tries = self.tries.saturating_add(1);
+            return Err(io::Error::from(io::ErrorKind::Interrupted));
         }
         match (self.text.get(self.at), buf.first_mut()) {
             (Some(byte), Some(place)) => {
@@ -116,6 +127,7 @@ impl<'a> Read for FailingReader<'a> {
 struct FailingWriter {
     taken: Vec<u8>,
     failing: Option<Failing>,
+    tries: usize,
 }
 
 impl Write for FailingWriter {
@@ -126,6 +138,13 @@ impl Write for FailingWriter {
                 return Err(io::Error::from(io::ErrorKind::Other));
             }
         }
+        if let Some(Failing::Interrupted(times)) = self.failing
+            && self.tries < times
+        {
+            self.tries = self.tries.saturating_add(1);
+            return Err(io::Error::from(io::ErrorKind::Interrupted));
+        }
+        self.tries = 0;
         let most = buf.len().min(3);
         self.taken.extend_from_slice(&buf[..most])?;
         Ok(most)
@@ -144,7 +163,7 @@ const TWO_BLOCKS: &[u8] = b"block 1 1\nblock 1 1\n";
 const AND_A_BAD_LINE: &[u8] = b"block 1 1\nblock 1 1\nblock 1\n";
 
 // What a script tells whose input or output fails. It has some lines so many times.
-const FAILURES: [(usize, &[u8], Failing, &str); 15] = [
+const FAILURES: [(usize, &[u8], Failing, &str); 20] = [
     // No reply comes before all of the input is read.
     (
         1,
@@ -176,6 +195,32 @@ const FAILURES: [(usize, &[u8], Failing, &str); 15] = [
         TWO_BLOCKS,
         Failing::Read(13, io::ErrorKind::Interrupted),
         "block 0\nblock 1\n",
+    ),
+    // However often it was.
+    (1, TWO_BLOCKS, Failing::Interrupted(1), "block 0\nblock 1\n"),
+    (
+        1,
+        TWO_BLOCKS,
+        Failing::Interrupted(64),
+        "block 0\nblock 1\n",
+    ),
+    (
+        1,
+        TWO_BLOCKS,
+        Failing::Interrupted(65),
+        "block 0\nblock 1\n",
+    ),
+    (
+        1,
+        TWO_BLOCKS,
+        Failing::Interrupted(100),
+        "block 0\nblock 1\n",
+    ),
+    (
+        1,
+        AND_A_BAD_LINE,
+        Failing::Interrupted(70_000),
+        "block 0\nblock 1\n1 line 3: bad line",
     ),
     (1, TWO_BLOCKS, Failing::Write(0), "2 write failed"),
     (1, TWO_BLOCKS, Failing::Write(9), "block 0\nb2 write failed"),
@@ -227,10 +272,12 @@ fn a_failed_read_or_write_ends_a_script(rt: HostRuntime) -> Result<(), Fail> {
             text: script.as_slice(),
             at: 0,
             failing: Some(*failing),
+            tries: 0,
         };
         let mut output = FailingWriter {
             taken: Vec::new(rt.alloc()),
             failing: Some(*failing),
+            tries: 0,
         };
         let outcome = drive(rt.alloc(), &mut input, &mut output);
         let FailingWriter { taken, .. } = output;

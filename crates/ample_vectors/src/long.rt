@@ -188,22 +188,24 @@ const LARGE_BLOCK: (Rows, Rows) = (
     ],
 );
 
-// Forty tables and forty memories.
-const FORTY: (Rows, Rows) = (
+// Many spaces, tables, translators, layouts and memories.
+const MANY_OF_EACH: (Rows, Rows) = (
     &[
         (1, &[Text("block 1 1\nregion 0 0\n")]),
-        (40, &[Text("table\n")]),
-        (40, &[Text("translator "), Number(1, 0), Text("\n")]),
-        (40, &[Text("layout 0\n")]),
-        (40, &[Text("plain "), Number(1, 0), Text("\n")]),
-        (1, &[Text("read 39 0 1\n")]),
+        (1100, &[Text("space 1 1\n")]),
+        (1100, &[Text("table\n")]),
+        (1100, &[Text("translator "), Number(1, 0), Text("\n")]),
+        (1100, &[Text("layout 0\n")]),
+        (1100, &[Text("plain "), Number(1, 0), Text("\n")]),
+        (1, &[Text("read 1099 0 1\n")]),
     ],
     &[
         (1, &[Text("block 0\nregion 0\n")]),
-        (40, &[Text("table "), Number(1, 0), Text("\n")]),
-        (40, &[Text("translator "), Number(1, 0), Text("\n")]),
-        (40, &[Text("layout "), Number(1, 0), Text("\n")]),
-        (40, &[Text("memory "), Number(1, 0), Text("\n")]),
+        (1100, &[Text("space "), Number(1, 0), Text("\n")]),
+        (1100, &[Text("table "), Number(1, 0), Text("\n")]),
+        (1100, &[Text("translator "), Number(1, 0), Text("\n")]),
+        (1100, &[Text("layout "), Number(1, 0), Text("\n")]),
+        (1100, &[Text("memory "), Number(1, 0), Text("\n")]),
         (1, &[Text("bytes 00\n")]),
     ],
 );
@@ -531,7 +533,7 @@ const LATE_LINE: (Rows, Rows) = (
 fn scripts_have_room_for_many_regions_and_long_lines(rt: HostRuntime) -> Result<(), Fail> {
     let scripts = [
         THOUSAND,
-        FORTY,
+        MANY_OF_EACH,
         MANY_REGIONS,
         LONG_REPLIES,
         LONG_LISTS,

@@ -2,12 +2,13 @@
 
 use std::alloc::Global;
 use std::num::NonZeroUsize;
+use std::sync::Wait;
 use std::test::Fail;
 use test_machines::machine_of;
 use test_regions::Place;
 use vm_memory::{
     Bitmap, BlockId, Command, ExactBitmap, ExclusiveBitmap, GuestMemoryRegion, GuestRegionMmap,
-    HostMemory, Iommu, Machine, Reply, TableIommu, run,
+    HostMemory, Iommu, Journal, Machine, Reply, SharedMachine, TableIommu, run,
 };
 
 type DirtyMachine = Machine<GuestRegionMmap, TableIommu, ExclusiveBitmap>;
@@ -38,32 +39,52 @@ fn expect_synced<R: GuestMemoryRegion, I: Iommu, B: ExactBitmap>(
 
 #[test]
 fn an_image_of_a_mebibyte_is_synced(rt: HostRuntime) -> Result<(), Fail> {
-    let mut image = vec![in rt.alloc(); 7u8; 0x10_0000]?;
+    let mut image = vec![in rt.alloc(); 7u8; 0x10_0001]?;
     let mut machine = dirty_machine(rt.alloc(), image.len())?;
     expect_synced(&mut machine, image.as_mut_slice())
 }
 
-// Fails where a run of so many commands on a machine that has no layout answers otherwise than that there is none.
+// Fails where a run of these commands on a machine that has no layout answers otherwise than that there is none.
 fn expect_answered<R: GuestMemoryRegion, I: Iommu, B: ExactBitmap>(
     alloc: Global,
     machine: &mut Machine<R, I, B>,
-    count: usize,
+    commands: &Vec<Command>,
 ) -> Result<(), Fail> {
-    let mut commands = Vec::new(alloc);
-    for _ in 0..count {
-        commands.push(Command::Plain(0))?;
-    }
     let mut replies = Vec::new(alloc);
     run(machine, commands.as_slice(), &mut replies)?;
     let none = replies.iter().all(|reply| matches!(reply, Reply::NoSuch));
-    if !none || replies.len() != count {
+    if !none || replies.len() != commands.len() {
         return Err(Fail::new(format_args!("{} replies", replies.len())));
     }
     Ok(())
 }
 
+// The same of a machine that is called with each command, and of its entries. Fails if they have other numbers.
+fn expect_called<W: Wait, R: GuestMemoryRegion, I: Iommu, B: ExactBitmap>(
+    rt: &W,
+    shared: &SharedMachine<R, I, B>,
+    commands: Vec<Command>,
+) -> Result<(), Fail> {
+    for (number, command) in commands.into_iter().enumerate() {
+        let called = shared.call(rt, command);
+        let is_next = matches!(called, Ok((entry, Reply::NoSuch)) if entry == number);
+        if !is_next || !matches!(shared.fetch(rt, number)?, Some(Reply::NoSuch)) {
+            return Err(Fail::new(format_args!("{called:?} is entry {number}")));
+        }
+    }
+    Ok(())
+}
+
 #[test]
-fn a_run_has_room_for_five_thousand_commands(rt: HostRuntime) -> Result<(), Fail> {
+fn runs_and_journals_have_room_for_many_commands(rt: HostRuntime) -> Result<(), Fail> {
+    let mut commands = Vec::new(rt.alloc());
+    for _ in 0..0x2_0001 {
+        commands.push(Command::Plain(0))?;
+    }
     let mut machine = machine_of(rt.alloc(), &[Place::Block(0, 1)])?;
-    expect_answered(rt.alloc(), &mut machine, 5000)
+    expect_answered(rt.alloc(), &mut machine, &commands)?;
+    let shared = SharedMachine::new(Journal::new(machine));
+    expect_called(&rt, &shared, commands)?;
+    assert!(rt; shared.into_journal().len() == 0x2_0001);
+    Ok(())
 }

@@ -1,4 +1,4 @@
-//! Layouts of a thousand regions.
+//! Layouts of a thousand regions, and of 70,000.
 
 use std::sync::Arc;
 use std::test::Fail;
@@ -57,18 +57,36 @@ fn a_layout_of_a_thousand_regions_is_searched_and_changed(rt: HostRuntime) -> Re
     Ok(())
 }
 
+// Whether a layout has so many regions of 0x10 addresses, one after the other from 0 on, and finds each by its last
+// address.
+fn has_each(layout: &GuestRegionCollection<TestRegion>, count: usize) -> bool {
+    let is_each = (0..count).all(|number| {
+        let start = (number as u64).wrapping_mul(0x10);
+        let found = layout.find_region(GuestAddress(start.wrapping_add(0xf)));
+        [layout.region_at(number), found]
+            .iter()
+            .all(|region| match region {
+                Some(region) => region.start_addr().0 == start && region.len() == 0x10,
+                None => false,
+            })
+    });
+    is_each && layout.num_regions() == count && layout.region_at(count).is_none()
+}
+
+// They are moved into a layout, and one of them is taken out and put in again.
 #[test]
-fn a_thousand_regions_are_moved_into_a_layout(rt: HostRuntime) -> Result<(), Fail> {
-    let all = (0..1000u64).filter_map(|number| TestRegion::bare(
+fn a_layout_of_many_regions_is_made_and_changed(rt: HostRuntime) -> Result<(), Fail> {
+    let all = (0..70_000u64).filter_map(|number| TestRegion::bare(
         GuestAddress(number.wrapping_mul(0x10)),
         0x10,
     ));
     let regions: Vec<TestRegion> = all.collect(rt.alloc())?;
     let layout = GuestRegionCollection::from_regions(rt.alloc(), regions)?;
-    let starts = (0..1000usize).map(|number| layout.region_at(number));
-    let is_each = starts.enumerate().all(|(number, region)| region.is_some_and(|region| {
-        region.start_addr().0 == (number as u64).wrapping_mul(0x10) && region.len() == 0x10
-    }));
-    assert!(rt; is_each && layout.num_regions() == 1000 && layout.last_addr().0 == 0x3e7f);
+    assert!(rt; has_each(&layout, 70_000) && layout.last_addr().0 == 0x11_16ff);
+    let (rest, region) = layout.remove_region(GuestAddress(0x10_0000), 0x10)?;
+    assert!(rt; rest.num_regions() == 69_999);
+    assert!(rt; rest.find_region(GuestAddress(0x10_0000)).is_none());
+    let again = rest.insert_region(region)?;
+    assert!(rt; has_each(&again, 70_000) && has_each(&layout.clone()?, 70_000));
     Ok(())
 }

@@ -189,6 +189,9 @@ fn number_of(layout: &GuestMemoryMmap) -> Option<u64> {
     }
 }
 
+// How often a thread looks at a flag before it replaces the next layout.
+const PAUSE: usize = 2000;
+
 // What threads tell each other: who has come, how many replacements were made, and that there will be no more.
 #[derive(Drop)]
 struct Progress {
@@ -197,7 +200,8 @@ struct Progress {
     is_over: AtomicBool,
 }
 
-// Replaces the layout by those of the numbers from 1 on, so many times, and tells each replacement that was made.
+// Replaces the layout by those of the numbers from 1 on, so many times, and tells each replacement that was made. Then
+// it waits for a moment, in which whoever missed the replacement can be found.
 fn replace_each<R: Wait>(
     rt: &R,
     alloc: Global,
@@ -212,6 +216,11 @@ fn replace_each<R: Wait>(
         let layout = numbered(alloc, &mut host, number)?;
         space.lock(rt).replace(rt, alloc, layout)?;
         progress.made.store(number, Ordering::SeqCst);
+        for _ in 0..PAUSE {
+            if progress.is_over.load(Ordering::SeqCst) {
+                break;
+            }
+        }
     }
     Ok(())
 }
@@ -251,28 +260,58 @@ fn asks_well<R: Wait>(rt: &R, mut reader: Reader, progress: &Progress) -> bool {
     lends_well(rt, &mut reader, progress)
 }
 
-// Whether three readers ask well at once.
+// Makes readers, a few at a time, until no more replacements are made. Whether each lends a layout no older than the
+// last whose replacement was told after the reader was made.
+fn makes_readers<R: Wait>(
+    rt: &R,
+    alloc: Global,
+    space: &Space,
+    progress: &Progress,
+) -> Result<bool, AllocError> {
+    meet(&progress.gate, 4);
+    for _ in 0..u64::MAX {
+        let is_over = progress.is_over.load(Ordering::SeqCst);
+        let mut readers = Vec::with_capacity(alloc, 8)?;
+        for _ in 0..8 {
+            readers.push(space.reader(rt)?)?;
+        }
+        let before = progress.made.load(Ordering::SeqCst);
+        for mut reader in readers {
+            match lent_number(rt, &mut reader) {
+                Some(number) if number >= before => {}
+                _ => return Ok(false),
+            }
+        }
+        if is_over {
+            break;
+        }
+    }
+    Ok(true)
+}
+
+// Whether a reader asks well, and two threads make readers, at once.
 fn three_ask_well<R: Sync + Threads + Wait>(
     rt: &R,
-    readers: [Reader; 3],
+    alloc: Global,
+    space: &Space,
+    reader: Reader,
     progress: &Progress,
-) -> [bool; 3] {
-    let [first, second, third] = readers;
+) -> Result<[bool; 3], AllocError> {
     let (one, (two, three)) = thread::join(
         rt,
-        || asks_well(rt, first, progress),
+        || asks_well(rt, reader, progress),
         || {
             thread::join(
                 rt,
-                || asks_well(rt, second, progress),
-                || asks_well(rt, third, progress),
+                || makes_readers(rt, alloc, space, progress),
+                || makes_readers(rt, alloc, space, progress),
             )
         },
     );
-    [one, two, three]
+    Ok([one, two?, three?])
 }
 
-// Whether three readers ask well while a thread replaces the layout so many times.
+// Whether three threads ask readers well while another replaces the layout so many times.
 fn ask_well_while_replaced<R: Sync + Threads + Wait>(
     rt: &R,
     alloc: Global,
@@ -285,7 +324,7 @@ fn ask_well_while_replaced<R: Sync + Threads + Wait>(
         made: AtomicU64::new(0),
         is_over: AtomicBool::new(false),
     };
-    let readers = [space.reader(rt)?, space.reader(rt)?, space.reader(rt)?];
+    let reader = space.reader(rt)?;
     let (replaced, asked) = thread::join(
         rt,
         || {
@@ -293,10 +332,10 @@ fn ask_well_while_replaced<R: Sync + Threads + Wait>(
             progress.is_over.store(true, Ordering::SeqCst);
             replaced
         },
-        || three_ask_well(rt, readers, &progress),
+        || three_ask_well(rt, alloc, space, reader, &progress),
     );
     replaced?;
-    Ok(asked)
+    asked
 }
 
 // Fails where a reader lends another layout than that of a number.
@@ -308,8 +347,8 @@ fn expect_last<R: Wait>(rt: &R, reader: &mut Reader, number: u64) -> Result<(), 
     Ok(())
 }
 
-/// Fails if one of three readers lends a layout in part or an older one after a newer one, or misses one of this many
-/// replacements that was made before its call.
+/// Fails if a reader lends a layout in part or an older one after a newer one, or misses one of this many replacements
+/// that was made before its call: one that is asked without end, and those that two threads make.
 pub fn expect_readers<R: Sync + Threads + Wait>(
     rt: &R,
     alloc: Global,

@@ -9,7 +9,7 @@ pub mod layouts;
 pub mod marks;
 pub mod tracked;
 
-pub use atomic::{expect_atomic, expect_cleared};
+pub use atomic::{expect_atomic, expect_cleared, expect_shared_words};
 pub use calls::{expect_calls, set_up};
 pub use layouts::{expect_added, expect_layouts, expect_readers};
 pub use marks::Marks;

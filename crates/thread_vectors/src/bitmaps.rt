@@ -1,7 +1,7 @@
 //! Bitmaps that threads mark while one harvests.
 
 use std::test::Fail;
-use test_threads::{Marks, expect_atomic, expect_cleared, expect_tracked};
+use test_threads::{Marks, expect_atomic, expect_cleared, expect_shared_words, expect_tracked};
 
 // How many rounds there are at least, and the pages of each. The last are two markers on the pages 0 to 63 and 32 to
 // 95. One round meets few of the moments in which a page can be lost, so there are many, and more until a harvest took
@@ -129,4 +129,9 @@ fn words_lose_no_page(rt: HostRuntime) -> Result<(), Fail> {
         );
     }
     Ok(())
+}
+
+#[test]
+fn words_that_two_threads_change_lose_no_page(rt: HostRuntime) -> Result<(), Fail> {
+    expect_shared_words(&rt, rt.alloc(), 100)
 }

@@ -10,7 +10,7 @@ fn snapshots_have_one_layout_or_the_other(rt: HostRuntime) -> Result<(), Fail> {
 
 #[test]
 fn readers_see_each_replacement_that_was_made_before(rt: HostRuntime) -> Result<(), Fail> {
-    expect_readers(&rt, rt.alloc(), 10_000)
+    expect_readers(&rt, rt.alloc(), 0x1_0000)
 }
 
 #[test]

@@ -18,7 +18,7 @@ use std::thread::Threads;
 use std::time::{Clock, Instant};
 use test_threads::{
     Marks, expect_added, expect_atomic, expect_calls, expect_cleared, expect_layouts,
-    expect_readers, expect_tracked,
+    expect_readers, expect_shared_words, expect_tracked,
 };
 
 const ABOUT: &str = "\
@@ -47,6 +47,7 @@ fn round<R: Sync + Threads + Wait>(rt: &R, alloc: Global, marks: &Marks) -> Resu
     let _taken = expect_tracked(rt, alloc, marks)?;
     let _taken = expect_atomic(rt, alloc, marks)?;
     expect_cleared(rt, alloc, marks)?;
+    expect_shared_words(rt, alloc, 5)?;
     expect_layouts(rt, alloc)?;
     expect_readers(rt, alloc, 2000)?;
     expect_added(rt, alloc)?;
