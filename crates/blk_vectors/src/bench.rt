@@ -4,7 +4,7 @@ use std::alloc::Global;
 use std::sync::Arc;
 use std::test::Fail;
 use virtio_blk::{BlockDevice, Disk, Served};
-use virtio_queue::{Descriptor, DriverQueue, Queue};
+use virtio_queue::{AnyQueue, Descriptor, DriverQueue};
 use vm_memory_base::{Bitmap, ExclusiveBitmap, GuestAddress, NewBitmap, Permissions};
 use vm_memory_device::{IommuMemory, MachineMemory, TableIommu};
 use vm_memory_guest::{Bytes, GuestMemory, GuestMemoryMmap, GuestRegionMmap, HostMemory, TlbId};
@@ -79,7 +79,7 @@ pub struct Bench<M: GuestMemory, B: Bitmap, D: Disk> {
     pub host: HostMemory<B>,
     pub memory: M,
     pub driver: DriverQueue,
-    pub queue: Queue,
+    pub queue: AnyQueue,
     pub device: BlockDevice<D>,
 }
 
@@ -93,7 +93,7 @@ pub fn make_bench<D: Disk>(
     let mut host = HostMemory::new(alloc);
     let memory = memory_of(alloc, &mut host, scattered)?;
     let driver = DriverQueue::new(GuestAddress(BEGIN), SIZE)?;
-    let queue = driver.queue()?;
+    let queue = AnyQueue::Split(driver.queue()?);
     let device = BlockDevice::new(alloc, disk, read_only, NAME)?;
     let mut bench = Bench {
         host,

@@ -14,6 +14,8 @@ mod kicks;
 #[cfg(test)]
 mod own_disk;
 #[cfg(test)]
+mod packed;
+#[cfg(test)]
 mod queues;
 #[cfg(test)]
 mod random;

@@ -6,7 +6,7 @@ use std::alloc::Global;
 use std::test::Fail;
 use test_text::expect_text;
 use virtio_blk::{BlockDevice, MemoryDisk};
-use virtio_queue::QueueField;
+use virtio_queue::{AnyQueue, QueueField};
 use vm_memory_base::{Bitmap, GuestAddress};
 use vm_memory_guest::GuestMemory;
 
@@ -134,7 +134,9 @@ fn fail<M: GuestMemory, B: Bitmap>(
     bench.queue.set_ready(false);
     kick_whole(bench, told)?;
     bench.queue.set_ready(true);
-    bench.queue.try_set_used_ring_address(GuestAddress(0x100))?;
+    if let AnyQueue::Split(queue) = &mut bench.queue {
+        queue.try_set_used_ring_address(GuestAddress(0x100))?;
+    }
     bench.put(HEADER, &header_of(1, 0))?;
     let parts = [(HEADER, 16, false), (DATA, 512, false), (STATUS, 1, true)];
     bench.publish(0, &parts)?;
@@ -185,10 +187,11 @@ fn return_past_the_table<M: GuestMemory, B: Bitmap>(
         if !bench.host.holds(&bench.memory) {
             return Err(Fail::new("the host does not hold the memory"));
         }
-        let answer = bench
-            .queue
-            .add_used(&bench.memory, &mut bench.host, head, 1);
-        write!(told, "{answer:?} {}; ", bench.queue.next_used())?;
+        let AnyQueue::Split(queue) = &mut bench.queue else {
+            return Err(Fail::new("the queue is packed"));
+        };
+        let answer = queue.add_used(&bench.memory, &mut bench.host, head, 1);
+        write!(told, "{answer:?} {}; ", queue.next_used())?;
     }
     if bench.get(alloc, BEGIN, 0x1000)?.as_slice() != before.as_slice() {
         return Err(Fail::new("the rings changed"));

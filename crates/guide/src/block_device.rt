@@ -3,7 +3,7 @@ ghost use Rattle.std.specs.Prelude.{◌≡◌};
 ghost use Rattle.vm_memory_guest.specs.Host.{shape_of, Holds};
 
 use virtio_blk::{BlockDevice, Disk};
-use virtio_queue::{Queue, QueueError};
+use virtio_queue::{AnyQueue, QueueError};
 use vm_memory::{Bitmap, GuestMemory, HostMemory};
 
 /// Serves what a driver has published, if the driver notified the device. `interrupt` is set if the driver is to be
@@ -11,7 +11,7 @@ use vm_memory::{Bitmap, GuestMemory, HostMemory};
 /// once more without a notification. After an error the device has to be reset.
 pub fn kicked<D: Disk, M: GuestMemory, B: Bitmap>(
     device: &mut BlockDevice<D>,
-    queue: &mut Queue,
+    queue: &mut AnyQueue,
     memory: &M,
     host: &mut HostMemory<B>,
     interrupt: &mut bool,

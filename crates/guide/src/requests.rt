@@ -6,7 +6,7 @@ use std::alloc::Global;
 use std::sync::Arc;
 use virtio_blk::{BlockDevice, Disk, MemoryDisk};
 use virtio_queue::{
-    Descriptor, DriverQueue, Queue, QueueField, VRING_DESC_F_NEXT, VRING_DESC_F_WRITE,
+    AnyQueue, Descriptor, DriverQueue, QueueField, VRING_DESC_F_NEXT, VRING_DESC_F_WRITE,
 };
 use vm_memory::{
     Bitmap, Bytes, Chain, ExclusiveBitmap, GuestAddress, GuestMemory, GuestMemoryMmap, HostMemory,
@@ -113,7 +113,7 @@ const SIZE: u16 = 16;
 #[derive(Drop)]
 struct Halves {
     driver: DriverQueue,
-    queue: Queue,
+    queue: AnyQueue,
 }
 
 // Puts the descriptors of the first request.
@@ -217,7 +217,7 @@ fn ask_all<D: Disk, M: GuestMemory, B: Bitmap>(
     device: &mut BlockDevice<D>,
 ) -> anyhow::Result<u32> {
     let driver = DriverQueue::new(GuestAddress(0x2000), SIZE)?;
-    let mut queue = driver.queue()?;
+    let mut queue = AnyQueue::Split(driver.queue()?);
     queue.set_event_idx(device.event_idx());
     let mut halves = Halves { driver, queue };
     describe(host, memory, &halves.driver)?;

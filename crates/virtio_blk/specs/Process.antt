@@ -4,12 +4,11 @@ use Rattle.std.specs.Option.{option_or}
 use Rattle.vm_memory_guest.specs.Host.{Host}
 use Rattle.vm_memory_guest.specs.Memory.{Memory}
 use Rattle.vm_memory_device.specs.declared.chain.Segment.{Segment}
-use Rattle.virtio_queue.specs.Available.{MayWantChain, after_pop, popped}
+use Rattle.virtio_queue.specs.Any.{AddsUsed, Enables, MayWantChain, MayWantNeeds, after_asked, after_used, needs_notification, past, popped}
 use Rattle.virtio_queue.specs.Fields.{Answers, Refuses}
-use Rattle.virtio_queue.specs.Notification.{EnablesIfReady, MayWantNeeds, after_asked, needs_notification}
-use Rattle.virtio_queue.specs.State.{Virtqueue, with_state}
-use Rattle.virtio_queue.specs.Used.{AddsUsed, after_used}
+use Rattle.virtio_queue.specs.declared.any.AnyQueue.{AnyQueue}
 use Rattle.virtio_queue.specs.declared.error.QueueError.{QueueError}
+use Rattle.virtio_queue.specs.declared.packed.state.PackedBuffer.{PackedBuffer}
 use Rattle.virtio_blk.specs.Config.{Device}
 use Rattle.virtio_blk.specs.Disk.{Call}
 use Rattle.virtio_blk.specs.Served.{Serves}
@@ -18,12 +17,8 @@ use Rattle.virtio_blk.specs.declared.device.process.Served.{Served}
 -- a device, its queue and the host
 pub record State (B D : Type 0) : Type 0 where
   pub device : Device D
-  pub queue : Virtqueue
+  pub queue : AnyQueue
   pub host : Host B
-
--- the queue after a chain was popped
-abbrev pub past : Virtqueue → ℕ → List Segment → Virtqueue
-past q head chain = with_state q (after_pop {X = ℕ × List Segment} q.state (Ok (Some (head, chain))))
 
 -- the result, or a value instead of an error
 abbrev pub or_value : Bool → Result Bool QueueError → Bool
@@ -37,22 +32,22 @@ error_in (Err e) = Some e
 
 module _ {B D : Type 0} (marks : B → ℕ → ℕ → B → Type 0) (bytes : D → Option (List ℕ)) (sectors : D → ℕ)
     (calls : D → Call → Bool → D → Type 0) (m : Memory) where
-  -- one chain was popped and served, and its head was returned, or that was refused
+  -- one chain was popped, served and returned, or that was refused
   pub record Turn (old : State B D) (answer : Result (Unit {0}) QueueError) (new : State B D) : Type 0 where
-    pub head : ℕ
+    pub buffer : PackedBuffer
     pub chain : List Segment
     pub len : ℕ
     pub mid : Host B
-    pub popped : popped m old.host old.queue.state ≡ Ok (Some (head, chain))
+    pub popped : popped m old.host old.queue ≡ Ok (Some (buffer, chain))
     pub served : Serves marks bytes sectors calls m chain old.device old.host len new.device mid
-    pub returned : AddsUsed marks m (past old.queue head chain).state head len mid answer new.host
-    pub queue : new.queue ≡ after_used (past old.queue head chain) answer
+    pub returned : AddsUsed marks m (past old.queue buffer) buffer len mid answer new.host
+    pub queue : new.queue ≡ after_used (past old.queue buffer) buffer answer
 
   -- there was no chain, and the driver was asked to notify the device of the next one. That was refused, or it is
   -- returned whether the driver had published more by then
   pub record Idles (old : State B D) (answer : Result Bool QueueError) (new : State B D) : Type 0 where
-    pub none : popped m old.host old.queue.state ≡ Ok None
-    pub asked : EnablesIfReady marks m old.queue.state old.host answer new.host
+    pub none : popped m old.host old.queue ≡ Ok None
+    pub asked : Enables marks m old.queue old.host answer new.host
     pub left : new ≡ record old { host = new.host }
 
   -- what comes before a turn: nothing, or there was no chain, and the driver had published more when it was asked to
@@ -69,8 +64,8 @@ module _ {B D : Type 0} (marks : B → ℕ → ℕ → B → Type 0) (bytes : D 
   -- no chain could be popped: there was none, or that was refused
   abbrev pub Stays : State B D → Result Bool QueueError → State B D → Type 0
   Stays old answer new = (new ≡ old) × MatchResult answer
-      (λ more. (more ≡ false) × (popped m old.host old.queue.state ≡ Ok None))
-      (Refuses (MayWantChain m old.host old.queue.state) (popped m old.host old.queue.state))
+      (λ more. (more ≡ false) × (popped m old.host old.queue ≡ Ok None))
+      (Refuses (MayWantChain m old.host old.queue) (popped m old.host old.queue))
 
   -- what comes of one try: a chain was popped, served and returned, or there was none, or the queue refused
   abbrev pub NextTurn : State B D → Result Bool QueueError → State B D → Type 0
@@ -78,8 +73,8 @@ module _ {B D : Type 0} (marks : B → ℕ → ℕ → B → Type 0) (bytes : D 
   NextTurn old (Ok false) new = Stays old (Ok false) new
   NextTurn old (Err e) new = Stays old (Err e) new ⊎ Turn old (Err e) new
 
-  -- how it ends: there is nothing left, and the device waits for the next head. Or the queue refused: to ask the driver
-  -- for that, to pop the next chain, or to return the last head
+  -- how it ends: there is nothing left, and the device waits for the next chain. Or the queue refused: to ask the driver
+  -- for that, to pop the next chain, or to return the last one
   abbrev pub Ends : State B D → Result Bool QueueError → State B D → Type 0
   Ends old (Ok true) new = ⊥
   Ends old (Ok false) new = Idles old (Ok false) new

@@ -1,3 +1,4 @@
+mod AnyLemmas
 mod ChainLemmas
 mod FieldLemmas
 mod HistoryLemmas

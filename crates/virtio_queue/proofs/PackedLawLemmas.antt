@@ -1,7 +1,8 @@
 -- Chains slot by slot, flags and positions.
-use Rattle.std.proofs.Common.{◌≡◌, ◌∙◌, ℕ, zero, suc, ◌+◌, ◌%◌, ◌<◌, nat_le, Bool, true, false, not, if◌then◌else◌, List, [], ◌∷◌, length, Result, Ok, Err, ap, refl, sym, subst, arith}
+use Rattle.std.proofs.Common.{◌≡◌, ◌∙◌, ℕ, zero, suc, ◌+◌, ◌-◌, ◌%◌, ◌<◌, ◌≤◌, nat_le, nat_lt, Bool, true, false, not, if◌then◌else◌, List, [], ◌∷◌, length, Result, Ok, Err, ap, refl, sym, subst, arith}
 use Rattle.std.proofs.lemmas.Bool.Decides.{nat_tests}
-use Rattle.virtio_queue.specs.Packed.{of_bits, slot_after, to_bits}
+use Rattle.virtio_queue.specs.Packed.{moved, of_bits, slot_after, to_bits}
+use Rattle.virtio_queue.specs.PackedEvents.{is_passed}
 use Rattle.virtio_queue.specs.PackedHistory.{has}
 use Rattle.virtio_queue.specs.PackedLaws.{AreInSlots}
 use Rattle.virtio_queue.specs.PackedRing.{Listed, is_last, listed, prefixed}
@@ -82,6 +83,18 @@ bits_come_back p small = go p.wrap p.slot small
         let s : (slot % 32768 + 0) % 32768 ≡ slot = omega arith in
         let n : nat_le 32768 (slot % 32768 + 0) ≡ false = grind (arith, nat_tests) in
         rw (s, n) refl
+
+-- a position is one of the slots from it on
+pub waiting_is_passed : (size n : ℕ) (p : RingPosition) → p.slot < size → 0 < n → n ≤ size
+    → is_passed size n (moved size p n) p ≡ true
+waiting_is_passed size n p inside some most = go p.wrap p.slot (nat_lt (p.slot + n) size) refl inside
+  where
+    go : (w : Bool) (slot : ℕ) (b : Bool) → nat_lt (slot + n) size ≡ b → slot < size
+        → is_passed size n (moved size (record { slot = slot; wrap = w }) n) (record { slot = slot; wrap = w }) ≡ true
+    go true slot true e h = rw e (grind (arith, nat_tests))
+    go true slot false e h = rw e (grind (arith, nat_tests))
+    go false slot true e h = rw e (grind (arith, nat_tests))
+    go false slot false e h = rw e (grind (arith, nat_tests))
 
 -- ---- flags
 

@@ -1,3 +1,4 @@
+pub mod Any
 pub mod Available
 pub mod ChainInside
 pub mod Descriptor

@@ -75,6 +75,10 @@ new_queue max_size = record { state = new_state max_size; added = Some 0 }
 abbrev pub with_state : PackedVirtqueue → PackedState → PackedVirtqueue
 with_state q state = record { state = state; added = q.added }
 
+-- a queue that pops its next chain at another place
+abbrev pub with_next_avail : PackedVirtqueue → RingPosition → PackedVirtqueue
+with_next_avail q next = with_state q (record q.state { next_avail = next })
+
 -- a queue of another size, and one that stands at other positions. Which slots were used before is not known then
 abbrev pub with_size : PackedVirtqueue → ℕ → PackedVirtqueue
 with_size q size = record {

@@ -1,6 +1,7 @@
 //! Virtqueues over guest memory, split and packed: what a device takes from a driver, and what it returns.
 #![tactic(auto)]
 
+mod any;
 mod chain;
 mod descriptor;
 mod driver;
@@ -13,6 +14,7 @@ pub mod packed_laws;
 mod queue;
 mod state;
 
+pub use any::AnyQueue;
 pub use descriptor::{Descriptor, VRING_DESC_F_INDIRECT, VRING_DESC_F_NEXT, VRING_DESC_F_WRITE};
 pub use driver::{DriverQueue, QueueField};
 pub use error::QueueError;

@@ -1,6 +1,6 @@
 //! Packed queues: their setup, and their state.
-ghost use Rattle.std.specs.Prelude.{◌≡◌, ◌%◌, ◌&&◌, ◌==◌, nat_le, if◌then◌else◌, None, Some, Ok, Err, IsTrue, MatchResult};
-ghost use Rattle.virtio_queue.specs.Packed.{at_base, base_of, is_packed_size, new_queue, new_state, set_if, state_error, with_size, with_state};
+ghost use Rattle.std.specs.Prelude.{◌≡◌, ◌%◌, ◌^◌, ◌<◌, ◌&&◌, ◌==◌, nat_le, if◌then◌else◌, None, Some, Ok, Err, IsTrue, MatchResult};
+ghost use Rattle.virtio_queue.specs.Packed.{are_positions, at_base, base_of, is_packed_size, new_queue, new_state, set_if, state_error, with_next_avail, with_size, with_state};
 
 mod available;
 mod chain;
@@ -239,11 +239,42 @@ impl PackedQueue {
         Ok(())
     }
 
+    /// Whether notifications may go by the offset of a descriptor.
+    #[inline]
+    pub fn event_idx_enabled(&self) -> bool
+        ensures { result ≡ self.now.state.event_idx_enabled }
+    {
+        self.state.event_idx_enabled
+    }
+
     /// Sets whether notifications may go by the offset of a descriptor.
     pub fn set_event_idx(&mut self, enabled: bool)
         ensures { self.new ≡ with_state self.old (record self.old.state { event_idx_enabled = enabled }) }
     {
         self.state.event_idx_enabled = enabled;
+    }
+
+    /// Where the next chain is popped.
+    #[inline]
+    pub fn next_avail(&self) -> RingPosition
+        ensures next { result ≡ self.now.state.next_avail }
+        ensures slot { result.slot < 2 ^ 15 }
+        ensures possible { let q = self.now.state in IsTrue (are_positions q.size result q.next_used) }
+    {
+        self.state.next_avail
+    }
+
+    /// Sets where the next chain is popped: with the place of one that was popped, that is the next one again.
+    /// `InvalidAvailRingIndex` if the slot is not in the ring, or more slots would be out than it has.
+    pub fn set_next_avail(&mut self, next_avail: RingPosition) -> Result<(), QueueError>
+        ensures { (result, self.new) ≡ set_if (are_positions self.old.state.size next_avail self.old.state.next_used)
+            QueueError.InvalidAvailRingIndex self.old (with_next_avail self.old next_avail) }
+    {
+        if !are_positions(self.state.size, next_avail, self.state.next_used) {
+            return Err(QueueError::InvalidAvailRingIndex);
+        }
+        self.state.next_avail = next_avail;
+        Ok(())
     }
 
     /// Both positions as vhost's messages carry them: in the low half where the next chain is popped, in the high half

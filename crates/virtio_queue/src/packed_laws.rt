@@ -1,6 +1,7 @@
 //! What becomes of the chains of a packed queue: each function here is a theorem, and does nothing.
-ghost use Rattle.std.specs.Prelude.{◌≡◌, ℕ, ◌<◌, ◌^◌, true, false, List, length, take, slice_get, Result, Ok};
-ghost use Rattle.virtio_queue.specs.Packed.{of_bits, to_bits};
+ghost use Rattle.std.specs.Prelude.{◌≡◌, ℕ, ◌<◌, ◌≤◌, ◌^◌, true, false, List, length, take, slice_get, Result, Ok};
+ghost use Rattle.virtio_queue.specs.Packed.{moved, of_bits, to_bits};
+ghost use Rattle.virtio_queue.specs.PackedEvents.{is_passed};
 ghost use Rattle.virtio_queue.specs.PackedHistory.{Cell, Event, AllMay, chain_to_pop, entry_to_take, first, is_available_cell, is_used_cell, story};
 ghost use Rattle.virtio_queue.specs.PackedLaws.{AreInSlots, Marks};
 ghost use Rattle.virtio_queue.specs.PackedRing.{Listed, is_available, is_last, is_used, listed};
@@ -42,6 +43,13 @@ pub fn packed_chains_and_entries_keep_their_order()
         × (chain_to_pop size s.ring ≡ slice_get s.published (length s.popped))
         × (s.taken ≡ take (length s.taken) s.returned)
         × (entry_to_take size s.ring ≡ slice_get s.returned (length s.taken)) }
+{}
+
+/// A driver that notifies its device by the rule of event suppression notifies one that waits. It goes on from the
+/// position that the device asks for: then this slot is among those that it makes available, however many.
+pub fn packed_waiting_devices_are_notified()
+    ensures { (size n : ℕ) (p : RingPosition) → p.slot < size → 0 < n → n ≤ size
+        → is_passed size n (moved size p n) p ≡ true }
 {}
 
 /// A position that is taken from its 16 bits again is the same.

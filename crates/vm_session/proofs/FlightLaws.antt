@@ -9,19 +9,21 @@ use Rattle.vm_memory_base.specs.Pages.{PageSet}
 use Rattle.vm_memory_guest.specs.Host.{Host}
 use Rattle.vm_memory_guest.specs.Memory.{Memory}
 use Rattle.vm_memory_device.specs.declared.chain.Segment.{Segment}
-use Rattle.virtio_queue.specs.Used.{AddsUsed}
+use Rattle.virtio_queue.specs.Any.{AddsUsed}
 use Rattle.virtio_queue.specs.declared.error.QueueError.{QueueError}
+use Rattle.virtio_queue.specs.declared.error.QueueError.TheVariants.{InvalidDescriptorIndex}
+use Rattle.virtio_queue.specs.declared.packed.state.PackedBuffer.{PackedBuffer}
 use Rattle.vm_session.specs.Kinds.{is_queue, is_work, kinds}
-use Rattle.vm_session.specs.QueueCodes.{answer_of_done, in_flight, no_such, not_in_flight, too_many}
+use Rattle.vm_session.specs.QueueCodes.{answer_of_done, answer_of_queue, in_flight, no_such, not_in_flight, too_many}
 use Rattle.vm_session.specs.Codes.{bad_call, coded, no_memory}
 use Rattle.vm_session.specs.Answers.{valued}
-use Rattle.vm_session.specs.Queues.{AnswersQueue, Completes, CompletesIf, Forgets, MakesQueue, OnBoth, OneQueue, OnQueue, Refuses, Returns, ReturnsIf, Works, WorksOn, after_popped, after_popped_if, after_returned, forgotten, marks_pages, refusal_of_chain, unfinished, unused}
+use Rattle.vm_session.specs.Queues.{AnswersQueue, Completes, CompletesIf, Forgets, KeepsQueue, MakesQueue, OnBoth, OneQueue, OnQueue, Refuses, Returns, ReturnsIf, Works, WorksOn, after_popped, after_popped_if, after_returned, forgotten, is_past, marks_pages, refusal_of_chain, unfinished, unused}
 use Rattle.vm_session.proofs.RetryLemmas.{readies_queues, told_as, told_done}
 use Rattle.vm_session.specs.Messages.{regions_in}
 use Rattle.vm_session.specs.Retries.{WholeSession, message_at}
 use Rattle.vm_session.specs.Run.{EndsFlight, EndsIf, Event, Exchange, HappenAll, Happens, calls, chain_at, ends_flight, writes}
 use Rattle.vm_session.specs.Session.{AnswersIf, AnswersOf, AnswersOther}
-use Rattle.vm_session.specs.SessionState.{DeviceQueue, SessionState, chain_of, descriptors_in}
+use Rattle.vm_session.specs.SessionState.{DeviceQueue, SessionState, buffer_of, chain_of, descriptors_in}
 use Rattle.vm_session.specs.declared.call.Answer.{Answer}
 use Rattle.vm_session.specs.declared.call.Call.{Call}
 use Rattle.vm_session.specs.declared.call.Kind.{Kind}
@@ -103,22 +105,24 @@ module _ (call : Call) (head : ℕ) (chain : List Segment) where
   one_keeps kind.Forget q out a q' out' h ends = forgets_keeps q a q' h.0 ends
   one_keeps k q out a q' out' h ends = absurd h
 
-  popped_keeps : (q : DeviceQueue) (other : ℕ) (more : List Segment) (o : Option Answer) (a : Answer)
-      (q' : DeviceQueue) → refusal_of_chain q other more ≡ o → (a, q') ≡ after_popped_if o q other more
+  popped_keeps : (q : DeviceQueue) (buffer : PackedBuffer) (more : List Segment) (o : Option Answer) (a : Answer)
+      (q' : DeviceQueue) → refusal_of_chain q buffer.id more ≡ o → (a, q') ≡ after_popped_if o q buffer more
       → Keeps q head chain q'
-  popped_keeps q other more (Some r) a q' is e = same_keeps q q' head chain (ap (λ (p : Answer × DeviceQueue). p.1) e)
-  popped_keeps q other more None a q' is e = λ here.
+  popped_keeps q buffer more (Some r) a q' is e = same_keeps q q' head chain (ap (λ (p : Answer × DeviceQueue). p.1) e)
+  popped_keeps q buffer more None a q' is e = λ here.
       ap (λ (p : Answer × DeviceQueue). chain_of p.1 head) e
-      ∙ put_keeps q.flight other head chain more (none (is_some (chain_of q other)) is) here
+      ∙ put_keeps q.flight buffer.id head chain more (none (is_past q buffer.id) (is_some (chain_of q buffer.id)) is)
+      here
     where
-      none : (b : Bool) → cond b (Some in_flight)
-          (cond (nat_lt q.most (descriptors_in q.flight + length more)) (Some too_many) None) ≡ None → b ≡ false
-      none true e = absurd (cc)
-      none false e = refl
+      none : (past b : Bool) → cond past (Some (answer_of_queue InvalidDescriptorIndex)) (cond b (Some in_flight)
+          (cond (nat_lt q.most (descriptors_in q.flight + length more)) (Some too_many) None)) ≡ None → b ≡ false
+      none true b e = absurd (cc)
+      none false true e = absurd (cc)
+      none false false e = refl
 
-  pops_keeps : (q : DeviceQueue) (r : Result (Option (ℕ × List Segment)) QueueError) (a : Answer) (q' : DeviceQueue)
-      → (a, q') ≡ after_popped q r → Keeps q head chain q'
-  pops_keeps q (Ok (Some p)) a q' e = popped_keeps q p.0 p.1 (refusal_of_chain q p.0 p.1) a q' refl e
+  pops_keeps : (q : DeviceQueue) (r : Result (Option (PackedBuffer × List Segment)) QueueError) (a : Answer)
+      (q' : DeviceQueue) → (a, q') ≡ after_popped q r → Keeps q head chain q'
+  pops_keeps q (Ok (Some p)) a q' e = popped_keeps q p.0 p.1 (refusal_of_chain q p.0.id p.1) a q' refl e
   pops_keeps q (Ok None) a q' e = same_keeps q q' head chain (ap (λ (p : Answer × DeviceQueue). p.1) e)
   pops_keeps q (Err x) a q' e = same_keeps q q' head chain (ap (λ (p : Answer × DeviceQueue). p.1) e)
 
@@ -136,8 +140,8 @@ module _ (call : Call) (head : ℕ) (chain : List Segment) where
     returns_keeps q old a q' new h ends = at (chain_of q call.third) h
       where
         at : (o : Option (List Segment)) → MatchOption o ((a ≡ not_in_flight) × (q' ≡ q) × (new ≡ old))
-            (λ c. (r : Result (Unit {0}) QueueError) × AddsUsed marks m q.queue.state call.third call.value old r new
-            × (a ≡ answer_of_done r) × (q' ≡ after_returned q call.third r)) → Keeps q head chain q'
+            (λ c. (r : Result (Unit {0}) QueueError)
+            × AddsUsed marks m q.queue (buffer_of q call.third) call.value old r new × (a ≡ answer_of_done r) × (q' ≡ after_returned q call.third r)) → Keeps q head chain q'
         at None k = same_keeps q q' head chain k.1
         at (Some c) k = returned_keeps q k.0 a q' k.2 k.3 ends
 
@@ -260,21 +264,22 @@ module _ (number head : ℕ) (chain : List Segment) where
             ∙ set_stays old.queues call.first q h.0 is
             (kept q h.0 (slice_get old.machine.memories call.second) h.1) here
 
-    makes_stays : MakesQueue old.queues call a new.queues → Stays number head chain old new
-    makes_stays (inl h) = made (h.1)
+    makes_stays : (is_packed : Bool) → MakesQueue is_packed old.queues call a new.queues
+        → Stays number head chain old new
+    makes_stays is_packed (inl h) = made h.1
       where
-        made : ((a ≡ valued (length old.queues))
-            × (new.queues ≡ old.queues ++ unused call.length call.other_length ∷ []))
-            ⊎ ((a ≡ no_memory) × (new.queues ≡ old.queues)) → Stays number head chain old new
+        made : KeepsQueue (unused is_packed call.length call.other_length) old.queues a new.queues
+            → Stays number head chain old new
         made (inl g) = λ here.
             ap (λ (qs : List DeviceQueue). option_and_then (λ q. chain_of q head) (slice_get qs number)) g.1
-            ∙ added_stays old.queues (unused call.length call.other_length ∷ []) here
+            ∙ added_stays old.queues (unused is_packed call.length call.other_length ∷ []) here
         made (inr g) = same_stays old new g.1
-    makes_stays (inr h) = same_stays old new h.2
+    makes_stays is_packed (inr h) = same_stays old new h.2
 
     alone_stays : (k' : Kind) → k' ≡ k → (input : List ℕ) → AnswersQueue k' old call input out a new out'
         → Stays number head chain old new
-    alone_stays kind.Queue is input h = makes_stays h.0
+    alone_stays kind.Queue is input h = makes_stays false h.0
+    alone_stays kind.PackedQueue is input h = makes_stays true h.0
     alone_stays k' is input h =
         queue_stays (subst (λ (x : Kind). OnQueue x old call out a new out') is h)
 

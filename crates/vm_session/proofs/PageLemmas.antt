@@ -12,19 +12,27 @@ use Rattle.vm_memory_guest.specs.Window.{Marks, MarksAll, MarksOne, MarksWindow,
 use Rattle.vm_memory_guest.specs.declared.region.error.GuestMemoryError.{GuestMemoryError}
 use Rattle.vm_memory_device.specs.Chain.{Entry, WritesText, text, writable}
 use Rattle.vm_memory_device.specs.declared.chain.Segment.{Segment}
+use Rattle.virtio_queue.specs.Any as any
 use Rattle.virtio_queue.specs.Fields.{StoresWord}
+use Rattle.virtio_queue.specs.Fields.{Answers as AnswersAs}
 use Rattle.virtio_queue.specs.Notification.{Disables, Enables, EnablesIfReady}
+use Rattle.virtio_queue.specs.PackedEvents as packed
+use Rattle.virtio_queue.specs.PackedUsed as packed_used
 use Rattle.virtio_queue.specs.Used.{AddsUsed}
+use Rattle.virtio_queue.specs.declared.any.AnyQueue.{AnyQueue}
+use Rattle.virtio_queue.specs.declared.any.AnyQueue.TheVariants.{Split, Packed}
 use Rattle.virtio_queue.specs.declared.error.QueueError.{QueueError}
 use Rattle.virtio_queue.specs.declared.error.QueueError.TheVariants as errors
+use Rattle.virtio_queue.specs.declared.packed.state.PackedBuffer.{PackedBuffer}
+use Rattle.virtio_queue.specs.declared.packed.state.PackedState.{PackedState}
 use Rattle.virtio_queue.specs.declared.state.QueueState.{QueueState}
 use Rattle.virtio_blk.specs.Steps.{Finishes, Told, gapless, status_fault}
 use Rattle.virtio_blk.specs.Texts.{WritesAt}
 use Rattle.virtio_blk.specs.declared.request.Terms.{Terms}
 use Rattle.vm_session.specs.Codes.{bad_call}
 use Rattle.vm_session.specs.QueueCodes.{answer_of_bytes, answer_of_done, answer_of_length, not_in_flight}
-use Rattle.vm_session.specs.Queues.{BeginsRequest, Completes, CompletesIf, FinishesIf, FinishesRequest, Returns, ReturnsIf, Works, WritesChain, after_returned, marks_pages, terms_of, unfinished}
-use Rattle.vm_session.specs.SessionState.{DeviceQueue, chain_of}
+use Rattle.vm_session.specs.Queues.{BeginsRequest, Completes, CompletesIf, FinishesIf, FinishesRequest, Returns, ReturnsIf, TellsAvail, TellsUsed, Works, WritesChain, after_returned, marks_pages, terms_of, unfinished}
+use Rattle.vm_session.specs.SessionState.{DeviceQueue, buffer_of, chain_of}
 use Rattle.vm_session.specs.declared.call.Answer.{Answer}
 use Rattle.vm_session.specs.declared.call.Call.{Call}
 use Rattle.vm_session.specs.declared.call.Kind.{Kind}
@@ -117,6 +125,87 @@ module _ {B : Type 0} (marks : B → ℕ → ℕ → B → Type 0) (pages : B �
         at true false h = stores_seen q.used_ring 0 1 old answer new h
         at false on h = (h.0, ap seen h.1)
 
+    -- the same of a packed queue
+    packed_adds : (q : PackedState) (buffer : PackedBuffer) (len : ℕ) (old : Host B)
+        (answer : Result (Unit {0}) QueueError) (new : Host B)
+        → packed_used.AddsUsed marks m q buffer len old answer new
+        → packed_used.AddsUsed marks_pages m q buffer len (seen old) answer (seen new)
+    packed_adds q buffer len old (Ok u) new h =
+        (seen h.0, (h.1.0, h.1.1, writes_seen _ _ old h.0 h.1.2), stores_seen _ _ _ h.0 (Ok tt) new h.2)
+    packed_adds q buffer len old (Err e) new h = (h.0, ap seen h.1)
+
+    packed_both : (q : PackedState) (old : Host B) (answer : Result Bool QueueError) (new : Host B)
+        → packed.Enables marks m q old answer new → packed.Enables marks_pages m q (seen old) answer (seen new)
+    packed_both q old (Ok more) new h =
+        (seen h.0, stores_seen _ _ _ old (Ok tt) h.0 h.1, stores_seen _ _ _ h.0 (Ok tt) new h.2, h.3)
+    packed_both q old (Err e) new h = (h.0, ap seen h.1)
+
+    packed_enables : (q : PackedState) (old : Host B) (answer : Result Bool QueueError) (new : Host B)
+        → packed.EnablesIfReady marks m q old answer new
+        → packed.EnablesIfReady marks_pages m q (seen old) answer (seen new)
+    packed_enables q old answer new h = at q.ready h
+      where
+        at : (b : Bool) → MatchBool b (packed.Enables marks m q old answer new)
+            ((answer ≡ Err errors.QueueNotReady) × (new ≡ old))
+            → MatchBool b (packed.Enables marks_pages m q (seen old) answer (seen new))
+            ((answer ≡ Err errors.QueueNotReady) × (seen new ≡ seen old))
+        at true h = packed_both q old answer new h
+        at false h = (h.0, ap seen h.1)
+
+    packed_disables : (q : PackedState) (old : Host B) (answer : Result (Unit {0}) QueueError) (new : Host B)
+        → packed.Disables marks m q old answer new → packed.Disables marks_pages m q (seen old) answer (seen new)
+    packed_disables q old answer new h = at q.ready h
+      where
+        at : (b : Bool) → MatchBool b (StoresWord marks m q.device_area 2 1 old answer new)
+            ((answer ≡ Err errors.QueueNotReady) × (new ≡ old))
+            → MatchBool b (StoresWord marks_pages m q.device_area 2 1 (seen old) answer (seen new))
+            ((answer ≡ Err errors.QueueNotReady) × (seen new ≡ seen old))
+        at true h = stores_seen q.device_area 2 1 old answer new h
+        at false h = (h.0, ap seen h.1)
+
+    -- and of a queue of either kind
+    any_pops : (q : AnyQueue) (host : Host B) (r : Result (Option (PackedBuffer × List Segment)) QueueError)
+        → AnswersAs (any.MayWantChain m host q) (any.popped m host q) r
+        → AnswersAs (any.MayWantChain m (seen host) q) (any.popped m (seen host) q) r
+    any_pops (Split q) host r h = h
+    any_pops (Packed q) host r h = h
+
+    any_valid : (q : AnyQueue) (host : Host B) (r : Result Bool QueueError)
+        → AnswersAs (any.MayWantValid m host q) (any.valid m host q) r
+        → AnswersAs (any.MayWantValid m (seen host) q) (any.valid m (seen host) q) r
+    any_valid (Split q) host r h = h
+    any_valid (Packed q) host r h = h
+
+    any_needs : (q : AnyQueue) (host : Host B) (r : Result Bool QueueError)
+        → AnswersAs (any.MayWantNeeds m host q) (any.needs_notification m host q) r
+        → AnswersAs (any.MayWantNeeds m (seen host) q) (any.needs_notification m (seen host) q) r
+    any_needs (Split q) host r h = h
+    any_needs (Packed q) host r h = h
+
+    any_avail : (q : AnyQueue) (host : Host B) (a : Answer) → TellsAvail m host q a → TellsAvail m (seen host) q a
+    any_avail (Split q) host a h = h
+    any_avail (Packed q) host a h = h
+
+    any_used : (q : AnyQueue) (host : Host B) (a : Answer) → TellsUsed m host q a → TellsUsed m (seen host) q a
+    any_used (Split q) host a h = h
+    any_used (Packed q) host a h = h
+
+    any_adds : (q : AnyQueue) (buffer : PackedBuffer) (len : ℕ) (old : Host B)
+        (answer : Result (Unit {0}) QueueError) (new : Host B) → any.AddsUsed marks m q buffer len old answer new
+        → any.AddsUsed marks_pages m q buffer len (seen old) answer (seen new)
+    any_adds (Split q) buffer len old answer new h = adds_seen q.state buffer.id len old answer new h
+    any_adds (Packed q) buffer len old answer new h = packed_adds q.state buffer len old answer new h
+
+    any_enables : (q : AnyQueue) (old : Host B) (answer : Result Bool QueueError) (new : Host B)
+        → any.Enables marks m q old answer new → any.Enables marks_pages m q (seen old) answer (seen new)
+    any_enables (Split q) old answer new h = enables_seen q.state old answer new h
+    any_enables (Packed q) old answer new h = packed_enables q.state old answer new h
+
+    any_disables : (q : AnyQueue) (old : Host B) (answer : Result (Unit {0}) QueueError) (new : Host B)
+        → any.Disables marks m q old answer new → any.Disables marks_pages m q (seen old) answer (seen new)
+    any_disables (Split q) old answer new h = disables_seen q.state old answer new h
+    any_disables (Packed q) old answer new h = packed_disables q.state old answer new h
+
     text_seen : (es : List Entry) (bytes : List ℕ) (old : Host B) (answer : Result ℕ GuestMemoryError)
         (left : List Entry) (new : Host B) → WritesText marks m es bytes old answer left new
         → WritesText marks_pages m es bytes (seen old) answer left (seen new)
@@ -144,13 +233,14 @@ module _ {B : Type 0} (marks : B → ℕ → ℕ → B → Type 0) (pages : B �
       where
         at : (o : Option (List Segment))
             → MatchOption o ((a ≡ not_in_flight) × (q' ≡ q) × (new ≡ old)) (λ chain.
-            (r : Result (Unit {0}) QueueError) × AddsUsed marks m q.queue.state head len old r new
+            (r : Result (Unit {0}) QueueError) × any.AddsUsed marks m q.queue (buffer_of q head) len old r new
             × (a ≡ answer_of_done r) × (q' ≡ after_returned q head r))
             → MatchOption o ((a ≡ not_in_flight) × (q' ≡ q) × (seen new ≡ seen old)) (λ chain.
-            (r : Result (Unit {0}) QueueError) × AddsUsed marks_pages m q.queue.state head len (seen old) r (seen new)
+            (r : Result (Unit {0}) QueueError)
+            × any.AddsUsed marks_pages m q.queue (buffer_of q head) len (seen old) r (seen new)
             × (a ≡ answer_of_done r) × (q' ≡ after_returned q head r))
         at None h = (h.0, h.1, ap seen h.2)
-        at (Some chain) h = (h.0, adds_seen q.queue.state head len old h.0 new h.1, h.2, h.3)
+        at (Some chain) h = (h.0, any_adds q.queue (buffer_of q head) len old h.0 new h.1, h.2, h.3)
 
     returns_if : (call : Call) (q : DeviceQueue) (old : Host B) (a : Answer) (q' : DeviceQueue) (new : Host B)
         → ReturnsIf marks m call q old a q' new → ReturnsIf marks_pages m call q (seen old) a q' (seen new)
@@ -263,21 +353,25 @@ module _ {B : Type 0} (marks : B → ℕ → ℕ → B → Type 0) (pages : B �
         (a : Answer) (q' : DeviceQueue) (new : Host B) (out' : List ℕ)
         → Works marks m k call input q old out a q' new out'
         → Works marks_pages m k call input q (seen old) out a q' (seen new) out'
-    work_seen kind.QueueIsValid call input q old out a q' new out' h = (h.0, h.1, ap seen h.2, h.3)
-    work_seen kind.AvailIdx call input q old out a q' new out' h = (h.0, h.1, ap seen h.2, h.3)
-    work_seen kind.UsedIdx call input q old out a q' new out' h = (h.0, h.1, ap seen h.2, h.3)
-    work_seen kind.Pop call input q old out a q' new out' h = (h.0, ap seen h.1, h.2)
+    work_seen kind.QueueIsValid call input q old out a q' new out' h =
+        ((h.0.0, any_valid q.queue old h.0.0 h.0.1, h.0.2), h.1, ap seen h.2, h.3)
+    work_seen kind.AvailIdx call input q old out a q' new out' h =
+        (any_avail q.queue old a h.0, h.1, ap seen h.2, h.3)
+    work_seen kind.UsedIdx call input q old out a q' new out' h = (any_used q.queue old a h.0, h.1, ap seen h.2, h.3)
+    work_seen kind.Pop call input q old out a q' new out' h =
+        ((h.0.0, any_pops q.queue old h.0.0 h.0.1, h.0.2), ap seen h.1, h.2)
     work_seen kind.ReadChain call input q old out a q' new out' h = (h.0, h.1, ap seen h.2)
     work_seen kind.WriteChain call input q old out a q' new out' h =
         (chain_seen q call.third call.address input old a new h.0, h.1, h.2)
     work_seen kind.AddUsed call input q old out a q' new out' h = (returns_if call q old a q' new h.0, h.1)
     work_seen kind.CompleteChain call input q old out a q' new out' h =
         (completes_if call input q old a q' new h.0, h.1)
-    work_seen kind.NeedsNotification call input q old out a q' new out' h = (h.0, ap seen h.1, h.2)
+    work_seen kind.NeedsNotification call input q old out a q' new out' h =
+        ((h.0.0, any_needs q.queue old h.0.0 h.0.1, h.0.2, h.0.3), ap seen h.1, h.2)
     work_seen kind.EnableNotification call input q old out a q' new out' h =
-        ((h.0.0, enables_seen q.queue.state old h.0.0 new h.0.1, h.0.2), h.1, h.2)
+        ((h.0.0, any_enables q.queue old h.0.0 new h.0.1, h.0.2), h.1, h.2)
     work_seen kind.DisableNotification call input q old out a q' new out' h =
-        ((h.0.0, disables_seen q.queue.state old h.0.0 new h.0.1, h.0.2), h.1, h.2)
+        ((h.0.0, any_disables q.queue old h.0.0 new h.0.1, h.0.2), h.1, h.2)
     work_seen kind.BeginRequest call input q old out a q' new out' h =
         (begins_seen q call.third (terms_of call) old a h.0, h.1, ap seen h.2, h.3)
     work_seen kind.FinishRequest call input q old out a q' new out' h = (finish_if call q old a new h.0, h.1, h.2)

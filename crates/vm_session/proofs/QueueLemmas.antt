@@ -1,15 +1,18 @@
 -- Chains that are read and written from an offset on, slots that are cleared, and chains that are returned.
-use Rattle.std.proofs.Common.{◌≡◌, ◌∙◌, ◌<◌, ◌+◌, ℕ, zero, suc, true, is_some, List, ◌∷◌, [], ◌++◌, length, drop, min, replicate, slice_set, Option, Some, None, MatchOption, Result, refl, ap, arith, add-one}
+use Rattle.std.proofs.Common.{◌≡◌, ◌∙◌, ◌<◌, ◌+◌, ℕ, zero, suc, true, is_some, List, ◌∷◌, [], ◌++◌, length, drop, min, replicate, slice_set, Option, Some, None, MatchOption, Result, Err, refl, ap, arith, add-one}
 use Rattle.std.proofs.lemmas.Bool.{false≢true}
 use Rattle.std.proofs.lemmas.List.{drop_min}
 use Rattle.vm_memory_guest.specs.Host.{Host}
 use Rattle.vm_memory_guest.specs.Memory.{Memory}
 use Rattle.vm_memory_device.specs.declared.chain.Segment.{Segment}
-use Rattle.virtio_queue.specs.Used.{AddsUsed}
+use Rattle.virtio_queue.specs.Any.{AddsUsed, after_used}
+use Rattle.virtio_queue.specs.declared.any.AnyQueue.{AnyQueue}
+use Rattle.virtio_queue.specs.declared.any.AnyQueue.TheVariants.{Split, Packed}
 use Rattle.virtio_queue.specs.declared.error.QueueError.{QueueError}
+use Rattle.virtio_queue.specs.declared.packed.state.PackedBuffer.{PackedBuffer}
 use Rattle.vm_session.specs.QueueCodes.{answer_of_done, not_in_flight}
 use Rattle.vm_session.specs.Queues.{Returns, after_returned}
-use Rattle.vm_session.specs.SessionState.{DeviceQueue, chain_of}
+use Rattle.vm_session.specs.SessionState.{DeviceQueue, buffer_of, chain_of}
 use Rattle.vm_session.specs.declared.call.Answer.{Answer}
 
 -- what is left of a text of which so many were skipped
@@ -30,16 +33,21 @@ pub cleared_more : {X : Type 0} → (x : X) (i : ℕ) (old flight : List X) → 
 cleared_more x i old flight h is =
     rw add-one (ap (λ (zs : List _). slice_set zs i x) is ∙ slots x i old h)
 
+-- a queue that refuses to return a chain is as it was
+pub not_used : (q : AnyQueue) (buffer : PackedBuffer) (e : QueueError) → after_used q buffer (Err e) ≡ q
+not_used (Split q) buffer e = refl
+not_used (Packed q) buffer e = refl
+
 -- a chain that is in flight was returned, or that was refused
 pub returned : {B : Type 0} (marks : B → ℕ → ℕ → B → Type 0) (m : Memory) (q : DeviceQueue) (head len : ℕ)
     (old : Host B) (a : Answer) (q' : DeviceQueue) (new : Host B) (r : Result (Unit {0}) QueueError)
-    → is_some (chain_of q head) ≡ true → AddsUsed marks m q.queue.state head len old r new → a ≡ answer_of_done r
+    → is_some (chain_of q head) ≡ true → AddsUsed marks m q.queue (buffer_of q head) len old r new → a ≡ answer_of_done r
     → q' ≡ after_returned q head r → Returns marks m q head len old a q' new
 returned marks m q head len old a q' new r there adds told is = at (chain_of q head) there
   where
     at : (o : Option (List Segment)) → is_some o ≡ true
         → MatchOption o ((a ≡ not_in_flight) × (q' ≡ q) × (new ≡ old)) (λ chain.
-        (r : Result (Unit {0}) QueueError) × AddsUsed marks m q.queue.state head len old r new
+        (r : Result (Unit {0}) QueueError) × AddsUsed marks m q.queue (buffer_of q head) len old r new
         × (a ≡ answer_of_done r) × (q' ≡ after_returned q head r))
     at None h = absurd (false≢true h)
     at (Some chain) h = (r, adds, told, is)

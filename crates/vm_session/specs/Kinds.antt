@@ -21,7 +21,7 @@ kinds = kind.Block ∷ kind.Space ∷ kind.Table ∷ kind.LimitedTable ∷ kind.
     ∷ kind.Queue ∷ kind.SetQueue ∷ kind.ResetQueue ∷ kind.QueueState ∷ kind.Forget
     ∷ kind.QueueIsValid ∷ kind.AvailIdx ∷ kind.UsedIdx ∷ kind.Pop ∷ kind.ReadChain ∷ kind.WriteChain ∷ kind.AddUsed
     ∷ kind.NeedsNotification ∷ kind.EnableNotification ∷ kind.DisableNotification
-    ∷ kind.BeginRequest ∷ kind.FinishRequest ∷ kind.IotlbMessage ∷ kind.CompleteChain ∷ []
+    ∷ kind.BeginRequest ∷ kind.FinishRequest ∷ kind.IotlbMessage ∷ kind.CompleteChain ∷ kind.PackedQueue ∷ []
 
 -- an access by its number
 abbrev pub access_at : ℕ → Option Permissions
@@ -60,6 +60,7 @@ part_at n =
     else if n == 5 then Some part.EventIdx
     else if n == 6 then Some part.NextAvail
     else if n == 7 then Some part.NextUsed
+    else if n == 8 then Some part.VringBase
     else None
 
 -- whether a call of a kind is one on queues alone, or on a queue and a memory
@@ -69,6 +70,7 @@ is_queue kind.SetQueue = true
 is_queue kind.ResetQueue = true
 is_queue kind.QueueState = true
 is_queue kind.Forget = true
+is_queue kind.PackedQueue = true
 is_queue k = false
 
 -- whether it is one on a queue that there is

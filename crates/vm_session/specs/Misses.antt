@@ -1,9 +1,11 @@
 -- What an access misses in a table, as it is reported with the refusal of a call.
-use Rattle.std.specs.Prelude.{◌≡◌, ◌==◌, ◌||◌, ◌+◌, ℕ, Bool, nat_lt, if◌then◌else◌, List, [], ◌∷◌, Option, Some, None, option_map, slice_get, MatchBool, MatchOption}
+use Rattle.std.specs.Prelude.{◌≡◌, ◌==◌, ◌||◌, ◌+◌, ◌*◌, ℕ, Bool, nat_lt, if◌then◌else◌, List, [], ◌∷◌, Option, Some, None, option_map, slice_get, MatchBool, MatchOption}
 use Rattle.vm_memory_base.specs.Table.{Range}
 use Rattle.vm_memory_base.specs.declared.iotlb.Permissions.{Permissions}
 use Rattle.vm_memory_base.specs.declared.iotlb.Permissions.TheVariants as permissions
 use Rattle.vm_memory_guest.specs.Memory.{Memory}
+use Rattle.virtio_queue.specs.declared.any.AnyQueue.{AnyQueue}
+use Rattle.virtio_queue.specs.declared.any.AnyQueue.TheVariants.{Split, Packed}
 use Rattle.vm_memory.specs.Machine.{Step}
 use Rattle.vm_memory.specs.Memories.{table_of}
 use Rattle.vm_memory.specs.State.{State}
@@ -23,10 +25,14 @@ use Rattle.vm_session.specs.declared.call.Miss.{Miss}
 abbrev pub is_untranslated : Answer → Bool
 is_untranslated a = (a.code == 42) || ((a.code == 43) || (a.code == 53))
 
--- how an address is accessed to be notified: the driver's index is read, and what says when to notify is written
+-- where a queue is read that is to be notified: the driver's index, or the flags of the next slot
+abbrev pub next_word : AnyQueue → ℕ
+next_word (Split q) = q.state.avail_ring + 2
+next_word (Packed q) = q.state.desc_ring + (16 * q.state.next_avail.slot + 14)
+
+-- how an address is accessed to be notified: that is read, and what says when to notify is written
 abbrev pub notified : SessionState → ℕ → ℕ → Option Permissions
-notified s queue a = option_map
-    (λ q. if a == q.queue.state.avail_ring + 2 then permissions.Read else permissions.Write)
+notified s queue a = option_map (λ q. if a == next_word q.queue then permissions.Read else permissions.Write)
     (slice_get s.queues queue)
 
 -- how a call of a kind accesses an address of its memory

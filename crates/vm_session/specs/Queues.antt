@@ -7,13 +7,19 @@ use Rattle.vm_memory_guest.specs.Memory.{Memory}
 use Rattle.vm_memory_guest.specs.declared.region.error.GuestMemoryError.{GuestMemoryError}
 use Rattle.vm_memory_device.specs.Chain.{Entry, ReadsText, WritesText, readable, text, writable}
 use Rattle.vm_memory_device.specs.declared.chain.Segment.{Segment}
-use Rattle.virtio_queue.specs.Available.{MayWantChain, MayWantIdx, after_pop, avail_idx, popped}
+use Rattle.virtio_queue.specs.Any.{AddsUsed, Disables, Enables, MayWantChain, MayWantNeeds, MayWantValid, after_asked, after_used, max_size_of, needs_notification, past, popped, unset, valid}
+use Rattle.virtio_queue.specs.Available.{MayWantIdx, avail_idx}
 use Rattle.virtio_queue.specs.Fields.{Answers as AnswersAs}
-use Rattle.virtio_queue.specs.Notification.{Disables, EnablesIfReady, MayWantNeeds, after_asked, needs_notification}
+use Rattle.virtio_queue.specs.Packed as packed
+use Rattle.virtio_queue.specs.Packed.{PackedVirtqueue}
 use Rattle.virtio_queue.specs.State.{Virtqueue, is_size, new_queue, set_if, with_state}
-use Rattle.virtio_queue.specs.Used.{AddsUsed, MayWantUsedIdx, MayWantValid, after_used, used_idx, valid}
+use Rattle.virtio_queue.specs.Used.{MayWantUsedIdx, used_idx}
+use Rattle.virtio_queue.specs.declared.any.AnyQueue.{AnyQueue}
+use Rattle.virtio_queue.specs.declared.any.AnyQueue.TheVariants.{Split, Packed}
 use Rattle.virtio_queue.specs.declared.error.QueueError.{QueueError}
 use Rattle.virtio_queue.specs.declared.error.QueueError.TheVariants as errors
+use Rattle.virtio_queue.specs.declared.packed.state.PackedBuffer.{PackedBuffer}
+use Rattle.virtio_queue.specs.declared.packed.state.PackedState.{PackedState}
 use Rattle.virtio_queue.specs.declared.state.QueueState.{QueueState}
 use Rattle.virtio_blk.specs.Steps.{Begins, Finishes}
 use Rattle.virtio_blk.specs.declared.request.Request.{Request}
@@ -24,7 +30,7 @@ use Rattle.vm_session.specs.Answers.{answer_of_fault, number_of_truth, valued}
 use Rattle.vm_session.specs.Codes.{bad_call, coded, no_memory, short_of}
 use Rattle.vm_session.specs.Kinds.{part_at, read_only_at, switch_at}
 use Rattle.vm_session.specs.QueueCodes.{answer_of_begun, answer_of_bytes, answer_of_done, answer_of_length, answer_of_number, answer_of_queue, answer_of_truth, in_flight, no_chain, no_such, not_in_flight, popped_as, too_many}
-use Rattle.vm_session.specs.SessionState.{DeviceQueue, SessionState, chain_of, descriptors_in}
+use Rattle.vm_session.specs.SessionState.{DeviceQueue, SessionState, buffer_of, chain_of, descriptors_in}
 use Rattle.vm_session.specs.declared.call.Answer.{Answer}
 use Rattle.vm_session.specs.declared.call.Call.{Call}
 use Rattle.vm_session.specs.declared.call.Kind.{Kind}
@@ -34,24 +40,43 @@ use Rattle.vm_session.specs.declared.call.QueuePart.TheVariants as part
 
 -- ---- setup
 
--- a queue of N entries that nobody has set up, with nothing in flight
-abbrev pub unused : ℕ → ℕ → DeviceQueue
-unused size most = record { queue = new_queue size; most = most; flight = replicate size None }
+-- the greatest sizes of a packed queue, and of a split one
+abbrev pub is_max_size : Bool → ℕ → Bool
+is_max_size true n = nat_lt n (2 ^ 16) && packed.is_packed_size n
+is_max_size false n = nat_lt n (2 ^ 16) && is_size n
 
--- a queue is made, or refused
-abbrev pub MakesQueue : List DeviceQueue → Call → Answer → List DeviceQueue → Type 0
-MakesQueue old call a new =
-    ((nat_lt call.length (2 ^ 16) && is_size call.length ≡ true)
-    × (((a ≡ valued (length old)) × (new ≡ old ++ unused call.length call.other_length ∷ []))
-    ⊎ ((a ≡ no_memory) × (new ≡ old))))
-    ⊎ ((nat_lt call.length (2 ^ 16) && is_size call.length ≡ false) × (a ≡ answer_of_queue errors.InvalidMaxSize)
-    × (new ≡ old))
+-- a queue of N entries that nobody has set up, with nothing in flight
+abbrev pub new_any : Bool → ℕ → AnyQueue
+new_any true size = Packed (packed.new_queue size)
+new_any false size = Split (new_queue size)
+
+abbrev pub with_none : AnyQueue → ℕ → DeviceQueue
+with_none q most = record {
+  queue = q;
+  most = most;
+  flight = replicate (max_size_of q) None;
+  slots = replicate (max_size_of q) 0;
+}
+
+abbrev pub unused : Bool → ℕ → ℕ → DeviceQueue
+unused is_packed size most = with_none (new_any is_packed size) most
+
+-- a queue is kept, or there is no memory for it
+abbrev pub KeepsQueue : DeviceQueue → List DeviceQueue → Answer → List DeviceQueue → Type 0
+KeepsQueue q old a new = ((a ≡ valued (length old)) × (new ≡ old ++ q ∷ [])) ⊎ ((a ≡ no_memory) × (new ≡ old))
+
+-- a queue is made, packed or split, or refused
+abbrev pub MakesQueue : Bool → List DeviceQueue → Call → Answer → List DeviceQueue → Type 0
+MakesQueue is_packed old call a new =
+    ((is_max_size is_packed call.length ≡ true)
+    × KeepsQueue (unused is_packed call.length call.other_length) old a new)
+    ⊎ ((is_max_size is_packed call.length ≡ false) × (a ≡ answer_of_queue errors.InvalidMaxSize) × (new ≡ old))
 
 -- a number of 16 bits
 abbrev pub word : ℕ → Option ℕ
 word n = if nat_lt n (2 ^ 16) then Some n else None
 
--- a part of a queue is set to a number, if it can be one
+-- a part of a split queue is set to a number, if it has the part and that can be this number
 abbrev pub set_part : QueuePart → ℕ → Virtqueue → Option (Result (Unit {0}) QueueError × Virtqueue)
 set_part part.Size n q = option_map (λ size. set_if (is_size size && nat_le size q.state.max_size)
     errors.InvalidSize q (record q.state { size = size })) (word n)
@@ -69,8 +94,29 @@ set_part part.NextAvail n q =
     option_map (λ next. (Ok tt, with_state q (record q.state { next_avail = next }))) (word n)
 set_part part.NextUsed n q = option_map (λ next.
     (Ok tt, record { state = record q.state { next_used = next }; added = None })) (word n)
+set_part part.VringBase n q = None
 
-abbrev pub SetsIf : Option (Result (Unit {0}) QueueError × Virtqueue) → Virtqueue → Answer → Virtqueue → Type 0
+-- and one of a packed queue, whose two positions are set together
+abbrev pub set_packed_part : QueuePart → ℕ → PackedVirtqueue
+    → Option (Result (Unit {0}) QueueError × PackedVirtqueue)
+set_packed_part part.Size n q =
+    option_map (λ size. packed.set_if (packed.is_packed_size size && nat_le size q.state.max_size)
+    errors.InvalidSize q (packed.with_size q size)) (word n)
+set_packed_part part.DescTable n q = Some (packed.set_if (n % 16 == 0) errors.InvalidDescTableAlign q
+    (packed.with_state q (record q.state { desc_ring = n })))
+set_packed_part part.AvailRing n q = Some (packed.set_if (n % 4 == 0) errors.InvalidAvailRingAlign q
+    (packed.with_state q (record q.state { driver_area = n })))
+set_packed_part part.UsedRing n q = Some (packed.set_if (n % 4 == 0) errors.InvalidUsedRingAlign q
+    (packed.with_state q (record q.state { device_area = n })))
+set_packed_part part.Ready n q =
+    option_map (λ ready. (Ok tt, packed.with_state q (record q.state { ready = ready }))) (switch_at n)
+set_packed_part part.EventIdx n q =
+    option_map (λ on. (Ok tt, packed.with_state q (record q.state { event_idx_enabled = on }))) (switch_at n)
+set_packed_part part.NextAvail n q = None
+set_packed_part part.NextUsed n q = None
+set_packed_part part.VringBase n q = if nat_lt n (2 ^ 32) then Some (packed.at_base q n) else None
+
+abbrev pub SetsIf : {Q : Type 0} → Option (Result (Unit {0}) QueueError × Q) → Q → Answer → Q → Type 0
 SetsIf None old a new = (a ≡ bad_call) × (new ≡ old)
 SetsIf (Some r) old a new = (a ≡ answer_of_done r.0) × (new ≡ r.1)
 
@@ -79,50 +125,74 @@ abbrev pub SetsPart : Option QueuePart → ℕ → Virtqueue → Answer → Virt
 SetsPart None n old a new = (a ≡ bad_call) × (new ≡ old)
 SetsPart (Some p) n old a new = SetsIf (set_part p n old) old a new
 
--- the numbers of a state
+abbrev pub SetsPackedPart : Option QueuePart → ℕ → PackedVirtqueue → Answer → PackedVirtqueue → Type 0
+SetsPackedPart None n old a new = (a ≡ bad_call) × (new ≡ old)
+SetsPackedPart (Some p) n old a new = SetsIf (set_packed_part p n old) old a new
+
+abbrev pub SetsAnyPart : Option QueuePart → ℕ → AnyQueue → Answer → AnyQueue → Type 0
+SetsAnyPart p n (Split old) a new = (q : Virtqueue) × SetsPart p n old a q × (new ≡ Split q)
+SetsAnyPart p n (Packed old) a new = (q : PackedVirtqueue) × SetsPackedPart p n old a q × (new ≡ Packed q)
+
+-- the numbers of a state, which are a packed queue's in the same places
 abbrev pub state_numbers : QueueState → List ℕ
 state_numbers s = s.max_size ∷ s.size ∷ number_of_truth s.ready ∷ s.desc_table ∷ s.avail_ring ∷ s.used_ring
     ∷ s.next_avail ∷ s.next_used ∷ number_of_truth s.event_idx_enabled ∷ []
 
-abbrev pub ListsState : QueueState → List ℕ → Answer → List ℕ → Type 0
-ListsState s out a out' = ((length out < 72) × (a ≡ short_of 72) × (out' ≡ out))
+abbrev pub packed_numbers : PackedState → List ℕ
+packed_numbers s = s.max_size ∷ s.size ∷ number_of_truth s.ready ∷ s.desc_ring ∷ s.driver_area ∷ s.device_area
+    ∷ packed.to_bits s.next_avail ∷ packed.to_bits s.next_used ∷ number_of_truth s.event_idx_enabled ∷ []
+
+abbrev pub numbers_of : AnyQueue → List ℕ
+numbers_of (Split q) = state_numbers q.state
+numbers_of (Packed q) = packed_numbers q.state
+
+abbrev pub ListsNine : List ℕ → List ℕ → Answer → List ℕ → Type 0
+ListsNine numbers out a out' = ((length out < 72) × (a ≡ short_of 72) × (out' ≡ out))
     ⊎ ((a ≡ record { code = 0; count = 9; value = 0; address = 0 })
-    × (out' ≡ flat_map (to_le_bytes w64) (state_numbers s) ++ drop 72 out))
+    × (out' ≡ flat_map (to_le_bytes w64) numbers ++ drop 72 out))
+
+abbrev pub ListsState : AnyQueue → List ℕ → Answer → List ℕ → Type 0
+ListsState q out a out' = ListsNine (numbers_of q) out a out'
 
 -- ---- chains
 
--- a queue whose next chain was taken
-abbrev pub moved_on : Virtqueue → Virtqueue
-moved_on q = with_state q (after_pop {X = ℕ} q.state (Ok (Some 0)))
+-- the id of a chain of a packed queue, which a driver may choose, is not below the queue's greatest size
+abbrev pub is_past : DeviceQueue → ℕ → Bool
+is_past q head = is_packed q.queue && nat_le (length q.flight) head
+  where
+    is_packed : AnyQueue → Bool
+    is_packed (Split v) = false
+    is_packed (Packed v) = true
 
--- why a chain cannot be in flight: its head is, or there would be too many descriptors
+-- why a chain cannot be in flight: its id is too great, its head is in flight, or there would be too many descriptors
 abbrev pub refusal_of_chain : DeviceQueue → ℕ → List Segment → Option Answer
-refusal_of_chain q head chain = if is_some (chain_of q head) then Some in_flight
+refusal_of_chain q head chain = if is_past q head then Some (answer_of_queue errors.InvalidDescriptorIndex)
+    else if is_some (chain_of q head) then Some in_flight
     else if nat_lt q.most (descriptors_in q.flight + length chain) then Some too_many
     else None
 
 -- a queue with a chain more in flight
-abbrev pub with_chain : DeviceQueue → ℕ → List Segment → DeviceQueue
-with_chain q head chain = record q { flight = slice_set q.flight head (Some chain) }
+abbrev pub with_chain : DeviceQueue → PackedBuffer → List Segment → DeviceQueue
+with_chain q buffer chain = record q {
+  flight = slice_set q.flight buffer.id (Some chain);
+  slots = slice_set q.slots buffer.id buffer.slots;
+}
 
 -- a chain that was popped is in flight. One that cannot be stays the next one
-abbrev pub after_popped_if : Option Answer → DeviceQueue → ℕ → List Segment → Answer × DeviceQueue
-after_popped_if None q head chain =
-    (popped_as head chain, with_chain (record q { queue = moved_on q.queue }) head chain)
-after_popped_if (Some a) q head chain = (a, q)
+abbrev pub after_popped_if : Option Answer → DeviceQueue → PackedBuffer → List Segment → Answer × DeviceQueue
+after_popped_if None q buffer chain =
+    (popped_as buffer.id chain, with_chain (record q { queue = past q.queue buffer }) buffer chain)
+after_popped_if (Some a) q buffer chain = (a, q)
 
-abbrev pub after_popped : DeviceQueue → Result (Option (ℕ × List Segment)) QueueError → Answer × DeviceQueue
-after_popped q (Ok (Some p)) = after_popped_if (refusal_of_chain q p.0 p.1) q p.0 p.1
+abbrev pub after_popped : DeviceQueue → Result (Option (PackedBuffer × List Segment)) QueueError
+    → Answer × DeviceQueue
+after_popped q (Ok (Some p)) = after_popped_if (refusal_of_chain q p.0.id p.1) q p.0 p.1
 after_popped q (Ok None) = (no_chain, q)
 after_popped q (Err e) = (answer_of_queue e, q)
 
 -- a queue that is made what it was: nobody has set it up, and nothing is in flight
 abbrev pub cleared : DeviceQueue → DeviceQueue
-cleared q = record {
-  queue = new_queue q.queue.state.max_size;
-  most = q.most;
-  flight = replicate (length q.flight) None;
-}
+cleared q = record q { queue = unset q.queue; flight = replicate (length q.flight) None }
 
 -- a queue without the chain of a head
 abbrev pub forgotten : DeviceQueue → ℕ → DeviceQueue
@@ -134,18 +204,16 @@ Forgets old head a new = MatchOption (chain_of old head) ((a ≡ not_in_flight) 
 
 -- what a chain's return leaves: it is no more in flight
 abbrev pub after_returned : DeviceQueue → ℕ → Result (Unit {0}) QueueError → DeviceQueue
-after_returned q head (Ok u) = record {
-  queue = after_used q.queue (Ok u);
-  most = q.most;
+after_returned q head (Ok u) = record q {
+  queue = after_used q.queue (buffer_of q head) (Ok u);
   flight = slice_set q.flight head None;
 }
 after_returned q head (Err e) = q
 
 module _ {B : Type 0} (m : Memory) (host : Host B) where
   abbrev pub Pops : DeviceQueue → Answer → DeviceQueue → Type 0
-  Pops old a new = (r : Result (Option (ℕ × List Segment)) QueueError)
-      × AnswersAs (MayWantChain m host old.queue.state) (popped m host old.queue.state) r
-      × ((a, new) ≡ after_popped old r)
+  Pops old a new = (r : Result (Option (PackedBuffer × List Segment)) QueueError)
+      × AnswersAs (MayWantChain m host old.queue) (popped m host old.queue) r × ((a, new) ≡ after_popped old r)
 
   -- the readable bytes of a chain in flight, from an offset on, come to a buffer
   abbrev pub ReadsChain : DeviceQueue → ℕ → ℕ → List ℕ → Answer → List ℕ → Type 0
@@ -160,15 +228,18 @@ module _ {B : Type 0} (m : Memory) (host : Host B) where
 
   abbrev pub TellsValid : DeviceQueue → Answer → Type 0
   TellsValid q a = (r : Result Bool QueueError)
-      × AnswersAs (MayWantValid m host q.queue.state) (valid m host q.queue.state) r × (a ≡ answer_of_truth r)
+      × AnswersAs (MayWantValid m host q.queue) (valid m host q.queue) r × (a ≡ answer_of_truth r)
 
-  abbrev pub TellsAvail : DeviceQueue → Answer → Type 0
-  TellsAvail q a = (r : Result ℕ QueueError)
-      × AnswersAs (MayWantIdx m host q.queue.state) (avail_idx m host q.queue.state) r × (a ≡ answer_of_number r)
+  -- a packed queue has no such indices
+  abbrev pub TellsAvail : AnyQueue → Answer → Type 0
+  TellsAvail (Split q) a = (r : Result ℕ QueueError)
+      × AnswersAs (MayWantIdx m host q.state) (avail_idx m host q.state) r × (a ≡ answer_of_number r)
+  TellsAvail (Packed q) a = a ≡ bad_call
 
-  abbrev pub TellsUsed : DeviceQueue → Answer → Type 0
-  TellsUsed q a = (r : Result ℕ QueueError)
-      × AnswersAs (MayWantUsedIdx m host q.queue.state) (used_idx m host q.queue.state) r × (a ≡ answer_of_number r)
+  abbrev pub TellsUsed : AnyQueue → Answer → Type 0
+  TellsUsed (Split q) a = (r : Result ℕ QueueError)
+      × AnswersAs (MayWantUsedIdx m host q.state) (used_idx m host q.state) r × (a ≡ answer_of_number r)
+  TellsUsed (Packed q) a = a ≡ bad_call
 
 -- what a request is held against
 abbrev pub terms_of : Call → Option Terms
@@ -199,15 +270,15 @@ module _ {B : Type 0} (marks : B → ℕ → ℕ → B → Type 0) (m : Memory) 
   -- a chain in flight is returned, with how many bytes were written to it
   abbrev pub Returns : DeviceQueue → ℕ → ℕ → Host B → Answer → DeviceQueue → Host B → Type 0
   Returns q head len old a q' new = MatchOption (chain_of q head) ((a ≡ not_in_flight) × (q' ≡ q) × (new ≡ old))
-      (λ chain. (r : Result (Unit {0}) QueueError) × AddsUsed marks m q.queue.state head len old r new
+      (λ chain. (r : Result (Unit {0}) QueueError) × AddsUsed marks m q.queue (buffer_of q head) len old r new
       × (a ≡ answer_of_done r) × (q' ≡ after_returned q head r))
 
   abbrev pub AsksToNotify : DeviceQueue → Host B → Answer → Host B → Type 0
-  AsksToNotify q old a new = (r : Result Bool QueueError) × EnablesIfReady marks m q.queue.state old r new
+  AsksToNotify q old a new = (r : Result Bool QueueError) × Enables marks m q.queue old r new
       × (a ≡ answer_of_truth r)
 
   abbrev pub AsksNotToNotify : DeviceQueue → Host B → Answer → Host B → Type 0
-  AsksNotToNotify q old a new = (r : Result (Unit {0}) QueueError) × Disables marks m q.queue.state old r new
+  AsksNotToNotify q old a new = (r : Result (Unit {0}) QueueError) × Disables marks m q.queue old r new
       × (a ≡ answer_of_done r)
 
 -- ---- calls on a queue and a memory
@@ -252,9 +323,9 @@ module _ {B : Type 0} (marks : B → ℕ → ℕ → B → Type 0) (m : Memory) 
   Works kind.QueueIsValid call input q host out a q' host' out' =
       TellsValid m host q a × (q' ≡ q) × (host' ≡ host) × (out' ≡ out)
   Works kind.AvailIdx call input q host out a q' host' out' =
-      TellsAvail m host q a × (q' ≡ q) × (host' ≡ host) × (out' ≡ out)
+      TellsAvail m host q.queue a × (q' ≡ q) × (host' ≡ host) × (out' ≡ out)
   Works kind.UsedIdx call input q host out a q' host' out' =
-      TellsUsed m host q a × (q' ≡ q) × (host' ≡ host) × (out' ≡ out)
+      TellsUsed m host q.queue a × (q' ≡ q) × (host' ≡ host) × (out' ≡ out)
   Works kind.Pop call input q host out a q' host' out' = Pops m host q a q' × (host' ≡ host) × (out' ≡ out)
   Works kind.ReadChain call input q host out a q' host' out' =
       ReadsInto m call q host out a out' × (q' ≡ q) × (host' ≡ host)
@@ -295,10 +366,10 @@ Refuses told old out a new out' = (a ≡ told) × (new ≡ old) × (out' ≡ out
 
 -- what a call of a kind does with a queue alone
 abbrev pub OneQueue : Kind → Call → DeviceQueue → List ℕ → Answer → DeviceQueue → List ℕ → Type 0
-OneQueue kind.SetQueue call q out a q' out' = SetsPart (part_at call.second) call.value q.queue a q'.queue
+OneQueue kind.SetQueue call q out a q' out' = SetsAnyPart (part_at call.second) call.value q.queue a q'.queue
     × (q' ≡ record q { queue = q'.queue }) × (out' ≡ out)
 OneQueue kind.ResetQueue call q out a q' out' = (a ≡ coded 0) × (q' ≡ cleared q) × (out' ≡ out)
-OneQueue kind.QueueState call q out a q' out' = ListsState q.queue.state out a out' × (q' ≡ q)
+OneQueue kind.QueueState call q out a q' out' = ListsState q.queue out a out' × (q' ≡ q)
 OneQueue kind.Forget call q out a q' out' = Forgets q call.third a q' × (out' ≡ out)
 OneQueue k call q out a q' out' = ⊥
 
@@ -317,6 +388,8 @@ OnBoth k old call input out a new out' = MatchOption (slice_get old.queues call.
 
 -- what is answered to a call on queues alone
 abbrev pub AnswersQueue : Kind → SessionState → Call → List ℕ → List ℕ → Answer → SessionState → List ℕ → Type 0
-AnswersQueue kind.Queue old call input out a new out' = MakesQueue old.queues call a new.queues
+AnswersQueue kind.Queue old call input out a new out' = MakesQueue false old.queues call a new.queues
+    × (new ≡ record { machine = old.machine; queues = new.queues }) × (out' ≡ out)
+AnswersQueue kind.PackedQueue old call input out a new out' = MakesQueue true old.queues call a new.queues
     × (new ≡ record { machine = old.machine; queues = new.queues }) × (out' ≡ out)
 AnswersQueue k old call input out a new out' = OnQueue k old call out a new out'

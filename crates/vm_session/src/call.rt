@@ -139,7 +139,8 @@ pub enum Kind {
     SetQueue,
     /// Resets the queue `first` to what it was when it was made. None of its chains is in flight then.
     ResetQueue,
-    /// The state of the queue `first`, as a list of nine numbers in the order of the fields of `QueueState`.
+    /// The state of the queue `first`, as a list of nine numbers in the order of the fields of `QueueState`, or of
+    /// `PackedState`. A position of a packed queue is its slot, with its wrap counter in bit 15.
     QueueState,
     /// Drops the chain in flight of the head `third` of the queue `first`, without returning it.
     Forget,
@@ -184,6 +185,8 @@ pub enum Kind {
     /// `third`, from the offset `address` of its writable bytes on, and returns it to the driver with `value` bytes
     /// written. A chain that did not take all of the input stays in flight: the answer says why, or how many bytes it took.
     CompleteChain,
+    /// Makes a packed queue of at most `length` entries, as `Queue` makes a split one. The calls on a queue are for both.
+    PackedQueue,
 }
 
 /// A part of a queue that a transport sets as the driver asks.
@@ -191,11 +194,11 @@ pub enum Kind {
 pub enum QueuePart {
     /// The number of entries.
     Size,
-    /// The address of the table of descriptors.
+    /// The address of the table of descriptors, or of the ring of a packed queue.
     DescTable,
-    /// The address of the available ring.
+    /// The address of the available ring, or of the driver's area of a packed queue.
     AvailRing,
-    /// The address of the used ring.
+    /// The address of the used ring, or of the device's area of a packed queue.
     UsedRing,
     /// Whether the driver has enabled the queue: 1 or 0.
     Ready,
@@ -205,6 +208,9 @@ pub enum QueuePart {
     NextAvail,
     /// Which entry of the used ring is written next.
     NextUsed,
+    /// Both positions of a packed queue, as `PackedQueue::vring_base` gives them. It has no part `NextAvail` or
+    /// `NextUsed`, and a split queue does not have this one.
+    VringBase,
 }
 
 impl Kind {
@@ -238,7 +244,12 @@ impl Kind {
     {
         matches!(
             self,
-            Kind::Queue | Kind::SetQueue | Kind::ResetQueue | Kind::QueueState | Kind::Forget
+            Kind::Queue
+                | Kind::SetQueue
+                | Kind::ResetQueue
+                | Kind::QueueState
+                | Kind::Forget
+                | Kind::PackedQueue
         )
     }
 
@@ -282,7 +293,7 @@ impl Kind {
     }
 }
 
-const KINDS: [Kind; 54] = [
+const KINDS: [Kind; 55] = [
     Kind::Block,
     Kind::Space,
     Kind::Table,
@@ -337,6 +348,7 @@ const KINDS: [Kind; 54] = [
     Kind::FinishRequest,
     Kind::IotlbMessage,
     Kind::CompleteChain,
+    Kind::PackedQueue,
 ];
 
 // The kind of a number, if it is one.
@@ -406,6 +418,7 @@ pub(crate) fn part_of(number: usize) -> Option<QueuePart>
         5 => Some(QueuePart::EventIdx),
         6 => Some(QueuePart::NextAvail),
         7 => Some(QueuePart::NextUsed),
+        8 => Some(QueuePart::VringBase),
         _ => None,
     }
 }

@@ -10,6 +10,7 @@ mod lists;
 mod marks;
 mod messages;
 mod miss;
+mod packed_answer;
 mod parts;
 mod queue;
 mod queue_answer;

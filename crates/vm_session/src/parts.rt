@@ -18,7 +18,7 @@ use crate::commands::{
 use crate::marks::mark;
 use crate::messages::{message_in, take_message};
 use crate::miss::look_up;
-use crate::queue::{SessionQueue, make_queue};
+use crate::queue::{SessionQueue, make_packed_queue, make_queue};
 use crate::requests::{add_used, complete_chain, needs_notification, pop, read_chain, write_chain};
 use crate::setup::set_up;
 use crate::work::work_on;
@@ -150,12 +150,12 @@ impl SessionParts {
         }
     }
 
-    // How an address is accessed to be notified: the driver's index is read, and the rest is written.
+    // How an address is accessed to be notified: what says whether there is a next chain is read, and the rest is written.
     fn notified(&self, queue: usize, address: u64) -> Option<Permissions>
         ensures { result ≡ notified self.now queue address }
     {
         let queue = self.queues.get(queue)?;
-        if queue.reads_index_at(address) {
+        if queue.reads_next_at(address) {
             Some(Permissions::Read)
         } else {
             Some(Permissions::Write)
@@ -193,6 +193,10 @@ impl SessionParts {
     {
         if let Kind::Queue = kind {
             *answer = make_queue(self.alloc, &mut self.queues, call);
+            return;
+        }
+        if let Kind::PackedQueue = kind {
+            *answer = make_packed_queue(self.alloc, &mut self.queues, call);
             return;
         }
         match self.queues.get_mut(call.first) {
@@ -397,7 +401,8 @@ impl SessionParts {
             | Kind::BeginRequest
             | Kind::FinishRequest
             | Kind::IotlbMessage
-            | Kind::CompleteChain => *answer = Answer::of_code(code::BAD_CALL),
+            | Kind::CompleteChain
+            | Kind::PackedQueue => *answer = Answer::of_code(code::BAD_CALL),
         }
     }
 

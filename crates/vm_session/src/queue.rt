@@ -1,30 +1,33 @@
 //! Queues of a session, and their chains in flight.
-ghost use Rattle.std.specs.Prelude.{◌≡◌, ◌==◌, ◌+◌, ◌≤◌, IfOk, replicate, length, Some, None, is_some, option_copied};
+ghost use Rattle.std.specs.Prelude.{◌≡◌, ◌==◌, ◌+◌, ◌^◌, ◌<◌, ◌≤◌, true, false, IfOk, replicate, length, Some, None, is_some, option_copied};
 ghost use Rattle.vm_memory_guest.specs.Host.{shape_of, Holds};
-ghost use Rattle.vm_session.specs.Queues.{AsksNotToNotify, AsksToNotify, BeginsRequest, FinishesRequest, Forgets, ListsState, MakesQueue, NeedsNotification, Pops, ReadsChain, Returns, SetsPart, TellsAvail, TellsUsed, TellsValid, WritesChain, cleared, forgotten, refusal_of_chain, with_chain};
-ghost use Rattle.vm_session.specs.SessionState.{chain_of, descriptors_in};
+ghost use Rattle.vm_session.specs.Queues.{AsksNotToNotify, AsksToNotify, BeginsRequest, FinishesRequest, Forgets, KeepsQueue, ListsState, MakesQueue, NeedsNotification, Pops, ReadsChain, Returns, SetsAnyPart, TellsAvail, TellsUsed, TellsValid, WritesChain, cleared, forgotten, is_past, refusal_of_chain, with_chain, with_none};
+ghost use Rattle.vm_session.specs.Misses.{next_word};
+ghost use Rattle.vm_session.specs.SessionState.{buffer_of, chain_of, descriptors_in};
 
 use crate::answer::refuse;
 use crate::call::{Answer, Call, QueuePart};
 use crate::code;
+use crate::packed_answer::{any_part_set, put_any_state};
 use crate::queue_answer::{
-    asked, begun, bytes_moved, length_told, number_told, part_set, popped, put_state, queue_done,
-    queue_refused,
+    asked, begun, bytes_moved, length_told, number_told, popped, queue_done, queue_refused,
 };
 use std::alloc::{AllocError, Global};
 use std::marker::Model;
 use virtio_blk::{Terms, begin, finish};
-use virtio_queue::{Queue, QueueError};
+use virtio_queue::{AnyQueue, PackedBuffer, PackedQueue, Queue, QueueError};
 use vm_memory_base::Bitmap;
 use vm_memory_device::Chain;
 use vm_memory_guest::{GuestMemory, HostMemory};
 
-/// A queue with its chains in flight, each under its head.
+/// A queue of either kind with its chains in flight, each under its head. That of a chain of a packed queue is its id.
 #[derive(Drop)]
 pub(crate) struct SessionQueue {
-    queue: Queue,
+    queue: AnyQueue,
     most: usize,
     flight: Vec<Option<Chain>>,
+    // How many slots of the ring the chain of each head took.
+    slots: Vec<u16>,
     // How many descriptors are in flight.
     count: usize,
 }
@@ -35,7 +38,7 @@ impl Model for SessionQueue {
 
     ghost Value = { DeviceQueue };
 
-    ghost view = { λ q. record { queue = q.queue; most = q.most; flight = q.flight.items } };
+    ghost view = { λ q. record { queue = q.queue; most = q.most; flight = q.flight.items; slots = q.slots.items } };
 
     ghost invariant = { λ q. (length q.flight.items < 2 ^ 16) × (q.count ≡ descriptors_in q.flight.items)
         × (q.count ≤ q.most) };
@@ -61,19 +64,12 @@ fn clear(flight: &mut [Option<Chain>])
     }
 }
 
-// Makes a queue, if it can have this greatest size.
-pub(crate) fn make_queue(alloc: Global, queues: &mut Vec<SessionQueue>, call: &Call) -> Answer
-    ensures { MakesQueue queues.old.items call.now result queues.new.items }
+// Keeps a queue that nobody has set up, of which so many descriptors may be in flight.
+fn keep_queue(alloc: Global, queues: &mut Vec<SessionQueue>, queue: AnyQueue, most: usize) -> Answer
+    ensures { KeepsQueue (with_none queue most) queues.old.items result queues.new.items }
 {
-    let Ok(max_size) = u16::try_from(call.length) else {
-        return queue_refused(QueueError::InvalidMaxSize);
-    };
-    let queue = match Queue::new(max_size) {
-        Ok(queue) => queue,
-        Err(error) => return queue_refused(error),
-    };
     let number = queues.len();
-    let Ok(queue) = SessionQueue::new(alloc, queue, call.other_length) else {
+    let Ok(queue) = SessionQueue::new(alloc, queue, most) else {
         return Answer::of_code(code::MEMORY);
     };
     match queues.push(queue) {
@@ -82,20 +78,53 @@ pub(crate) fn make_queue(alloc: Global, queues: &mut Vec<SessionQueue>, call: &C
     }
 }
 
+// Makes a split queue, if it can have this greatest size.
+pub(crate) fn make_queue(alloc: Global, queues: &mut Vec<SessionQueue>, call: &Call) -> Answer
+    ensures { MakesQueue false queues.old.items call.now result queues.new.items }
+{
+    let Ok(max_size) = u16::try_from(call.length) else {
+        return queue_refused(QueueError::InvalidMaxSize);
+    };
+    match Queue::new(max_size) {
+        Ok(queue) => keep_queue(alloc, queues, AnyQueue::Split(queue), call.other_length),
+        Err(error) => queue_refused(error),
+    }
+}
+
+// Makes a packed queue, if it can have this greatest size.
+pub(crate) fn make_packed_queue(
+    alloc: Global,
+    queues: &mut Vec<SessionQueue>,
+    call: &Call,
+) -> Answer
+    ensures { MakesQueue true queues.old.items call.now result queues.new.items }
+{
+    let Ok(max_size) = u16::try_from(call.length) else {
+        return queue_refused(QueueError::InvalidMaxSize);
+    };
+    match PackedQueue::new(max_size) {
+        Ok(queue) => keep_queue(alloc, queues, AnyQueue::Packed(queue), call.other_length),
+        Err(error) => queue_refused(error),
+    }
+}
+
 impl SessionQueue {
     // A queue that nobody has set up, of this greatest size, with this bound on descriptors in flight.
-    pub(crate) fn new(alloc: Global, queue: Queue, most: usize) -> Result<SessionQueue, AllocError>
-        ensures { IfOk result (λ q. q ≡ record {
-          queue = queue;
-          most = most;
-          flight = replicate queue.state.max_size None;
-        }) }
+    pub(crate) fn new(
+        alloc: Global,
+        queue: AnyQueue,
+        most: usize,
+    ) -> Result<SessionQueue, AllocError>
+        ensures { IfOk result (λ q. q ≡ with_none queue most) }
     {
-        let flight = none_in_flight(alloc, queue.max_size())?;
+        let size = queue.max_size();
+        let flight = none_in_flight(alloc, size)?;
+        let slots = vec![in alloc; 0u16; usize::from(size)]?;
         Ok(SessionQueue {
             queue,
             most,
             flight,
+            slots,
             count: 0,
         })
     }
@@ -111,17 +140,17 @@ impl SessionQueue {
 
     // Sets a part.
     pub(crate) fn set(&mut self, part: Option<QueuePart>, value: u64) -> Answer
-        ensures queue { SetsPart part value self.old.queue result self.new.queue }
+        ensures queue { SetsAnyPart part value self.old.queue result self.new.queue }
         ensures others { self.new ≡ record self.old { queue = self.new.queue } }
     {
-        part_set(&mut self.queue, part, value)
+        any_part_set(&mut self.queue, part, value)
     }
 
     // Its state, as a list of numbers.
     pub(crate) fn list_state(&self, output: &mut [u8]) -> Answer
-        ensures { ListsState self.now.queue.state output.old result output.new }
+        ensures { ListsState self.now.queue output.old result output.new }
     {
-        put_state(&self.queue.state(), output)
+        put_any_state(&self.queue, output)
     }
 
     // The chain of a head that is in flight.
@@ -143,17 +172,48 @@ impl SessionQueue {
         self.chain(head).is_some()
     }
 
+    // What the chain of a head is returned by.
+    #[inline(always)]
+    fn buffer(&self, head: usize) -> PackedBuffer
+        requires { head < 2 ^ 16 }
+        ensures { result ≡ buffer_of self.now head }
+    {
+        let slots = match self.slots.get(head) {
+            Some(slots) => *slots,
+            None => 0,
+        };
+        PackedBuffer {
+            id: head as u16,
+            slots,
+        }
+    }
+
     // Puts a chain in flight for which there is room.
     #[inline(always)]
-    fn put(&mut self, head: usize, chain: Chain)
-        requires none { chain_of self.old head ≡ None }
+    fn put(&mut self, buffer: PackedBuffer, chain: Chain)
+        requires none { chain_of self.old buffer.id ≡ None }
         requires room { descriptors_in self.old.flight + length chain ≤ self.old.most }
-        ensures { self.new ≡ with_chain self.old head chain }
+        ensures { self.new ≡ with_chain self.old buffer chain }
     {
+        let head = usize::from(buffer.id);
         let count = chain.segments().len();
+        if let Some(slots) = self.slots.get_mut(head) {
+            *slots = buffer.slots;
+        }
         if let Some(slot) = self.flight.get_mut(head) {
             *slot = Some(chain);
             self.count += count;
+        }
+    }
+
+    // Whether a packed queue has no place for a chain of this id.
+    #[inline(always)]
+    fn is_past(&self, head: usize) -> bool
+        ensures { result ≡ is_past self.now head }
+    {
+        match self.queue {
+            AnyQueue::Split(_) => false,
+            AnyQueue::Packed(_) => head >= self.flight.len(),
         }
     }
 
@@ -174,6 +234,9 @@ impl SessionQueue {
     fn refusal_of(&self, head: usize, chain: &Chain) -> Option<Answer>
         ensures { result ≡ refusal_of_chain self.now head chain.now }
     {
+        if self.is_past(head) {
+            return Some(queue_refused(QueueError::InvalidDescriptorIndex));
+        }
         if self.has(head) {
             return Some(Answer::of_code(code::IN_FLIGHT));
         }
@@ -197,14 +260,14 @@ impl SessionQueue {
     {
         let next = self.queue.next_avail();
         match self.queue.pop_descriptor_chain(alloc, mem, host) {
-            Ok(Some((head, chain))) => {
-                let head = usize::from(head);
+            Ok(Some((buffer, chain))) => {
+                let head = usize::from(buffer.id);
                 if let Some(refusal) = self.refusal_of(head, &chain) {
-                    self.queue.set_next_avail(next);
+                    self.queue.go_back(next);
                     *answer = refusal;
                 } else {
                     *answer = popped(head, &chain);
-                    self.put(head, chain);
+                    self.put(buffer, chain);
                 }
             }
             Ok(None) => *answer = Answer::of_code(code::NO_CHAIN),
@@ -288,7 +351,8 @@ impl SessionQueue {
             refuse(code::NOT_IN_FLIGHT, answer);
             return;
         }
-        match self.queue.add_used(mem, host, head as u16, len) {
+        let buffer = self.buffer(head);
+        match self.queue.add_used(mem, host, buffer, len) {
             Ok(()) => {
                 self.take(head);
                 *answer = Answer::of_code(code::DONE);
@@ -337,11 +401,19 @@ impl SessionQueue {
         queue_done(self.queue.disable_notification(mem, host))
     }
 
-    // Whether the driver's index lies at an address.
-    pub(crate) fn reads_index_at(&self, address: u64) -> bool
-        ensures { result ≡ (address == self.now.queue.state.avail_ring + 2) }
+    // Whether what says whether there is a next chain lies at an address.
+    pub(crate) fn reads_next_at(&self, address: u64) -> bool
+        ensures { result ≡ (address == next_word self.now.queue) }
     {
-        self.queue.state().avail_ring.checked_add(2) == Some(address)
+        let place = match &self.queue {
+            AnyQueue::Split(queue) => queue.state().avail_ring.checked_add(2),
+            AnyQueue::Packed(queue) => {
+                let state = queue.state();
+                let offset = 16 * u64::from(state.next_avail.slot) + 14;
+                state.desc_ring.checked_add(offset)
+            }
+        };
+        place == Some(address)
     }
 
     // Whether its areas lie whole in memory.
@@ -356,28 +428,34 @@ impl SessionQueue {
         asked(self.queue.is_valid(mem, host))
     }
 
-    // The driver's index.
+    // The driver's index, which a packed queue does not have.
     pub(crate) fn avail_idx<M: GuestMemory, B: Bitmap>(
         &self,
         mem: &M,
         host: &HostMemory<B>,
     ) -> Answer
         requires { Holds (shape_of host.now) (M.names mem.now) }
-        ensures { TellsAvail (M.memory mem.now) host.now self.now result }
+        ensures { TellsAvail (M.memory mem.now) host.now self.now.queue result }
     {
-        number_told(self.queue.avail_idx(mem, host))
+        match &self.queue {
+            AnyQueue::Split(queue) => number_told(queue.avail_idx(mem, host)),
+            AnyQueue::Packed(_) => Answer::of_code(code::BAD_CALL),
+        }
     }
 
-    // The device's index, as it lies in the ring.
+    // The device's index, as it lies in the ring, which a packed queue does not have.
     pub(crate) fn used_idx<M: GuestMemory, B: Bitmap>(
         &self,
         mem: &M,
         host: &HostMemory<B>,
     ) -> Answer
         requires { Holds (shape_of host.now) (M.names mem.now) }
-        ensures { TellsUsed (M.memory mem.now) host.now self.now result }
+        ensures { TellsUsed (M.memory mem.now) host.now self.now.queue result }
     {
-        number_told(self.queue.used_idx(mem, host))
+        match &self.queue {
+            AnyQueue::Split(queue) => number_told(queue.used_idx(mem, host)),
+            AnyQueue::Packed(_) => Answer::of_code(code::BAD_CALL),
+        }
     }
 
     // What a chain in flight asks a block device for.

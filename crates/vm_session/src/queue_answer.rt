@@ -2,7 +2,7 @@
 ghost use Rattle.std.specs.Prelude.{◌≡◌, Some, Err};
 ghost use Rattle.vm_session.specs.QueueCodes.{answer_of_begun, answer_of_bytes, answer_of_done, answer_of_length, answer_of_number, answer_of_queue, answer_of_request, answer_of_truth, code_of_chain, popped_as};
 ghost use Rattle.vm_session.specs.Answers.{number_of_truth};
-ghost use Rattle.vm_session.specs.Queues.{ListsState, SetsPart, word};
+ghost use Rattle.vm_session.specs.Queues.{ListsNine, SetsPart, state_numbers, word};
 
 use crate::answer::refused;
 use crate::call::{Answer, QueuePart, switch_of};
@@ -159,7 +159,7 @@ pub(crate) fn popped(head: usize, chain: &Chain) -> Answer
 }
 
 // A number of 16 bits, if it is one.
-fn word_of(number: u64) -> Option<u16>
+pub(crate) fn word_of(number: u64) -> Option<u16>
     ensures { result ≡ word number }
 {
     u16::try_from(number).ok()
@@ -222,7 +222,7 @@ fn set_next_used(queue: &mut Queue, value: u64) -> Answer
     }
 }
 
-// Sets a part of a queue, if there is one and the value can be that of the part.
+// Sets a part of a split queue, if there is one and the value can be that of the part.
 pub(crate) fn part_set(queue: &mut Queue, part: Option<QueuePart>, value: u64) -> Answer
     ensures { SetsPart part value queue.old result queue.new }
 {
@@ -241,11 +241,11 @@ pub(crate) fn part_set(queue: &mut Queue, part: Option<QueuePart>, value: u64) -
         Some(QueuePart::EventIdx) => set_event_idx(queue, value),
         Some(QueuePart::NextAvail) => set_next_avail(queue, value),
         Some(QueuePart::NextUsed) => set_next_used(queue, value),
-        None => Answer::of_code(code::BAD_CALL),
+        Some(QueuePart::VringBase) | None => Answer::of_code(code::BAD_CALL),
     }
 }
 
-fn number_of_truth(truth: bool) -> usize
+pub(crate) fn number_of_truth(truth: bool) -> usize
     ensures { result ≡ number_of_truth truth }
 {
     if truth { 1 } else { 0 }
@@ -253,7 +253,7 @@ fn number_of_truth(truth: bool) -> usize
 
 // Lists the numbers of a state, if there is room for them.
 pub(crate) fn put_state(state: &QueueState, output: &mut [u8]) -> Answer
-    ensures { ListsState state.now output.old result output.new }
+    ensures { ListsNine (state_numbers state.now) output.old result output.new }
 {
     if output.len() < 72 {
         return Answer::short(72);

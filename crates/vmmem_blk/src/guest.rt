@@ -9,7 +9,7 @@ use virtio_blk::{
     VIRTIO_BLK_T_GET_ID, VIRTIO_BLK_T_IN, VIRTIO_BLK_T_OUT,
 };
 use virtio_queue::{
-    Descriptor, DriverQueue, Queue, QueueField, VRING_DESC_F_INDIRECT, VRING_DESC_F_NEXT,
+    AnyQueue, Descriptor, DriverQueue, QueueField, VRING_DESC_F_INDIRECT, VRING_DESC_F_NEXT,
     VRING_DESC_F_WRITE, VRING_USED_F_NO_NOTIFY,
 };
 use vm_memory_base::{GuestAddress, Permissions};
@@ -94,7 +94,7 @@ pub struct Guest {
     host: Host,
     memory: Memory,
     driver: DriverQueue,
-    queue: Queue,
+    queue: AnyQueue,
     // The driver's index when it last decided whether to notify the device.
     decided: u16,
 }
@@ -105,7 +105,7 @@ impl Guest {
         let mut host = HostMemory::new(alloc);
         let memory = memory_of(alloc, &mut host, iommu)?;
         let driver = DriverQueue::new(GuestAddress(QUEUE), size)?;
-        let queue = driver.queue()?;
+        let queue = AnyQueue::Split(driver.queue()?);
         Ok(Guest {
             host,
             memory,

@@ -1,13 +1,12 @@
 //! How the chains of a queue are served.
 ghost use Rattle.std.specs.Prelude.{◌≡◌, false, Ok};
 ghost use Rattle.vm_memory_guest.specs.Host.{shape_of, Holds};
-ghost use Rattle.virtio_queue.specs.Available.{avail_idx};
-ghost use Rattle.virtio_queue.specs.Notification.{Waits};
+ghost use Rattle.virtio_queue.specs.Any.{HasNone, Waits};
 ghost use Rattle.virtio_blk.specs.Process.{IsDone, NextTurn, Processes, Runs, State, Tries};
 
 use super::BlockDevice;
 use crate::disk::Disk;
-use virtio_queue::{Queue, QueueError};
+use virtio_queue::{AnyQueue, QueueError};
 use vm_memory_base::Bitmap;
 use vm_memory_guest::{GuestMemory, HostMemory};
 
@@ -29,7 +28,7 @@ impl<D: Disk> BlockDevice<D> {
     // Pops a chain, serves it and returns it, where there is one.
     fn serve_next<M: GuestMemory, B: Bitmap>(
         &mut self,
-        queue: &mut Queue,
+        queue: &mut AnyQueue,
         mem: &M,
         host: &mut HostMemory<B>,
     ) -> Result<bool, QueueError>
@@ -38,15 +37,14 @@ impl<D: Disk> BlockDevice<D> {
             let old : State B D = record { device = self.old; queue = queue.old; host = host.old } in
             let new : State B D = record { device = self.new; queue = queue.new; host = host.new } in
             NextTurn B.marks D.bytes D.sectors D.calls m old result new }
-        ensures none { let q = queue.new.state in
-            result ≡ Ok false → avail_idx (M.memory mem.now) host.new q ≡ Ok q.next_avail }
+        ensures none { result ≡ Ok false → HasNone (M.memory mem.now) host.new queue.new }
         ensures shape { shape_of host.new ≡ shape_of host.old }
     {
-        let Some((head, chain)) = queue.pop_descriptor_chain(self.alloc, mem, host)? else {
+        let Some((buffer, chain)) = queue.pop_descriptor_chain(self.alloc, mem, host)? else {
             return Ok(false);
         };
         let len = self.serve(mem, host, &chain);
-        queue.add_used(mem, host, head, len)?;
+        queue.add_used(mem, host, buffer, len)?;
         Ok(true)
     }
 
@@ -54,7 +52,7 @@ impl<D: Disk> BlockDevice<D> {
     // the driver had published by then.
     fn serve_or_wait<M: GuestMemory, B: Bitmap>(
         &mut self,
-        queue: &mut Queue,
+        queue: &mut AnyQueue,
         mem: &M,
         host: &mut HostMemory<B>,
     ) -> Result<bool, QueueError>
@@ -63,7 +61,7 @@ impl<D: Disk> BlockDevice<D> {
             let old : State B D = record { device = self.old; queue = queue.old; host = host.old } in
             let new : State B D = record { device = self.new; queue = queue.new; host = host.new } in
             Tries B.marks D.bytes D.sectors D.calls m old result new }
-        ensures waits { result ≡ Ok false → Waits (M.memory mem.now) host.new queue.new.state }
+        ensures waits { result ≡ Ok false → Waits (M.memory mem.now) host.new queue.new }
         ensures shape { shape_of host.new ≡ shape_of host.old }
     {
         if self.serve_next(queue, mem, host)? {
@@ -78,7 +76,7 @@ impl<D: Disk> BlockDevice<D> {
     // Serves chains until there are no more, at most so many. It says how many, and whether that bound ended it.
     fn serve_all<M: GuestMemory, B: Bitmap>(
         &mut self,
-        queue: &mut Queue,
+        queue: &mut AnyQueue,
         mem: &M,
         host: &mut HostMemory<B>,
         most: u32,
@@ -88,7 +86,7 @@ impl<D: Disk> BlockDevice<D> {
             let old : State B D = record { device = self.old; queue = queue.old; host = host.old } in
             let new : State B D = record { device = self.new; queue = queue.new; host = host.new } in
             Runs B.marks D.bytes D.sectors D.calls m most old result.0 result.1 new }
-        ensures waits { result.1 ≡ Ok false → Waits (M.memory mem.now) host.new queue.new.state }
+        ensures waits { result.1 ≡ Ok false → Waits (M.memory mem.now) host.new queue.new }
         ensures shape { shape_of host.new ≡ shape_of host.old }
     {
         let mut count = 0;
@@ -102,7 +100,7 @@ impl<D: Disk> BlockDevice<D> {
         (count, Ok(true))
     }
 
-    /// Serves the chains that the driver has published and returns each, until there are no more, but at most `most`
+    /// Serves the chains that the driver has made available in a queue of either kind and returns each, until there are no more, but at most `most`
     /// chains: the crate's README.md. When there are no more, it asks the driver to notify the device of the next one,
     /// and goes on with what came by then.
     ///
@@ -111,7 +109,7 @@ impl<D: Disk> BlockDevice<D> {
     /// overwrite the ring: the owner serves its other devices before it calls again.
     pub fn process<M: GuestMemory, B: Bitmap>(
         &mut self,
-        queue: &mut Queue,
+        queue: &mut AnyQueue,
         mem: &M,
         host: &mut HostMemory<B>,
         most: u32,
@@ -121,7 +119,7 @@ impl<D: Disk> BlockDevice<D> {
             let old : State B D = record { device = self.old; queue = queue.old; host = host.old } in
             let new : State B D = record { device = self.new; queue = queue.new; host = host.new } in
             Processes B.marks D.bytes D.sectors D.calls m most old result new }
-        ensures waits { IsDone result → Waits (M.memory mem.now) host.new queue.new.state }
+        ensures waits { IsDone result → Waits (M.memory mem.now) host.new queue.new }
         ensures shape { shape_of host.new ≡ shape_of host.old }
     {
         let (count, more) = self.serve_all(queue, mem, host, most);

@@ -1,10 +1,9 @@
 use Rattle.std.proofs.Common.{◌≡◌, ◌∙◌, nat_lt, refl, sym, subst, false, ap}
 use Rattle.std.specs.Option.{option_or}
-use Rattle.virtio_queue.specs.Notification.{Waits}
-use Rattle.virtio_queue.specs.State.{Virtqueue}
-use Rattle.virtio_queue.specs.declared.state.QueueState.{QueueState}
+use Rattle.virtio_queue.specs.Any.{Waits}
+use Rattle.virtio_queue.specs.declared.any.AnyQueue.{AnyQueue}
 use Rattle.virtio_blk.specs.Process.{error_in, or_value}
-use Rattle.virtio_blk.proofs.ProcessFacts.{asked_keeps, done_answer, option_or-none}
+use Rattle.virtio_blk.proofs.ProcessFacts.{asked_waits, done_answer, option_or-none}
 use Rattle.virtio_blk.proofs.device.BlockDevice.process.Goals as goal
 use Rattle.virtio_blk.proofs.device.BlockDevice.process.Goals.{in-Ok, in-Err, in-Ok-needs_notification, in-Err-needs_notification}
 
@@ -45,8 +44,8 @@ returns g c =
       waits = λ done.
           let ended = done_answer all.result.1 c.needs_notification.result c.match-more.more.0
           c.match-needs_notification.failed more.0 failed done.0 done.1 in
-          subst (λ (q : QueueState). Waits (g.M.GuestMemory.memory c.args.mem.now) all.new.host q)
-          (sym (ap (λ (q : Virtqueue). q.state) c.needs_notification.ensures.asked
-          ∙ asked_keeps all.new.queue c.needs_notification.result)) (all.ensures.waits ended);
+          let m = g.M.GuestMemory.memory c.args.mem.now in
+          subst (λ (q : AnyQueue). Waits m all.new.host q) (sym c.needs_notification.ensures.asked)
+          (asked_waits m all.new.host all.new.queue c.needs_notification.result (all.ensures.waits ended));
       shape = all.ensures.shape;
     }

@@ -1,5 +1,5 @@
 use Rattle.std.proofs.Common.{ap₂, Err}
-use Rattle.virtio_queue.specs.State.{Virtqueue}
+use Rattle.virtio_queue.specs.declared.any.AnyQueue.{AnyQueue}
 use Rattle.vm_session.specs.SessionState.{DeviceQueue}
 use Rattle.vm_session.specs.declared.call.Answer.{Answer}
 use Rattle.vm_session.proofs.queue.SessionQueue.pop.Goals as goal
@@ -7,10 +7,10 @@ use Rattle.vm_session.proofs.queue.SessionQueue.pop.Goals as goal
 pub returns-in-Err : goal.returns-in-Err
 returns-in-Err g c =
     let fields = c.self.inside in
-    let with_queue : Virtqueue → DeviceQueue =
-    λ q. record { queue = q; most = fields.most; flight = fields.flight.items } in
+    let with_queue : AnyQueue → DeviceQueue =
+    λ q. record { queue = q; most = fields.most; flight = fields.flight.items; slots = fields.slots.items } in
     rw (← c.self.view_is) (
       Err c.in-Err.error,
       c.in-Err.ensures.popped,
-      ap₂ (λ (a : Answer) (q : Virtqueue). (a, with_queue q)) c.queue_refused.ensures c.in-Err.ensures.moved,
+      ap₂ (λ (a : Answer) (q : AnyQueue). (a, with_queue q)) c.queue_refused.ensures c.in-Err.ensures.moved,
     )

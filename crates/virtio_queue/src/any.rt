@@ -1,0 +1,226 @@
+//! Queues of either kind.
+ghost use Rattle.std.specs.Prelude.{◌≡◌, None, Ok, false};
+ghost use Rattle.vm_memory_guest.specs.Host.{shape_of, Holds};
+ghost use Rattle.virtio_queue.specs.Any.{AddsUsed, Disables, Enables, HasNone, MayWantChain, MayWantNeeds, MayWantValid, Waits, after_asked, after_pop, after_used, at_next, has_event_idx, max_size_of, needs_notification, next_avail_of, past, popped, unset, valid, with_event_idx, with_ready};
+ghost use Rattle.virtio_queue.specs.Fields.{Answers};
+ghost use Rattle.virtio_queue.specs.declared.packed.state.PackedBuffer.{PackedBuffer};
+
+use crate::error::QueueError;
+use crate::packed::{PackedBuffer, PackedQueue, RingPosition};
+use crate::queue::Queue;
+use std::alloc::Global;
+use vm_memory_base::Bitmap;
+use vm_memory_device::Chain;
+use vm_memory_guest::{GuestMemory, HostMemory};
+
+/// A virtqueue of either kind, for devices whose driver chooses it by VIRTIO_F_RING_PACKED.
+///
+/// Each call does what the call of that name of [`Queue`] or [`PackedQueue`] does, and is proved to. A chain is returned
+/// by what it was popped with: that of a split queue is its head, and one slot.
+///
+/// ```text
+/// let mut queue = AnyQueue::Split(Queue::new(128)?);
+/// while let Some((buffer, chain)) = queue.pop_descriptor_chain(alloc, &memory, &host)? {
+///     let len = serve(&memory, &mut host, &chain)?;
+///     queue.add_used(&memory, &mut host, buffer, len)?;
+/// }
+/// ```
+#[derive(Drop)]
+pub enum AnyQueue {
+    /// A split virtqueue.
+    Split(Queue),
+    /// A packed virtqueue.
+    Packed(PackedQueue),
+}
+
+impl AnyQueue {
+    /// The greatest size that the device allows.
+    #[inline]
+    pub fn max_size(&self) -> u16
+        ensures { result ≡ max_size_of self.now }
+    {
+        match self {
+            AnyQueue::Split(queue) => queue.max_size(),
+            AnyQueue::Packed(queue) => queue.max_size(),
+        }
+    }
+
+    /// Resets it to a queue of its kind that nobody has set up.
+    pub fn reset(&mut self)
+        ensures { self.new ≡ unset self.old }
+    {
+        match self {
+            AnyQueue::Split(queue) => queue.reset(),
+            AnyQueue::Packed(queue) => queue.reset(),
+        }
+    }
+
+    /// Sets whether the driver has enabled the queue.
+    pub fn set_ready(&mut self, ready: bool)
+        ensures { self.new ≡ with_ready self.old ready }
+    {
+        match self {
+            AnyQueue::Split(queue) => queue.set_ready(ready),
+            AnyQueue::Packed(queue) => queue.set_ready(ready),
+        }
+    }
+
+    /// Whether the driver accepted EVENT_IDX.
+    #[inline]
+    pub fn event_idx_enabled(&self) -> bool
+        ensures { result ≡ has_event_idx self.now }
+    {
+        match self {
+            AnyQueue::Split(queue) => queue.event_idx_enabled(),
+            AnyQueue::Packed(queue) => queue.event_idx_enabled(),
+        }
+    }
+
+    /// Sets whether the driver accepted EVENT_IDX.
+    pub fn set_event_idx(&mut self, enabled: bool)
+        ensures { self.new ≡ with_event_idx self.old enabled }
+    {
+        match self {
+            AnyQueue::Split(queue) => queue.set_event_idx(enabled),
+            AnyQueue::Packed(queue) => queue.set_event_idx(enabled),
+        }
+    }
+
+    /// Whether its areas lie whole in memory, and the device may access them.
+    pub fn is_valid<M: GuestMemory, B: Bitmap>(
+        &self,
+        mem: &M,
+        host: &HostMemory<B>,
+    ) -> Result<bool, QueueError>
+        requires { Holds (shape_of host.now) (M.names mem.now) }
+        ensures { let m = M.memory mem.now in
+            Answers (MayWantValid m host.now self.now) (valid m host.now self.now) result }
+    {
+        match self {
+            AnyQueue::Split(queue) => queue.is_valid(mem, host),
+            AnyQueue::Packed(queue) => queue.is_valid(mem, host),
+        }
+    }
+
+    /// The next chain that the driver has made available, with what it is returned by, or `None` if there is none.
+    #[inline(always)]
+    pub fn pop_descriptor_chain<M: GuestMemory, B: Bitmap>(
+        &mut self,
+        alloc: Global,
+        mem: &M,
+        host: &HostMemory<B>,
+    ) -> Result<Option<(PackedBuffer, Chain)>, QueueError>
+        requires { Holds (shape_of host.now) (M.names mem.now) }
+        ensures popped { let m = M.memory mem.now in
+            Answers (MayWantChain m host.now self.old) (popped m host.now self.old) result }
+        ensures none { result ≡ Ok None → HasNone (M.memory mem.now) host.now self.old }
+        ensures moved { self.new ≡ after_pop self.old result }
+    {
+        match self {
+            AnyQueue::Split(queue) => match queue.pop_descriptor_chain(alloc, mem, host) {
+                Ok(Some((id, chain))) => Ok(Some((PackedBuffer { id, slots: 1 }, chain))),
+                Ok(None) => Ok(None),
+                Err(error) => Err(error),
+            },
+            AnyQueue::Packed(queue) => queue.pop_descriptor_chain(alloc, mem, host),
+        }
+    }
+
+    /// Returns a chain, with the number of bytes written to it.
+    #[inline(always)]
+    pub fn add_used<M: GuestMemory, B: Bitmap>(
+        &mut self,
+        mem: &M,
+        host: &mut HostMemory<B>,
+        buffer: PackedBuffer,
+        len: u32,
+    ) -> Result<(), QueueError>
+        requires { Holds (shape_of host.old) (M.names mem.now) }
+        ensures added { AddsUsed B.marks (M.memory mem.now) self.old buffer len host.old result host.new }
+        ensures moved { self.new ≡ after_used self.old buffer result }
+        ensures shape { shape_of host.new ≡ shape_of host.old }
+    {
+        match self {
+            AnyQueue::Split(queue) => queue.add_used(mem, host, buffer.id, len),
+            AnyQueue::Packed(queue) => queue.add_used(mem, host, buffer, len),
+        }
+    }
+
+    /// Whether the driver has to be notified of what was returned since the last call of this.
+    #[inline(always)]
+    pub fn needs_notification<M: GuestMemory, B: Bitmap>(
+        &mut self,
+        mem: &M,
+        host: &HostMemory<B>,
+    ) -> Result<bool, QueueError>
+        requires { Holds (shape_of host.now) (M.names mem.now) }
+        ensures needs { let m = M.memory mem.now in
+            Answers (MayWantNeeds m host.now self.old) (needs_notification m host.now self.old) result }
+        ensures asked { self.new ≡ after_asked self.old result }
+    {
+        match self {
+            AnyQueue::Split(queue) => queue.needs_notification(mem, host),
+            AnyQueue::Packed(queue) => queue.needs_notification(mem, host),
+        }
+    }
+
+    /// Asks the driver to notify the device of the next chain. It returns whether there is one by then.
+    #[inline(always)]
+    pub fn enable_notification<M: GuestMemory, B: Bitmap>(
+        &self,
+        mem: &M,
+        host: &mut HostMemory<B>,
+    ) -> Result<bool, QueueError>
+        requires { Holds (shape_of host.old) (M.names mem.now) }
+        ensures enabled { Enables B.marks (M.memory mem.now) self.now host.old result host.new }
+        ensures waits { result ≡ Ok false → Waits (M.memory mem.now) host.new self.now }
+        ensures shape { shape_of host.new ≡ shape_of host.old }
+    {
+        match self {
+            AnyQueue::Split(queue) => queue.enable_notification(mem, host),
+            AnyQueue::Packed(queue) => queue.enable_notification(mem, host),
+        }
+    }
+
+    /// Asks the driver not to notify the device.
+    #[inline(always)]
+    pub fn disable_notification<M: GuestMemory, B: Bitmap>(
+        &self,
+        mem: &M,
+        host: &mut HostMemory<B>,
+    ) -> Result<(), QueueError>
+        requires { Holds (shape_of host.old) (M.names mem.now) }
+        ensures disabled { Disables B.marks (M.memory mem.now) self.now host.old result host.new }
+        ensures shape { shape_of host.new ≡ shape_of host.old }
+    {
+        match self {
+            AnyQueue::Split(queue) => queue.disable_notification(mem, host),
+            AnyQueue::Packed(queue) => queue.disable_notification(mem, host),
+        }
+    }
+
+    /// Where the next chain is popped, as a number of 16 bits: the index of the entry of the available ring, or a slot
+    /// with its wrap counter in bit 15. `go_back` takes it.
+    #[inline(always)]
+    pub fn next_avail(&self) -> u16
+        ensures next { result ≡ next_avail_of self.now }
+        ensures back { (buffer : PackedBuffer) → at_next (past self.now buffer) result ≡ self.now }
+    {
+        match self {
+            AnyQueue::Split(queue) => queue.next_avail(),
+            AnyQueue::Packed(queue) => queue.next_avail().to_bits(),
+        }
+    }
+
+    /// Makes the chain at this place the next one. A packed queue that cannot stand there stays where it is.
+    pub fn go_back(&mut self, next_avail: u16)
+        ensures { self.new ≡ at_next self.old next_avail }
+    {
+        match self {
+            AnyQueue::Split(queue) => queue.set_next_avail(next_avail),
+            AnyQueue::Packed(queue) => {
+                let _ = queue.set_next_avail(RingPosition::from_bits(next_avail));
+            }
+        }
+    }
+}
