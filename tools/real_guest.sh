@@ -42,6 +42,11 @@ variant() {
     quick) ops=10 files=2 ;;
     no-event-idx) device=event_idx=off ;;
     no-indirect) device=indirect_desc=off ;;
+    packed) device=packed=on ;;
+    packed-no-event-idx) device=packed=on,event_idx=off ops=10 files=2 ;;
+    packed-no-indirect) device=packed=on,indirect_desc=off ops=10 files=2 ;;
+    packed-strict) device=packed=on iommu=strict backend="--iotlb-limit 64" ops=10 files=2 ;;
+    packed-move) device=packed=on work=move ops=4 ;;
     queue-16) device=queue-size=16 ;;
     queue-256) device=queue-size=256 ;;
     queue-1024) device=queue-size=1024 ;;
@@ -62,9 +67,9 @@ variant() {
     *) return 1 ;;
     esac
 }
-VARIANTS=(default no-event-idx no-indirect queue-16 queue-256 queue-1024 two-queues read-only no-flush sigterm sigkill
+VARIANTS=(default no-event-idx no-indirect packed packed-no-event-idx packed-no-indirect packed-strict queue-16 queue-256 queue-1024 two-queues read-only no-flush sigterm sigkill
     strict-8 strict-64 strict lazy-8 lazy-64 lazy
-    move move-file strict-move strict-move-file)
+    move move-file strict-move strict-move-file packed-move)
 
 missing() {
     local found=()
@@ -493,6 +498,9 @@ compare() {
     if [ -n "$iommu" ] && [ "$device" != qemu ]; then
         grep -aq '^I/O table: [1-9][0-9]* misses' "$room/backend" || echo "no mapping was asked for" >> "$room/why"
     fi
+    case $device in
+    packed=on*) grep -aq '^ring .* packed, base' "$room/backend" || echo "no ring was packed" >> "$room/why" ;;
+    esac
     if [ "$work" = move ] && [ "$device" != qemu ]; then
         grep -aq '^log: [1-9]' "$room/backend" || echo "no page was logged" >> "$room/why"
     fi

@@ -35,7 +35,7 @@ enum vmm_kind {
     VMM_SET_QUEUE, VMM_RESET_QUEUE, VMM_QUEUE_STATE, VMM_FORGET, VMM_QUEUE_IS_VALID, VMM_AVAIL_IDX,
     VMM_USED_IDX, VMM_POP, VMM_READ_CHAIN, VMM_WRITE_CHAIN, VMM_ADD_USED, VMM_NEEDS_NOTIFICATION,
     VMM_ENABLE_NOTIFICATION, VMM_DISABLE_NOTIFICATION, VMM_BEGIN_REQUEST, VMM_FINISH_REQUEST,
-    VMM_IOTLB_MESSAGE, VMM_COMPLETE_CHAIN
+    VMM_IOTLB_MESSAGE, VMM_COMPLETE_CHAIN, VMM_PACKED_QUEUE
 };
 
 /* An access. */
@@ -76,7 +76,8 @@ enum vmm_code {
 
 /* The parts of a queue that VMM_SET_QUEUE sets. */
 enum vmm_part {
-    VMM_SIZE, VMM_DESC_TABLE, VMM_AVAIL_RING, VMM_USED_RING, VMM_READY, VMM_EVENT_IDX, VMM_NEXT_AVAIL, VMM_NEXT_USED
+    VMM_SIZE, VMM_DESC_TABLE, VMM_AVAIL_RING, VMM_USED_RING, VMM_READY, VMM_EVENT_IDX, VMM_NEXT_AVAIL, VMM_NEXT_USED,
+    VMM_VRING_BASE
 };
 
 /* What VMM_BEGIN_REQUEST returns: what a request asks a block device for. */
@@ -396,12 +397,21 @@ static inline uint64_t vmm_number(const void *list, size_t place) {
     return number;
 }
 
-/* Split virtqueues: crates/virtio_queue/README.md. */
+/* Virtqueues, split and packed: crates/virtio_queue/README.md. */
 
 /* A queue in its reset state, with the maximum size: a power of two, 1 to 32768. All of its chains in flight have at
  * most `descriptors` descriptors. `value` is its number. */
 static inline vmm_answer vmm_queue(vmm_session *s, size_t max_size, size_t descriptors) {
     vmm_request call = vmm_at(VMM_QUEUE, 0, 0, max_size);
+    call.other_length = descriptors;
+    return vmm_asked(s, &call, NULL, 0, NULL, 0);
+}
+
+/* The same for a packed queue, whose greatest size is any from 1 to 32768. Every call below is for both kinds, where it
+ * does not say otherwise. The head of a chain of a packed queue is the driver's id for it. A chain whose id is not below
+ * the greatest size is refused with VMM_INVALID_DESCRIPTOR_INDEX. */
+static inline vmm_answer vmm_packed_queue(vmm_session *s, size_t max_size, size_t descriptors) {
+    vmm_request call = vmm_at(VMM_PACKED_QUEUE, 0, 0, max_size);
     call.other_length = descriptors;
     return vmm_asked(s, &call, NULL, 0, NULL, 0);
 }
@@ -417,14 +427,17 @@ static inline vmm_answer vmm_set_queue_size(vmm_session *s, size_t queue, size_t
     return vmm_set_queue(s, queue, VMM_SIZE, size);
 }
 
+/* The address of the table of descriptors, or of the ring of a packed queue. */
 static inline vmm_answer vmm_set_desc_table(vmm_session *s, size_t queue, uint64_t address) {
     return vmm_set_queue(s, queue, VMM_DESC_TABLE, address);
 }
 
+/* The address of the available ring, or of a packed queue's event suppression structure of the driver. */
 static inline vmm_answer vmm_set_avail_ring(vmm_session *s, size_t queue, uint64_t address) {
     return vmm_set_queue(s, queue, VMM_AVAIL_RING, address);
 }
 
+/* The address of the used ring, or of a packed queue's event suppression structure of the device. */
 static inline vmm_answer vmm_set_used_ring(vmm_session *s, size_t queue, uint64_t address) {
     return vmm_set_queue(s, queue, VMM_USED_RING, address);
 }
@@ -437,6 +450,7 @@ static inline vmm_answer vmm_set_event_idx(vmm_session *s, size_t queue, int on)
     return vmm_set_queue(s, queue, VMM_EVENT_IDX, on ? 1 : 0);
 }
 
+/* Of a split queue. For a packed one this and the next one are VMM_BAD_CALL. */
 static inline vmm_answer vmm_set_next_avail(vmm_session *s, size_t queue, uint16_t index) {
     return vmm_set_queue(s, queue, VMM_NEXT_AVAIL, index);
 }
@@ -445,13 +459,21 @@ static inline vmm_answer vmm_set_next_used(vmm_session *s, size_t queue, uint16_
     return vmm_set_queue(s, queue, VMM_NEXT_USED, index);
 }
 
-/* Makes it what vmm_queue made, with no chain in flight. */
+/* Sets both positions of a packed queue, as messages of vhost have them: in the low half where the next chain is popped, in
+ * the high half where the next one is returned, each as a slot with its wrap counter in bit 15. If it cannot stand there, the
+ * code is VMM_INVALID_AVAIL_RING_INDEX, and for a split queue VMM_BAD_CALL. */
+static inline vmm_answer vmm_set_vring_base(vmm_session *s, size_t queue, uint32_t base) {
+    return vmm_set_queue(s, queue, VMM_VRING_BASE, base);
+}
+
+/* Makes it what vmm_queue or vmm_packed_queue made, with no chain in flight. */
 static inline vmm_answer vmm_reset_queue(vmm_session *s, size_t queue) {
     vmm_request call = vmm_at(VMM_RESET_QUEUE, queue, 0, 0);
     return vmm_asked(s, &call, NULL, 0, NULL, 0);
 }
 
-/* The state of a queue. */
+/* The state of a queue. Of a packed one `desc_table` is the ring, `avail_ring` the driver's area and `used_ring` the
+ * device's, and `next_avail` and `next_used` are the halves of what vmm_set_vring_base takes. */
 typedef struct vmm_state {
     uint16_t max_size, size;
     uint8_t ready, event_idx_enabled;
@@ -486,12 +508,13 @@ static inline vmm_request vmm_on(enum vmm_kind kind, size_t queue, size_t memory
     return call;
 }
 
-/* `value` is 1 if the table and both rings lie whole in memory, else 0. */
+/* `value` is 1 if the table and both rings, or the ring and both areas, lie whole in memory, else 0. */
 static inline vmm_answer vmm_queue_is_valid(vmm_session *s, size_t queue, size_t memory) {
     vmm_request call = vmm_on(VMM_QUEUE_IS_VALID, queue, memory, 0);
     return vmm_asked(s, &call, NULL, 0, NULL, 0);
 }
 
+/* How many heads the driver has published, modulo 2^16. A packed queue has no such index, nor the next one: VMM_BAD_CALL. */
 static inline vmm_answer vmm_avail_idx(vmm_session *s, size_t queue, size_t memory) {
     vmm_request call = vmm_on(VMM_AVAIL_IDX, queue, memory, 0);
     return vmm_asked(s, &call, NULL, 0, NULL, 0);

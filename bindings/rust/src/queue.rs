@@ -1,5 +1,5 @@
-//! Split virtqueues, with the names of rust-vmm's `virtio-queue`. crates/virtio_queue/README.md of the repository has
-//! their rules.
+//! Virtqueues, split and packed, with the names of rust-vmm's `virtio-queue`. crates/virtio_queue/README.md of the
+//! repository has their rules.
 //!
 //! ```
 //! use std::io::{Read, Write};
@@ -53,6 +53,9 @@
 //! - So there is no `go_to_previous_position`: [`forget`](Queue::forget) and [`set_next_avail`](Queue::set_next_avail)
 //!   make a chain the next one again.
 //! - No call takes an order. Each reads and writes in the order that the VirtIO specification asks of a device.
+//! - A [packed](Machine::packed_queue) queue has the same calls. The head of its chain is the driver's id for it. A chain
+//!   whose id is not below the greatest size is refused as `InvalidDescriptorIndex`. Its two positions are set
+//!   [together](Queue::set_vring_base).
 
 mod chain;
 mod error;
@@ -73,9 +76,11 @@ use std::ptr;
 pub struct QueueState {
     /// The greatest size that the device allows.
     pub max_size: u16,
-    /// How many chains were popped, modulo 2^16.
+    /// How many chains were popped, modulo 2^16. Of a packed queue: the slot where the next chain is popped, with its wrap
+    /// counter in bit 15.
     pub next_avail: u16,
-    /// How many entries were added to the used ring, modulo 2^16.
+    /// How many entries were added to the used ring, modulo 2^16. Of a packed queue: the slot where the next chain is
+    /// returned, with its wrap counter in bit 15.
     pub next_used: u16,
     /// Whether notifications go by event indices, and not by flags.
     pub event_idx_enabled: bool,
@@ -83,12 +88,19 @@ pub struct QueueState {
     pub size: u16,
     /// Whether the driver has enabled the queue.
     pub ready: bool,
-    /// The guest address of the table of descriptors.
+    /// The guest address of the table of descriptors, or of the ring of a packed queue.
     pub desc_table: u64,
-    /// The guest address of the available ring.
+    /// The guest address of the available ring, or of the driver's area of a packed queue.
     pub avail_ring: u64,
-    /// The guest address of the used ring.
+    /// The guest address of the used ring, or of the device's area of a packed queue.
     pub used_ring: u64,
+}
+
+impl QueueState {
+    /// Both positions of a packed queue, as [`Queue::set_vring_base`] takes them.
+    pub fn vring_base(&self) -> u32 {
+        u32::from(self.next_avail) | u32::from(self.next_used) << 16
+    }
 }
 
 /// A queue of a machine, which it lends.
@@ -105,8 +117,18 @@ impl Machine {
     /// from 1 to 32768. All chains that are in flight together have at most `max_descriptors` descriptors, those of
     /// indirect tables too.
     pub fn queue(&self, max_size: u16, max_descriptors: usize) -> Result<Queue<'_>, QueueError> {
+        self.make_queue(kind::QUEUE, max_size, max_descriptors)
+    }
+
+    /// Makes a packed queue in its reset state, as `queue` makes a split one. `InvalidMaxSize` if the maximum size is not
+    /// 1 to 32768.
+    pub fn packed_queue(&self, max_size: u16, max_descriptors: usize) -> Result<Queue<'_>, QueueError> {
+        self.make_queue(kind::PACKED_QUEUE, max_size, max_descriptors)
+    }
+
+    fn make_queue(&self, kind: u32, max_size: u16, max_descriptors: usize) -> Result<Queue<'_>, QueueError> {
         let call = Call {
-            kind: kind::QUEUE,
+            kind,
             length: max_size.into(),
             other_length: max_descriptors,
             ..Call::default()
@@ -226,7 +248,8 @@ impl<'a> Queue<'a> {
         self.state().size
     }
 
-    /// Sets the size. `InvalidSize` if it is not a power of two from 1 to the greatest size.
+    /// Sets the size. `InvalidSize` if it is not a power of two from 1 to the greatest size; that of a packed queue need
+    /// not be a power of two, and both positions become the beginning of the ring.
     pub fn set_size(&self, size: u16) -> Result<(), QueueError> {
         self.set(part::SIZE, size.into())
     }
@@ -241,7 +264,7 @@ impl<'a> Queue<'a> {
         self.set_any(part::READY, ready.into());
     }
 
-    /// The guest address of the table of descriptors.
+    /// The guest address of the table of descriptors, or of the ring of a packed queue.
     pub fn desc_table(&self) -> u64 {
         self.state().desc_table
     }
@@ -251,17 +274,18 @@ impl<'a> Queue<'a> {
         self.set(part::DESC_TABLE, desc_table.0)
     }
 
-    /// The guest address of the available ring.
+    /// The guest address of the available ring, or of the driver's event suppression structure of a packed queue.
     pub fn avail_ring(&self) -> u64 {
         self.state().avail_ring
     }
 
-    /// Sets the address of the available ring. `InvalidAvailRingAlign` if it is not a multiple of 2.
+    /// Sets the address of the available ring. `InvalidAvailRingAlign` if it is not a multiple of 2, or that of the driver's
+    /// area of a packed queue not one of 4.
     pub fn try_set_avail_ring_address(&self, avail_ring: GuestAddress) -> Result<(), QueueError> {
         self.set(part::AVAIL_RING, avail_ring.0)
     }
 
-    /// The guest address of the used ring.
+    /// The guest address of the used ring, or of the device's event suppression structure of a packed queue.
     pub fn used_ring(&self) -> u64 {
         self.state().used_ring
     }
@@ -281,29 +305,39 @@ impl<'a> Queue<'a> {
         self.set_any(part::EVENT_IDX, enabled.into());
     }
 
-    /// The index of the entry of the available ring that is popped next, modulo 2^16.
+    /// The index of the entry of the available ring that is popped next, modulo 2^16. Of a packed queue: the slot, with its
+    /// wrap counter in bit 15.
     pub fn next_avail(&self) -> u16 {
         self.state().next_avail
     }
 
-    /// Sets which entry of the available ring is popped next.
+    /// Sets which entry of the available ring is popped next. It panics if the queue is packed.
     pub fn set_next_avail(&self, next_avail: u16) {
         self.set_any(part::NEXT_AVAIL, next_avail.into());
     }
 
-    /// The index of the entry of the used ring that is written next, modulo 2^16.
+    /// The index of the entry of the used ring that is written next, modulo 2^16. Of a packed queue: the slot, with its wrap
+    /// counter in bit 15.
     pub fn next_used(&self) -> u16 {
         self.state().next_used
     }
 
     /// Sets which entry of the used ring is written next. Which entries the driver was notified of is not known then,
-    /// so the next `needs_notification` is true.
+    /// so the next `needs_notification` is true. It panics if the queue is packed.
     pub fn set_next_used(&self, next_used: u16) {
         self.set_any(part::NEXT_USED, next_used.into());
     }
 
-    /// Makes it what [`Machine::queue`] made: not ready, of the greatest size, with all else 0, and with no chain in
-    /// flight.
+    /// Sets both positions of a packed queue, as messages of vhost have them: in the low half where the next chain is
+    /// popped, in the high half where the next one is returned, each as a slot with its wrap counter in bit 15. Which slots
+    /// the driver was notified of is not known then, so the next `needs_notification` is true. `InvalidAvailRingIndex` if
+    /// the queue cannot stand there, and `OtherKind` if it is split.
+    pub fn set_vring_base(&self, base: u32) -> Result<(), QueueError> {
+        self.set(part::VRING_BASE, base.into())
+    }
+
+    /// Makes it what [`Machine::queue`] or [`Machine::packed_queue`] made: not ready, of the greatest size, at the
+    /// beginning, with no addresses, and with no chain in flight.
     pub fn reset(&self) {
         let done = self.ask(&self.call_of(kind::RESET_QUEUE));
         done.expect("the machine has the queue that it lent");
@@ -318,13 +352,14 @@ impl<'a> Queue<'a> {
         Ok(answer.value == 1)
     }
 
-    /// How many heads the driver has published, modulo 2^16.
+    /// How many heads the driver has published, modulo 2^16. `OtherKind` if the queue is packed.
     pub fn avail_idx(&self, mem: &GuestMemory<'_>) -> Result<u16, QueueError> {
         let answer = self.ask(&self.call_on(kind::AVAIL_IDX, mem))?;
         Ok(answer.value as u16)
     }
 
-    /// How many entries the device has published, modulo 2^16, as it lies in the used ring.
+    /// How many entries the device has published, modulo 2^16, as it lies in the used ring. `OtherKind` if the queue is
+    /// packed.
     pub fn used_idx(&self, mem: &GuestMemory<'_>) -> Result<u16, QueueError> {
         let answer = self.ask(&self.call_on(kind::USED_IDX, mem))?;
         Ok(answer.value as u16)
@@ -392,7 +427,7 @@ impl<'a> Queue<'a> {
         Ok(answer.value == 1)
     }
 
-    /// Asks the driver not to notify the device. With event indices it does nothing.
+    /// Asks the driver not to notify the device. With event indices it does nothing for a split queue.
     #[inline]
     pub fn disable_notification(&self, mem: &GuestMemory<'_>) -> Result<(), QueueError> {
         self.ask(&self.call_on(kind::DISABLE_NOTIFICATION, mem)).map(drop)

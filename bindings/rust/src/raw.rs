@@ -97,6 +97,7 @@ pub mod kind {
     pub const FINISH_REQUEST: u32 = 51;
     pub const IOTLB_MESSAGE: u32 = 52;
     pub const COMPLETE_CHAIN: u32 = 53;
+    pub const PACKED_QUEUE: u32 = 54;
 }
 
 /// The parts of a queue that `SET_QUEUE` sets.
@@ -110,6 +111,7 @@ pub mod part {
     pub const EVENT_IDX: usize = 5;
     pub const NEXT_AVAIL: usize = 6;
     pub const NEXT_USED: usize = 7;
+    pub const VRING_BASE: usize = 8;
 }
 
 /// What `BEGIN_REQUEST` returns: what a request asks a block device for.

@@ -68,6 +68,8 @@ struct Incoming {
 }
 
 struct Ring {
+    // Of the kind that was negotiated when it started.
+    is_packed: bool,
     kick: Option<Watched>,
     call: Option<File>,
     err: Option<File>,
@@ -105,8 +107,8 @@ pub struct Connection<'a> {
     said: (u64, u64),
     incoming: Incoming,
     memory: Option<Memory>,
-    // Of the machine of `memory`, one for each ring.
-    queues: Vec<QueueId>,
+    // Of the machine of `memory`, a split one and a packed one for each ring.
+    queues: Vec<[QueueId; 2]>,
     rings: Vec<Ring>,
     features: u64,
     channel: Option<Channel>,
@@ -369,13 +371,18 @@ impl<'a> Connection<'a> {
         let memory = Memory::new(files, self.iotlb_limit);
         let mut memory = memory.map_err(|error| End::Failed("the table of memory", error))?;
         memory.announce(&regions);
+        let failed = |error: QueueError| End::Failed("a queue", error.into());
         for ring in &mut self.rings {
-            let queue = memory.machine().queue(features::MAX_QUEUE_SIZE, MAX_CHAIN);
-            let queue = queue.map_err(|error| End::Failed("a queue", error.into()))?;
+            let machine = memory.machine();
+            let split = machine.queue(features::MAX_QUEUE_SIZE, MAX_CHAIN).map_err(failed)?;
+            let packed = machine
+                .packed_queue(features::MAX_QUEUE_SIZE, MAX_CHAIN)
+                .map_err(failed)?;
             if let Some(state) = ring.kept.take().filter(|_| ring.is_set_up) {
-                take_state(&queue, &state).map_err(|error| End::Failed("a queue", error.into()))?;
+                let queue = if ring.is_packed { &packed } else { &split };
+                take_state(queue, &state, ring.is_packed).map_err(failed)?;
             }
-            self.queues.push(queue.id());
+            self.queues.push([split.id(), packed.id()]);
         }
         self.memory = Some(memory);
         Ok(())
@@ -456,7 +463,14 @@ impl<'a> Connection<'a> {
             if let Some(queue) = self.queue(index) {
                 let head = queue.chain_by_id(id).head_index();
                 queue.forget(head).expect("its chain is in flight");
-                queue.set_next_avail(queue.next_avail().wrapping_sub(1));
+                if self.rings[index].is_packed {
+                    // Nothing else is in flight: it began where the next one is returned.
+                    let used = u32::from(queue.next_used());
+                    let done = queue.set_vring_base(used | used << 16);
+                    done.expect("with nothing out a queue stands at any of its slots");
+                } else {
+                    queue.set_next_avail(queue.next_avail().wrapping_sub(1));
+                }
             }
         }
         if self.waiting.as_ref().is_some_and(|it| it.ring == index) {
@@ -467,7 +481,11 @@ impl<'a> Connection<'a> {
     }
 
     fn queue(&self, index: usize) -> Option<Queue<'_>> {
-        self.memory.as_ref()?.machine().queue_by_id(*self.queues.get(index)?)
+        let kind = usize::from(self.rings.get(index)?.is_packed);
+        self.memory
+            .as_ref()?
+            .machine()
+            .queue_by_id(self.queues.get(index)?[kind])
     }
 
     // The ring stops, and its next available index is told. Without a ring the device is stopped, and its table empty.
@@ -475,10 +493,15 @@ impl<'a> Connection<'a> {
         let ring = index as usize;
         self.give_back(ring);
         if self.rings[ring].is_set_up {
-            let kept = self.rings[ring].kept.map(|it| it.next_avail);
-            if let Some(base) = self.queue(ring).map(|it| it.next_avail()).or(kept) {
-                let told = self.backend.stop(index, base.into());
-                told.expect("the ring is there, and this is one of its indices");
+            let is_packed = self.rings[ring].is_packed;
+            if let Some(state) = self.queue(ring).map(|it| it.state()).or(self.rings[ring].kept) {
+                let base = if is_packed {
+                    state.vring_base()
+                } else {
+                    state.next_avail.into()
+                };
+                let told = self.backend.stop(index, base);
+                told.expect("the ring is there, and it can go on from there");
             }
         }
         let ring = &mut self.rings[ring];
@@ -495,6 +518,10 @@ impl<'a> Connection<'a> {
 
     // Asks the protocol's state whether a ring is to be served and where it lies, and sets its queue up if it was started.
     fn refresh(&mut self, index: usize) -> Result<(), End> {
+        let starts = !self.rings[index].is_set_up;
+        if starts {
+            self.rings[index].is_packed = self.features & features::RING_PACKED != 0;
+        }
         let running = match (self.backend.running(index as u32), self.queue(index)) {
             (Ok(vring), Some(queue)) => Some((vring, queue)),
             _ => None,
@@ -504,18 +531,27 @@ impl<'a> Connection<'a> {
             self.give_back(index);
             return Ok(());
         };
-        let starts = !self.rings[index].is_set_up;
         if self.rings[index].is_broken && !starts {
             return Ok(());
         }
-        let set = set_up(&queue, &vring, self.features & features::EVENT_IDX != 0, starts);
+        let is_packed = self.rings[index].is_packed;
+        let event_idx = self.features & features::EVENT_IDX != 0;
+        let set = set_up(&queue, &vring, is_packed, event_idx, starts);
         if starts {
             self.say_negotiated();
-            say!(
-                "ring {index} started: {} descriptors, next available index {}",
-                vring.size,
-                vring.base
-            );
+            if is_packed {
+                say!(
+                    "ring {index} started: {} descriptors, packed, base {:#x}",
+                    vring.size,
+                    vring.base
+                );
+            } else {
+                say!(
+                    "ring {index} started: {} descriptors, next available index {}",
+                    vring.size,
+                    vring.base
+                );
+            }
         }
         let ring = &mut self.rings[index];
         if starts {
@@ -543,7 +579,8 @@ impl<'a> Connection<'a> {
     // Serves a turn of a ring.
     fn serve(&mut self, index: usize) -> Result<(), End> {
         let memory = self.memory.as_ref().expect("a ring that runs has a memory");
-        let queue = memory.machine().queue_by_id(self.queues[index]);
+        let is_packed = self.rings[index].is_packed;
+        let queue = memory.machine().queue_by_id(self.queues[index][usize::from(is_packed)]);
         let is_translated = self.features & features::ACCESS_PLATFORM != 0;
         let logger = self.log.as_ref().filter(|_| self.is_logging).map(|log| Logger {
             backend: &self.backend,
@@ -552,6 +589,7 @@ impl<'a> Connection<'a> {
         });
         let at = Place {
             queue: queue.expect("the machine has the queue that it made"),
+            is_packed,
             memory,
             guest: memory.guest(is_translated),
             terms: self.server.terms(self.features),
@@ -574,7 +612,9 @@ impl<'a> Connection<'a> {
         let turned = self.server.turn(&at, &mut ring.step, &mut forbidden);
         // Before any message, which may change where the addresses lead.
         if let (Some(logger), Ok(vring)) = (&logger, self.backend.running(index as u32)) {
-            let marked = logger.wrote_ring(memory, &vring).and_then(|()| logger.take(memory));
+            let marked = logger
+                .wrote_ring(memory, &vring, is_packed)
+                .and_then(|()| logger.take(memory));
             marked.map_err(|refusal| End::Failed("the log", refusal.into()))?;
         }
         if memory.is_lost() {
@@ -614,6 +654,7 @@ impl Incoming {
 impl Ring {
     fn new() -> Ring {
         Ring {
+            is_packed: false,
             kick: None,
             call: None,
             err: None,
@@ -666,12 +707,16 @@ fn file_of(descriptor: Option<OwnedFd>) -> io::Result<Option<File>> {
 }
 
 // Gives a queue the addresses of a ring, and if it starts also its size and where it begins.
-fn set_up(queue: &Queue<'_>, vring: &Vring, event_idx: bool, starts: bool) -> Result<(), QueueError> {
+fn set_up(queue: &Queue<'_>, vring: &Vring, is_packed: bool, event_idx: bool, starts: bool) -> Result<(), QueueError> {
     if starts {
         queue.reset();
         queue.set_size(vring.size.try_into().map_err(|_| QueueError::InvalidSize)?)?;
         queue.set_event_idx(event_idx);
-        queue.set_next_avail(vring.base as u16);
+        if is_packed {
+            queue.set_vring_base(vring.base)?;
+        } else {
+            queue.set_next_avail(vring.base as u16);
+        }
     }
     queue.try_set_desc_table_address(GuestAddress(vring.descriptor))?;
     queue.try_set_avail_ring_address(GuestAddress(vring.available))?;
@@ -690,13 +735,16 @@ fn unreached(miss: Miss) -> QueueError {
 }
 
 // Makes a queue go on where another one was.
-fn take_state(queue: &Queue<'_>, state: &QueueState) -> Result<(), QueueError> {
+fn take_state(queue: &Queue<'_>, state: &QueueState, is_packed: bool) -> Result<(), QueueError> {
     queue.set_size(state.size)?;
     queue.try_set_desc_table_address(GuestAddress(state.desc_table))?;
     queue.try_set_avail_ring_address(GuestAddress(state.avail_ring))?;
     queue.try_set_used_ring_address(GuestAddress(state.used_ring))?;
     queue.set_event_idx(state.event_idx_enabled);
     queue.set_ready(state.ready);
+    if is_packed {
+        return queue.set_vring_base(state.vring_base());
+    }
     queue.set_next_avail(state.next_avail);
     queue.set_next_used(state.next_used);
     Ok(())

@@ -18,11 +18,14 @@ pub const LOG_ALL: u64 = 1 << 26;
 /// Rings and buffers have I/O addresses.
 pub const ACCESS_PLATFORM: u64 = 1 << 33;
 
+/// Rings are packed.
+pub const RING_PACKED: u64 = 1 << 34;
+
 const RO: u64 = 1 << 5;
 const FLUSH: u64 = 1 << 9;
 const MQ: u64 = 1 << 12;
 
-const FEATURES: [(u64, &str); 11] = [
+const FEATURES: [(u64, &str); 12] = [
     (1 << 2, "SEG_MAX"),
     (RO, "RO"),
     (1 << 6, "BLK_SIZE"),
@@ -34,6 +37,7 @@ const FEATURES: [(u64, &str); 11] = [
     (1 << 30, "PROTOCOL_FEATURES"),
     (1 << 32, "VERSION_1"),
     (ACCESS_PLATFORM, "ACCESS_PLATFORM"),
+    (RING_PACKED, "RING_PACKED"),
 ];
 
 const PROTOCOL_FEATURES: [(u64, &str); 5] = [

@@ -78,16 +78,17 @@ impl Logger<'_> {
         }
     }
 
-    /// Marks the used ring, by the addresses that it has and the ones that it has in the log.
-    pub fn wrote_ring(&self, memory: &Memory, vring: &Vring) -> Result<(), Refusal> {
-        for address in [Some(vring.used), vring.log.filter(|it| *it != vring.used)]
-            .into_iter()
-            .flatten()
-        {
+    /// Marks the used ring, by the addresses that it has and the ones that it has in the log, and of a packed ring the
+    /// descriptors, too.
+    pub fn wrote_ring(&self, memory: &Memory, vring: &Vring, is_packed: bool) -> Result<(), Refusal> {
+        let used = Some((vring.used, vring.used_len));
+        let in_log = vring.log.filter(|it| *it != vring.used).map(|it| (it, vring.used_len));
+        let ring = is_packed.then_some((vring.descriptor, 16 * u64::from(vring.size)));
+        for (address, len) in [used, in_log, ring].into_iter().flatten() {
             if self.is_translated {
-                memory.mark_mapped(address, vring.used_len as usize);
+                memory.mark_mapped(address, len as usize);
             } else {
-                self.mark(address, vring.used_len)?;
+                self.mark(address, len)?;
             }
         }
         Ok(())

@@ -125,6 +125,7 @@ impl Step {
 #[derive(Clone, Copy)]
 pub struct Place<'a> {
     pub queue: Queue<'a>,
+    pub is_packed: bool,
     pub memory: &'a Memory,
     pub guest: GuestMemory<'a>,
     pub terms: Terms,
@@ -203,6 +204,8 @@ impl<'a> Server<'a> {
     fn next(&mut self, at: &Place<'_>, step: Step, left: &mut usize) -> Result<Next, Fault> {
         let (queue, guest) = (&at.queue, &at.guest);
         Ok(Next::Step(match step {
+            // That of a packed ring is known from the start.
+            Step::Start if at.is_packed => Step::Disable,
             Step::Start => {
                 queue.set_next_used(queue.used_idx(guest)?);
                 Step::Disable

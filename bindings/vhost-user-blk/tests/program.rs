@@ -73,7 +73,7 @@ fn a_large_image_is_written_in_place() {
 fn the_configuration_tells_the_disk() {
     let program = Program::start("configuration", LEN, &["--queues", "3"]);
     let mut front = program.connect();
-    assert_eq!(front.ask_u64(GET_FEATURES), 0x3_7400_1244);
+    assert_eq!(front.ask_u64(GET_FEATURES), 0x7_7400_1244);
     assert_eq!(front.ask_u64(GET_PROTOCOL_FEATURES), 0x22b);
     front.negotiate(USUAL | 1 << 12);
     assert_eq!(front.ask_u64(GET_QUEUE_NUM), 3);

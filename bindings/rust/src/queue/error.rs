@@ -66,6 +66,8 @@ pub enum QueueError {
     TooMany,
     /// No chain of this head is in flight.
     NotInFlight,
+    /// A packed queue was asked for what only a split one has, or a split one for what only a packed one has.
+    OtherKind,
     /// An access of guest memory was refused.
     GuestMemory(GuestMemoryError),
     /// An allocation failed.
@@ -93,6 +95,7 @@ impl fmt::Display for QueueError {
             QueueError::InFlight => "the chain of this head is in flight",
             QueueError::TooMany => "too many descriptors in flight",
             QueueError::NotInFlight => "no chain of this head is in flight",
+            QueueError::OtherKind => "queue is of the other kind",
             QueueError::GuestMemory(error) => return error.fmt(f),
             QueueError::Memory => "out of memory",
         })
@@ -135,6 +138,7 @@ pub(super) fn refusal_of(answer: &Answer) -> QueueError {
         code::IN_FLIGHT => QueueError::InFlight,
         code::TOO_MANY => QueueError::TooMany,
         code::NOT_IN_FLIGHT => QueueError::NotInFlight,
+        code::BAD_CALL => QueueError::OtherKind,
         _ => match error_of(answer) {
             Some(MachineError::GuestMemory(GuestMemoryError::Memory)) => QueueError::Memory,
             Some(MachineError::GuestMemory(error)) => QueueError::GuestMemory(error),

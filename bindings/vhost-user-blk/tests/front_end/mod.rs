@@ -43,6 +43,7 @@ pub const EVENT_IDX: u64 = 1 << 29;
 pub const PROTOCOL_FEATURES: u64 = 1 << 30;
 pub const VERSION_1: u64 = 1 << 32;
 pub const ACCESS_PLATFORM: u64 = 1 << 33;
+pub const RING_PACKED: u64 = 1 << 34;
 pub const LOG_ALL: u64 = 1 << 26;
 pub const USUAL: u64 = FLUSH | INDIRECT_DESC | PROTOCOL_FEATURES | VERSION_1;
 
@@ -93,7 +94,7 @@ impl Program {
         let mut line = String::new();
         lines.read_line(&mut line).unwrap();
         assert!(line.contains("sectors"), "{line}");
-        std::thread::spawn(move || std::io::copy(&mut lines, &mut std::io::sink()));
+        std::thread::spawn(move || std::io::copy(&mut lines, &mut std::io::stderr()));
         Program {
             child,
             folder: folder.to_owned(),
@@ -501,9 +502,31 @@ impl FrontEnd {
 
     /// Starts a ring that was stopped.
     pub fn restart_ring(&mut self, index: usize, base: u16) {
+        self.restart_at(index, base.into());
+    }
+
+    /// Starts a packed ring of `size` descriptors at a base of 32 bits. The rings before it are started.
+    pub fn start_packed_ring(&mut self, size: u16, base: u32) -> usize {
+        let index = self.rings.len();
+        self.rings.push(Ring {
+            kick: eventfd(),
+            call: eventfd(),
+            err: eventfd(),
+            size,
+            next_avail: 0,
+            next_used: 0,
+            base: RING * (index as u64 + 1),
+        });
+        self.write(self.rings[index].base as usize, &[0; 0x8000]);
+        self.restart_at(index, base);
+        index
+    }
+
+    /// Starts a ring that was stopped.
+    pub fn restart_at(&mut self, index: usize, base: u32) {
         let (number, size) = (index as u32, self.rings[index].size);
         assert!(self.is_done(SET_VRING_NUM, &two(number, size.into()), &[]));
-        assert!(self.is_done(SET_VRING_BASE, &two(number, base.into()), &[]));
+        assert!(self.is_done(SET_VRING_BASE, &two(number, base), &[]));
         assert!(self.is_done(SET_VRING_ADDR, &self.addresses(index, false), &[]));
         let value = u64::from(number).to_le_bytes();
         let [kick, call, err] = [&self.rings[index].kick, &self.rings[index].call, &self.rings[index].err].map(again);
@@ -529,6 +552,12 @@ impl FrontEnd {
             &log,
         ]
         .concat()
+    }
+
+    /// Where its descriptors lie, and of a packed ring the driver's and the device's event suppression.
+    pub fn parts(&self, index: usize) -> (usize, usize, usize) {
+        let base = self.rings[index].base;
+        (base as usize, (base + AVAIL) as usize, (base + USED) as usize)
     }
 
     /// The guest address of the used ring.
