@@ -596,8 +596,12 @@ impl<'a> Connection<'a> {
             logger,
         };
         let ring = &mut self.rings[index];
-        let refused = self.waiting.take().filter(|it| it.is_refused);
-        if let Some(waiting) = refused {
+        let waited = self.waiting.take();
+        if waited.is_none() {
+            // A notification that comes in the middle of the turn, while that waits, is for the next one.
+            ring.has_more = false;
+        }
+        if let Some(waiting) = waited.filter(|it| it.is_refused) {
             match self.server.failed(ring.step, unreached(waiting.miss)) {
                 Ok(step) => ring.step = step,
                 Err(_) => {
@@ -622,7 +626,7 @@ impl<'a> Connection<'a> {
         }
         match turned {
             Ok(Turn::Over { more, interrupt }) => {
-                ring.has_more = more;
+                ring.has_more |= more;
                 if interrupt {
                     ring.interrupt();
                 }

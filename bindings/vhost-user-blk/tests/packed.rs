@@ -506,6 +506,25 @@ fn a_ring_that_waits_can_be_stopped() {
     }
 }
 
+#[test]
+fn a_notification_while_it_waits_is_not_lost() {
+    let program = Program::start("packed_notified", LEN, &[]);
+    let mut driver = Driver::start(&program, PACKED | ACCESS_PLATFORM, 8);
+    // The first interrupt needs no look at the driver's area, so that this is not mapped yet.
+    driver.request(0, 0, 1, 512);
+    driver.settle(&program);
+    for id in 1..3 {
+        let chain = driver.chain(0, 0, 1, 512);
+        driver.publish(id, &chain);
+        driver.kick();
+        program.rest();
+    }
+    // The first of both is back, and the turn waits for that mapping.
+    assert!(driver.is_back());
+    assert_eq!(driver.take(), (1, 513));
+    assert_eq!(driver.take(), (2, 513));
+}
+
 // The pages that are marked in a log, which are cleared.
 fn taken(log: &OwnedFd) -> BTreeSet<u64> {
     let mut bytes = [0; RAM / PAGE as usize / 8];
@@ -519,7 +538,6 @@ fn taken(log: &OwnedFd) -> BTreeSet<u64> {
 #[test]
 fn the_pages_that_are_written_are_marked() {
     for table in [0, ACCESS_PLATFORM] {
-        eprintln!("table {table:#x}");
         let program = Program::start(&format!("packed_log_{table}"), LEN, &[]);
         let features = PACKED | table;
         let mut driver = Driver::start(&program, features, 64);

@@ -94,7 +94,7 @@ impl Program {
         let mut line = String::new();
         lines.read_line(&mut line).unwrap();
         assert!(line.contains("sectors"), "{line}");
-        std::thread::spawn(move || std::io::copy(&mut lines, &mut std::io::stderr()));
+        std::thread::spawn(move || std::io::copy(&mut lines, &mut std::io::sink()));
         Program {
             child,
             folder: folder.to_owned(),
