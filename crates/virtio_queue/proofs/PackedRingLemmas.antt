@@ -1,5 +1,5 @@
 -- What a device writes into a packed ring, and what it finds there.
-use Rattle.std.proofs.Common.{◌≡◌, ◌∙◌, ℕ, ◌+◌, ◌*◌, true, false, List, [], ◌∷◌, Option, Some, None, Result, Ok, Err, ap, inl, inr, refl, sym}
+use Rattle.std.proofs.Common.{◌≡◌, ◌∙◌, ℕ, ◌+◌, ◌*◌, true, false, List, [], ◌∷◌, Option, Some, None, Result, Ok, Err, ap, inl, inr, refl, subst, sym}
 use Rattle.std.specs.Int.{w16, from_le_bytes, to_le_bytes}
 use Rattle.vm_memory_base.specs.declared.iotlb.Permissions.TheVariants as permissions
 use Rattle.vm_memory_device.specs.declared.chain.Segment.{Segment}
@@ -10,7 +10,7 @@ use Rattle.vm_memory_guest.specs.Typed.{answered, place_of, typed_path}
 use Rattle.vm_memory_guest.specs.Window.{Window, Writes, cells_of}
 use Rattle.virtio_queue.specs.Fields.{Answers, MayWant, WritesBytes, reached_at, stored_at, window_at, word_at, word_window}
 use Rattle.virtio_queue.specs.Packed.{to_bits}
-use Rattle.virtio_queue.specs.PackedEvents.{EnablesIfReady, MayWantKick, Waits, kick_flags, kick_places}
+use Rattle.virtio_queue.specs.PackedEvents.{AreApart, EnablesIfReady, MayWantKick, Waits, kick_flags, kick_places}
 use Rattle.virtio_queue.specs.PackedRing.{MayWantChain, MayWantSegments, has_next, if_next, is_available, next_chain, popped}
 use Rattle.virtio_queue.specs.PackedUsed.{AddsUsed, rest_bytes, rest_place, used_flags, used_places}
 use Rattle.virtio_queue.specs.Rings.{and_then}
@@ -73,6 +73,15 @@ module _ {B : Type 0} (m : Memory) (host : Host B) (q : PackedState) where
   kick_found offset flags next is = three_found (word_window m host q.device_area 0)
       (word_window m host q.device_area 2)
       (window_at m host q.desc_ring (16 * q.next_avail.slot + 14) permissions.Read) offset flags next is
+
+  -- the fields lie apart, by whichever names their windows are found
+  pub apart_of : (offset flags w v : Window) → word_window m host q.device_area 0 ≡ Ok offset
+      → word_window m host q.device_area 2 ≡ Ok flags → word_window m host q.device_area 0 ≡ Ok w
+      → word_window m host q.device_area 2 ≡ Ok v → AreApart w v → AreApart offset flags
+  apart_of offset flags w v one two is also apart =
+      let first : w ≡ offset = let e : ◌≡◌ {A = Result Window QueueError} (Ok w) (Ok offset) = sym is ∙ one in cc in
+      let second : v ≡ flags = let e : ◌≡◌ {A = Result Window QueueError} (Ok v) (Ok flags) = sym also ∙ two in cc in
+      subst (λ (x : Window). AreApart x flags) first (subst (λ (x : Window). AreApart w x) second apart)
 
 three_refused : {X Y Z : Type 0} (r : Result X QueueError) (s : Result Y QueueError) (t : Result Z QueueError) (x : X)
     (y : Y) (e : QueueError) → r ≡ Ok x → s ≡ Ok y → t ≡ Err e

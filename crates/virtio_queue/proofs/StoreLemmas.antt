@@ -1,7 +1,7 @@
 -- Numbers that were stored lie where they were stored.
-use Rattle.std.proofs.Common.{◌≡◌, ◌≢◌, ◌∙◌, ℕ, zero, suc, ◌+◌, ◌%◌, ◌^◌, ◌<◌, ◌≤◌, nat_lt, ◌&&◌, ◌==◌, Bool, true, false, if◌then◌else◌, MatchBool, List, [], ◌∷◌, map, flat_map, length, get_or, slice_get, Option, Some, None, option_map, Result, Ok, Err, All, refl, ap, subst, arith, append-nil}
+use Rattle.std.proofs.Common.{◌≡◌, ◌≢◌, ◌∙◌, ℕ, zero, suc, ◌+◌, ◌%◌, ◌^◌, ◌<◌, ◌≤◌, nat_lt, ◌&&◌, ◌==◌, Bool, true, false, if◌then◌else◌, MatchBool, List, [], ◌∷◌, map, flat_map, length, get_or, slice_get, Option, Some, None, option_map, Result, Ok, Err, All, Contains, refl, sym, ap, ap₂, subst, arith, append-nil}
 use Rattle.std.proofs.lemmas.Bool.{eqb-true}
-use Rattle.std.proofs.lemmas.List.Elements.{All-head, All-nil, All-cons}
+use Rattle.std.proofs.lemmas.List.Elements.{All-head, All-tail, All-nil, All-cons}
 use Rattle.std.proofs.lemmas.List.Kept.{AllPairs-cons}
 use Rattle.std.proofs.lemmas.Nat.{from_le_bytes-to_le_bytes_2}
 use Rattle.std.specs.List.{AllPairs}
@@ -14,7 +14,7 @@ use Rattle.vm_memory_base.specs.declared.bitmap.BitmapId.TheVariants.{Block, Spa
 use Rattle.vm_memory_guest.specs.Access.{Access, access_of, first_fault, meets, path, refusal, stretches, windows}
 use Rattle.vm_memory_guest.specs.Host as host
 use Rattle.vm_memory_guest.specs.Error.{error_of}
-use Rattle.vm_memory_guest.specs.Host.{Cell, Host, Shape, Holds, block_at, bytes_at, cells_from, shape_of, written}
+use Rattle.vm_memory_guest.specs.Host.{Cell, Host, Shape, Holds, block_at, byte_at, bytes_at, cells_from, shape_of, written}
 use Rattle.vm_memory_guest.specs.Memory.{Direct, Memory, Switched, Through, Translation, behind_if, behind_of, route, route_behind, says_of, switched_names}
 use Rattle.vm_memory_guest.specs.Region.{Region, IsRegion, region_names}
 use Rattle.vm_memory_guest.specs.Typed.{first_aligned, place_of}
@@ -173,3 +173,39 @@ module _ {B : Type 0} (marks : B → ℕ → ℕ → B → Type 0) (m : Memory) 
       Ok (from_le_bytes w16 (bytes_at new.blocks (cells_of w))))) same
       ∙ ap (λ bs. Ok (from_le_bytes w16 bs)) (in_cells w held size writes)
       ∙ ap Ok (from_le_bytes-to_le_bytes_2 value small)
+
+-- ---- what stays where something else is written
+
+module _ {B : Type 0} (marks : B → ℕ → ℕ → B → Type 0) (m : Memory) (base offset : ℕ) (old new : Host B)
+    (stay : (cells : List Cell) (bytes : List ℕ) (blocks : List (List ℕ)) (cell : Cell)
+    → (Contains cells cell → ⊥) → byte_at (written cells bytes blocks) cell ≡ byte_at blocks cell) where
+  -- bytes at other cells
+  bytes_stay : (written_to : List Cell) (bytes : List ℕ) (cs : List Cell)
+      → All (λ (c : Cell). Contains written_to c → ⊥) cs
+      → bytes_at (written written_to bytes old.blocks) cs ≡ bytes_at old.blocks cs
+  bytes_stay written_to bytes [] apart = refl
+  bytes_stay written_to bytes (c ∷ cs) apart =
+      ap₂ (λ (x : ℕ) (xs : List ℕ). x ∷ xs)
+      (stay written_to bytes old.blocks c (All-head (λ (c : Cell). Contains written_to c → ⊥) c cs apart))
+      (bytes_stay written_to bytes cs (All-tail (λ (c : Cell). Contains written_to c → ⊥) c cs apart))
+
+  -- a number stays if another window is written
+  pub stored_stays : (w v : Window) (bytes : List ℕ) → word_window m old base offset ≡ Ok w
+      → All (λ (c : Cell). Contains (cells_of v) c → ⊥) (cells_of w) → new.tables ≡ old.tables
+      → Writes marks (v ∷ []) bytes old new → stored_at m new base offset ≡ stored_at m old base offset
+  stored_stays w v bytes is apart tables (mid, marked, same) =
+      let window = λ (ts : List Table). and_then (place base offset 2) (λ a.
+      told (place_of 2 (access_of m.regions (route m ts) a 2 permissions.Write))) in
+      let there : word_window m new base offset ≡ Ok w = ap window tables ∙ is in
+      let blocks : new.blocks ≡ written (cells (v ∷ [])) bytes old.blocks =
+      ap (λ (x : Host B). x.blocks) same
+      ∙ marks_blocks marks v (record old { blocks = written (cells (v ∷ [])) bytes old.blocks }) mid marked in
+      let one : cells (v ∷ []) ≡ cells_of v = append-nil (cells_of v) in
+      let lies : bytes_at new.blocks (cells_of w) ≡ bytes_at old.blocks (cells_of w) =
+      ap (λ bs. bytes_at bs (cells_of w)) (blocks ∙ ap (λ cs. written cs bytes old.blocks) one)
+      ∙ bytes_stay (cells_of v) bytes (cells_of w) apart in
+      ap (λ (r : Result Window QueueError). and_then r (λ w.
+      Ok (from_le_bytes w16 (bytes_at new.blocks (cells_of w))))) there
+      ∙ (ap (λ bs. Ok (from_le_bytes w16 bs)) lies
+      ∙ ap (λ (r : Result Window QueueError). and_then r (λ w.
+      Ok (from_le_bytes w16 (bytes_at old.blocks (cells_of w))))) (sym is))

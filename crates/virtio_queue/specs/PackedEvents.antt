@@ -1,10 +1,10 @@
 -- Notifications of packed queues: the event suppression structures, of 4 bytes each. The first 16 bits are an offset
 -- with its wrap counter, and the others are flags.
-use Rattle.std.specs.Prelude.{◌≡◌, ℕ, ◌+◌, ◌-◌, ◌*◌, ◌%◌, nat_lt, nat_le, Bool, true, false, not, ◌==◌, ◌&&◌, ◌||◌, if◌then◌else◌, Option, Some, None, Result, Ok, Err, MatchBool, MatchResult}
+use Rattle.std.specs.Prelude.{◌≡◌, ℕ, ◌+◌, ◌-◌, ◌*◌, ◌%◌, nat_lt, nat_le, Bool, true, false, not, ◌==◌, ◌&&◌, ◌||◌, if◌then◌else◌, Option, Some, None, All, Contains, Result, Ok, Err, MatchBool, MatchResult}
 use Rattle.vm_memory_base.specs.declared.iotlb.Permissions.TheVariants as permissions
 use Rattle.vm_memory_guest.specs.Host.{Host}
 use Rattle.vm_memory_guest.specs.Memory.{Memory}
-use Rattle.vm_memory_guest.specs.Window.{Window}
+use Rattle.vm_memory_guest.specs.Window.{Window, cells_of}
 use Rattle.virtio_queue.specs.Fields.{stored_at, window_at, word_at, word_window, MayWant, Refuses, StoresWord}
 use Rattle.virtio_queue.specs.Packed.{PackedVirtqueue, of_bits, to_bits}
 use Rattle.virtio_queue.specs.PackedRing.{has_next}
@@ -88,6 +88,17 @@ MayWantKick m host q = WantsThen (MayWant m host q.device_area 0 2 permissions.W
 pub record Waits {B : Type 0} (m : Memory) (host : Host B) (q : PackedState) : Type 0 where
   pub asks : stored_at m host q.device_area 2 ≡ Ok (kick_flags q)
   pub none : has_next m host q ≡ Ok false
+
+-- no byte is in both windows
+abbrev pub AreApart : Window → Window → Type 0
+AreApart w v = All (λ c. Contains (cells_of v) c → ⊥) (cells_of w)
+
+-- the driver finds in memory which slot the device waits for. Where an IOMMU leads both fields to the same bytes, it finds
+-- the one that was written last
+abbrev pub Offers : {B : Type 0} → Memory → Host B → Host B → PackedState → Type 0
+Offers m old new q = (w v : Window) → word_window m old q.device_area 0 ≡ Ok w
+    → word_window m old q.device_area 2 ≡ Ok v → AreApart w v
+    → stored_at m new q.device_area 0 ≡ Ok (to_bits q.next_avail)
 
 module _ {B : Type 0} (marks : B → ℕ → ℕ → B → Type 0) (m : Memory) (q : PackedState) where
   -- the offset was written, and then the flags, and then whether there is a chain by now is returned. Or one of the

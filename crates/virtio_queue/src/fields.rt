@@ -59,7 +59,7 @@ pub(crate) fn load_word<M: GuestMemory, B: Bitmap>(
 }
 
 // Reads the descriptor of this index in a table.
-#[inline]
+#[inline(always)]
 pub(crate) fn descriptor_at<M: GuestMemory, B: Bitmap>(
     mem: &M,
     host: &HostMemory<B>,

@@ -41,6 +41,7 @@ impl PackedQueue {
     ///
     /// The first thing that is wrong is refused, in the order of README.md, "Packed queues". After an error a device
     /// has to be reset: the next call finds the same error as long as the driver leaves it there.
+    #[inline(never)]
     pub fn pop_descriptor_chain<M: GuestMemory, B: Bitmap>(
         &mut self,
         alloc: Global,

@@ -3,7 +3,7 @@ ghost use Rattle.std.specs.Prelude.{◌≡◌, ◌*◌, ◌<◌, ◌≤◌, ◌^
 ghost use Rattle.vm_memory_guest.specs.Host.{shape_of, Holds};
 ghost use Rattle.vm_memory_guest.specs.Window.{window_names};
 ghost use Rattle.virtio_queue.specs.Fields.{Answers, is_word, stored_at};
-ghost use Rattle.virtio_queue.specs.PackedEvents.{Disables, EnablesIfReady, MayWantEvent, MayWantKick, MayWantNeeds, Waits, after_asked, count_of, is_passed, kick_flags, kick_places, needs_notification, wants_by_offset, wants_notification};
+ghost use Rattle.virtio_queue.specs.PackedEvents.{Disables, EnablesIfReady, MayWantEvent, MayWantKick, MayWantNeeds, Offers, Waits, after_asked, count_of, is_passed, kick_flags, kick_places, needs_notification, wants_by_offset, wants_notification};
 
 use super::PackedQueue;
 use super::descriptor::is_available;
@@ -13,7 +13,7 @@ use crate::error::QueueError;
 use crate::fields::{load_in, load_word, store_in, store_word, window_at};
 use crate::queue::BarrierWord;
 use vm_memory_base::{Bitmap, Permissions};
-use vm_memory_guest::laws::effects::{writes_keep_shapes, written_is_read_back};
+use vm_memory_guest::laws::effects::{other_bytes_stay, writes_keep_shapes, written_is_read_back};
 use vm_memory_guest::laws::typed::loads_and_stores_are_by_bytes;
 use vm_memory_guest::{GuestMemory, HostMemory, VolatileSlice};
 
@@ -153,6 +153,7 @@ impl PackedQueue {
     ) -> Result<bool, QueueError>
         requires { Holds (shape_of host.old) (M.names mem.now) }
         ensures enabled { EnablesIfReady B.marks (M.memory mem.now) self.now.state host.old result host.new }
+        ensures offers { OnOk result (Offers (M.memory mem.now) host.old host.new self.now.state) }
         ensures waits { result ≡ Ok false → Waits (M.memory mem.now) host.new self.now.state }
         ensures shape { shape_of host.new ≡ shape_of host.old }
     {
@@ -160,6 +161,7 @@ impl PackedQueue {
             return Err(QueueError::QueueNotReady);
         }
         written_is_read_back();
+        other_bytes_stay();
         writes_keep_shapes::<B>();
         loads_and_stores_are_by_bytes::<()>();
         let state = &self.state;
