@@ -5,11 +5,12 @@ use crate::digests::{read_digests, send_digests};
 use crate::guest::{Host, digests_of};
 use crate::report::{Came, micros_since, tell_came, tell_left};
 use anyhow::{Result, anyhow, bail};
-use live_migration::{Guest, Receiver, Refusal, Reply, Stage};
+use live_migration::{Destination, Guest, Refusal, Reply, Stage};
 use std::alloc::Global;
 use std::io::{BufReader, Write};
 use std::net::TcpStream;
 use std::time::{Clock, Instant};
+use vm_memory_base::ExclusiveBitmap;
 
 // How many bytes are read ahead.
 const AHEAD: usize = 0x1_0000;
@@ -37,10 +38,9 @@ pub struct TwoDigests {
 struct ReceivingEnd<'a, R> {
     rt: &'a R,
     tells: bool,
-    host: Host,
     reader: BufReader<Connection<'a, R>>,
     writer: Connection<'a, R>,
-    receiver: Receiver,
+    destination: Destination<ExclusiveBitmap>,
     rounds: u64,
     frames: u64,
     round: Round,
@@ -87,10 +87,9 @@ fn begin<'a, R: Clock>(
     let connection = Connection::new(rt, stream, PATIENCE)?;
     let mut reader = BufReader::with_capacity(alloc, AHEAD, connection)?;
     let mut writer = Connection::new(rt, stream, PATIENCE)?;
-    let mut host = Host::new(alloc);
-    let receiver = match Receiver::begin(alloc, &mut reader, &mut host, limit) {
-        Ok(receiver) => receiver,
-        Err(refusal) => return Err(refuse(&reader, &mut writer, refusal)),
+    let destination = match Destination::begin(alloc, &mut reader, Host::new(alloc), limit) {
+        Ok(destination) => destination,
+        Err((refusal, _)) => return Err(refuse(&reader, &mut writer, refusal)),
     };
     writer.allow(PATIENCE)?;
     writer.write_all(&Reply::Ready.encode())?;
@@ -101,8 +100,7 @@ fn begin<'a, R: Clock>(
         tells,
         reader,
         writer,
-        host,
-        receiver,
+        destination,
         rounds: 0,
         frames: 0,
         round: Round {
@@ -119,7 +117,7 @@ impl<'a, R: Clock + Print> ReceivingEnd<'a, R> {
     // Takes the next frame, which has its time as a whole.
     fn take(&mut self) -> Result<Stage, Refusal> {
         self.reader.get_mut().allow_once_awaited(PATIENCE);
-        self.receiver.take(&mut self.reader, &mut self.host)
+        self.destination.take(&mut self.reader)
     }
 
     // What came of this round.
@@ -145,7 +143,13 @@ impl<'a, R: Clock + Print> ReceivingEnd<'a, R> {
             let came = self.came()?;
             tell_came(self.rt, came, false)?;
             if self.rounds == 0 {
-                tell_left(self.rt, self.receiver.memory().saturating_sub(came.bytes))?;
+                tell_left(
+                    self.rt,
+                    self.destination
+                        .receiver()
+                        .memory()
+                        .saturating_sub(came.bytes),
+                )?;
             }
         }
         Ok(())
@@ -196,14 +200,14 @@ impl<'a, R: Clock + Print> ReceivingEnd<'a, R> {
     // The guest, if there is leave to run it.
     fn hand_out(self) -> Received<'a, R> {
         let ReceivingEnd {
-            host,
             reader,
             writer,
-            receiver,
+            destination,
             rounds,
             frames,
             ..
         } = self;
+        let (receiver, host) = destination.into_parts();
         Received {
             guest: receiver.into_guest().ok(),
             rounds,

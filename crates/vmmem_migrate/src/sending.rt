@@ -86,7 +86,7 @@ impl<'a, R: Clock + Print + Wait> SendingEnd<'a, R> {
                 break;
             }
             left = left.saturating_sub(self.copy()?);
-            self.sender.send_batch(&mut self.copied)?;
+            self.sender.take_batch(&mut self.copied)?;
             self.outlet.put(self.rt, &mut self.copied)?;
             self.tell_progress(left)?;
         }
