@@ -1,8 +1,9 @@
 //! ELF files of many program headers, and of long segments.
 
 use crate::images::{ELF, image_of, put};
-use linux_loader::{Elf, ImageBytes};
+use linux_loader::{Elf, ImageBytes, KernelImage};
 use std::alloc::Global;
+use std::fs::{self, File};
 use std::test::Fail;
 
 // A file of so many program headers. Each is of a segment of its first byte, at every 16th address from 0x1100 on.
@@ -25,18 +26,34 @@ fn file_of(alloc: Global, count: usize) -> Result<Vec<u8>, Fail> {
     Ok(file)
 }
 
+// Fails where an image does not have so many segments, each at its place.
+fn expect_segments<I: KernelImage>(alloc: Global, image: &mut I, count: usize) -> Result<(), Fail> {
+    let plan = match Elf::plan(alloc, None, image, None) {
+        Ok(plan) => plan,
+        Err(error) => return Err(Fail::new(format_args!("{count}: {error:?}"))),
+    };
+    let segments = plan.segments.as_slice();
+    if segments.len() != count {
+        return Err(Fail::new(format_args!("{} of {count} segments", segments.len())));
+    }
+    for (i, segment) in segments.iter().enumerate() {
+        let address = (i as u64).wrapping_mul(16).wrapping_add(0x1100);
+        if segment.addr.0 != address || segment.size != 1 {
+            return Err(Fail::new(format_args!("segment {i} of {count}: {segment:?}")));
+        }
+    }
+    Ok(())
+}
+
+// In memory, and in a file.
 #[test]
 fn many_program_headers(rt: HostRuntime) -> Result<(), Fail> {
-    for count in [1, 16, 17, 64, 65, 300, 512, 513, 65_534] {
-        let file = file_of(rt.alloc(), count)?;
-        let mut image = ImageBytes::new(file.as_slice());
-        match Elf::plan(rt.alloc(), None, &mut image, None) {
-            Ok(plan) => {
-                let segments = plan.segments.len();
-                assert!(rt; segments == count, "{segments} of {count} segments");
-            }
-            Err(error) => return Err(Fail::new(format_args!("{count}: {error:?}"))),
-        }
+    for count in [1, 16, 17, 64, 65, 73, 74, 300, 512, 513, 65_534] {
+        let bytes = file_of(rt.alloc(), count)?;
+        let mut image = ImageBytes::new(bytes.as_slice());
+        expect_segments(rt.alloc(), &mut image, count)?;
+        fs::write(&rt, "headers", bytes.as_slice())?;
+        expect_segments(rt.alloc(), &mut File::open(&rt, "headers")?, count)?;
     }
     Ok(())
 }

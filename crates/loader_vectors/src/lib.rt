@@ -14,6 +14,8 @@ mod images;
 #[cfg(test)]
 mod lines;
 #[cfg(test)]
+mod long;
+#[cfg(test)]
 mod slow;
 #[cfg(test)]
 mod small;

@@ -2,13 +2,9 @@
 #![tactic(auto)]
 
 #[cfg(test)]
-mod chains;
-#[cfg(test)]
 mod channels;
 #[cfg(test)]
 mod invalidations;
-#[cfg(test)]
-mod large;
 #[cfg(test)]
 mod limits;
 #[cfg(test)]

@@ -1,6 +1,5 @@
 //! Requests on chains and on bytes, past 4,096, 2^14 and 2^16 of them, in one try and in several.
 
-use crate::worlds::{Host, IOVA, Memory, content_at};
 use std::alloc::Global;
 use std::sync::Arc;
 use std::test::Fail;
@@ -11,7 +10,14 @@ use vhost_iotlb::{
 use vhost_message::{MemoryRegion, MemoryRegions};
 use vm_memory_base::{GuestAddress, Permissions};
 use vm_memory_device::{Chain, IommuMemory, Segment, TableIommu};
-use vm_memory_guest::{Bytes, GuestMemoryMmap, HostMemory};
+use vm_memory_guest::{Bytes, GuestMemoryMmap, GuestRegionCollection, GuestRegionMmap, HostMemory};
+
+type Host = HostMemory<()>;
+
+type Memory = IommuMemory<GuestRegionCollection<GuestRegionMmap>, TableIommu>;
+
+// Where I/O addresses begin.
+const IOVA: u64 = 0x1_0000_0000;
 
 // How much guest memory there is.
 const LEN: u64 = 0x4_0000;
@@ -58,7 +64,12 @@ fn make_guest(alloc: Global, bytes: &[u8], limit: usize) -> Result<Guest, Fail> 
     })
 }
 
-// What memory has before a request: at each address a byte of its own.
+// The byte that lies at an address of guest memory before a request, which is below 251.
+fn content_at(address: u64) -> u8 {
+    (address / 7 % 251) as u8
+}
+
+// What memory has before a request.
 fn contents(alloc: Global) -> Result<Vec<u8>, Fail> {
     let mut bytes = Vec::new(alloc);
     for address in 0..LEN {

@@ -4,9 +4,9 @@ use std::alloc::Global;
 use std::sync::{Mutex, Wait};
 use std::test::Fail;
 use test_text::expect_text;
-use vhost_iotlb::{DeviceTable, IotlbMessage, LockedHost, SharedHost};
+use vhost_iotlb::{DeviceTable, IotlbMessage, LockedHost, SharedHost, reach};
 use vhost_message::{MemoryRegion, MemoryRegions};
-use vm_memory_base::{GuestAddress, Permissions};
+use vm_memory_base::{GuestAddress, Iotlb, Permissions};
 use vm_memory_guest::{HostMemory, TlbId};
 
 type Host = HostMemory<()>;
@@ -32,7 +32,7 @@ const MAX: u64 = u64::MAX;
 
 const NO_ADDRESSES: &str = "Malformed(EmptyRange)";
 
-static CASES: [Case; 13] = [
+static CASES: [Case; 14] = [
     // Ranges of 2^31, 2^32 and 8 GiB, with one byte more or less, and the largest.
     (
         &[(('u', 0, 0x8000_0000, 0), "ok")],
@@ -96,6 +96,20 @@ static CASES: [Case; 13] = [
             (('i', 0, 0x2_0000_0000, 0), "ok"),
         ],
         &[(0, None), (0x1_0000_0000, None), (0x1_ffff_ffff, None)],
+    ),
+    // More than 4 GiB of 12 GiB are taken back, and no more.
+    (
+        &[
+            (('u', 0, 0x3_0000_0000, 0), "ok"),
+            (('i', 0x8000_0000, 0x1_8000_0000, 0), "ok"),
+        ],
+        &[
+            (0x7fff_ffff, Some(0x8000_0fff)),
+            (0x8000_0000, None),
+            (0x1_ffff_ffff, None),
+            (0x2_0000_0000, Some(0x2_0000_1000)),
+            (0x2_ffff_ffff, Some(0x3_0000_0fff)),
+        ],
     ),
     // All addresses.
     (
@@ -267,6 +281,120 @@ fn a_table_that_is_not_there(rt: HostRuntime) -> Result<(), Fail> {
     };
     for kind in ['u', 'i', 'm'] {
         expect_applied(alloc, &mut host, &table, 0, &[((kind, 0, 1, 0), "NoTable")])?;
+    }
+    Ok(())
+}
+
+// Tables keep at most as many ranges as is asked for, any number of them.
+#[test]
+fn tables_of_any_limit(rt: HostRuntime) -> Result<(), Fail> {
+    let alloc = rt.alloc();
+    let mut host = Host::new(alloc);
+    for (number, limit) in [1, 65, 513, 0x1_0001, 0x8000_0001, 0x1_0000_0001, usize::MAX]
+        .iter()
+        .enumerate()
+    {
+        if *limit == 0 {
+            return Err(Fail::new("no table keeps 0 ranges"));
+        }
+        let table = DeviceTable::new(alloc, &mut host, *limit, announced(alloc)?)?;
+        assert!(rt; table.table == TlbId(number), "limit {limit}");
+    }
+    Ok(())
+}
+
+// Ranges of I/O addresses, from the first number on, as many as the second, which may be written or only read; a write:
+// from where on, and how many bytes; and how many of them the table allows, with what it comes to.
+type Reach = (&'static [(u64, u64, bool)], u64, u64, &'static str);
+
+static REACHES: [Reach; 12] = [
+    (&[], 0, 0, "0 Done"),
+    (&[], 5, 1, "0 Missed { iova: 5, access: Write }"),
+    (&[(0, 0x8000_0000, true)], 0, 0x8000_0000, "2147483648 Done"),
+    (
+        &[(0, 0x8000_0000, true)],
+        0,
+        0x8000_0001,
+        "2147483648 Missed { iova: 2147483648, access: Write }",
+    ),
+    (
+        &[(5, 0x1_0000_0000, true)],
+        5,
+        0x1_0000_0001,
+        "4294967296 Missed { iova: 4294967301, access: Write }",
+    ),
+    (
+        &[(5, 0x2_0000_0000, true)],
+        6,
+        0x1_ffff_ffff,
+        "8589934591 Done",
+    ),
+    (
+        &[
+            (0, 0x1_0000_0000, true),
+            (0x1_0000_0000, 0x1_0000_0000, true),
+        ],
+        0,
+        0x2_0000_0001,
+        "8589934592 Missed { iova: 8589934592, access: Write }",
+    ),
+    // What may only be read stops a write, if nothing is missed before.
+    (
+        &[(0, 0x1_0000_0000, true), (0x1_0000_0000, 16, false)],
+        0,
+        0x1_0000_0020,
+        "4294967296 Forbidden { iova: 4294967296, access: Write }",
+    ),
+    (
+        &[(0, 0x1_0000_0000, true), (0x1_0000_0010, 16, false)],
+        0,
+        0x1_0000_0020,
+        "4294967296 Missed { iova: 4294967296, access: Write }",
+    ),
+    (&[(0, SIZE, true)], 0, SIZE, "4611686018427387904 Done"),
+    (
+        &[(1, MAX - 2, true)],
+        1,
+        MAX - 2,
+        "18446744073709551613 Done",
+    ),
+    (
+        &[(1, MAX - 2, true)],
+        0,
+        MAX - 1,
+        "0 Missed { iova: 0, access: Write }",
+    ),
+];
+
+fn table_of(alloc: Global, ranges: &[(u64, u64, bool)]) -> Result<Iotlb, Fail> {
+    let mut table = Iotlb::new(alloc);
+    for (iova, size, may_write) in ranges {
+        if iova.checked_add(*size).is_none() {
+            return Err(Fail::new("a range passes the last address"));
+        }
+        let access = if *may_write {
+            Permissions::ReadWrite
+        } else {
+            Permissions::Read
+        };
+        table.set_mapping(
+            GuestAddress(*iova),
+            GuestAddress(GUEST),
+            *size as usize,
+            access,
+        )?;
+    }
+    Ok(table)
+}
+
+#[test]
+fn long_accesses_reach_as_far_as_they_may(rt: HostRuntime) -> Result<(), Fail> {
+    let alloc = rt.alloc();
+    for (case, (ranges, iova, len, wanted)) in REACHES.iter().enumerate() {
+        let table = table_of(alloc, ranges)?;
+        let (count, outcome) = reach(&table, *iova, *len as usize, Permissions::Write);
+        let told = format!(in alloc; "{count} {outcome:?}")?;
+        expect_text(case, told.as_str(), wanted)?;
     }
     Ok(())
 }
