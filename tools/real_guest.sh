@@ -16,8 +16,8 @@
 # VHOST_USER_BLK names the program (without it cargo builds it), QEMU names QEMU, and REAL_GUEST_SECONDS is how long a
 # guest may take. A guest that waits for what does not come fails before that, and one that is only slow does not fail.
 #
-# Before version 9.0 QEMU forgets some pages that emulated processors wrote, each time it looks for such pages while a
-# guest moves ("physmem: Fix migration dirty bitmap coherency with TCG memory access"). So a guest is moved in one go.
+# QEMU 7.2 seems to forget some pages that emulated processors wrote, each time it looks for such pages while a guest
+# moves: with QEMU's own device the guest crashed, too, and with QEMU 10.0 it did not. So a guest is moved in one go.
 set -u
 QEMU=${QEMU:-qemu-system-x86_64}
 TOP=$(cd "$(dirname "${BASH_SOURCE[0]}")/.." && pwd)

@@ -337,6 +337,57 @@ fn an_iommu_maps_and_marks() {
     machine.invalidate_all(table).unwrap();
 }
 
+// What is missed and what is forbidden, at addresses and of lengths past 2^31, 2^32 and 2^40, up to the last address.
+#[test]
+fn misses_are_told_wherever_they_lie() {
+    let machine = Machine::new().unwrap();
+    let region = machine.region(machine.block(0x40, 16).unwrap(), at(0x1000)).unwrap();
+    let table = machine.table(None).unwrap();
+    let translator = machine.translator(table).unwrap();
+    let layout = machine.layout(&[region]).unwrap();
+    let space = machine.space(0x1000, 0x1000).unwrap();
+    let number = machine.new_memory(layout, translator, space, true).unwrap();
+    let memory = machine.memory(number).unwrap();
+    let missed = |base, length, access| {
+        let iova_range = IovaRange { base: at(base), length };
+        Some(Miss { iova_range, access })
+    };
+    for base in [
+        0,
+        0x7fff_fff0,
+        0x8000_0000,
+        0xffff_fff0,
+        0x1_0000_0000,
+        0x100_0000_0000,
+        0x8000_0000_0000_0000,
+        u64::MAX - 16,
+    ] {
+        memory.write_slice(&[1; 16], at(base)).unwrap_err();
+        assert_eq!(machine.take_miss(), missed(base, 16, Permissions::Write));
+        memory.read_obj::<u64>(at(base)).unwrap_err();
+        assert_eq!(machine.take_miss(), missed(base, 8, Permissions::Read));
+        machine
+            .set_mapping(table, at(base), at(0x1000), 4, Permissions::Read)
+            .unwrap();
+        memory.write_obj(1_u64, at(base)).unwrap_err();
+        assert_eq!(machine.take_miss(), missed(base, 4, Permissions::Write));
+        memory.read_obj::<u64>(at(base)).unwrap_err();
+        assert_eq!(machine.take_miss(), missed(base + 4, 4, Permissions::Read));
+        machine.invalidate_all(table).unwrap();
+    }
+    for length in [
+        0x7fff_ffff,
+        0x8000_0000,
+        0xffff_ffff,
+        0x1_0000_0001,
+        1 << 40,
+        usize::MAX - 1,
+    ] {
+        memory.mark_reached(at(0), length).unwrap_err();
+        assert_eq!(machine.take_miss(), missed(0, length, Permissions::Write));
+    }
+}
+
 #[test]
 fn lists_are_as_long_as_they_have_to_be() {
     let (machine, memory) = machine_of(&[(0x8000, 0)]);

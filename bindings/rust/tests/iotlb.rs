@@ -449,6 +449,57 @@ fn updates_map_announced_memory() {
     }
 }
 
+// A front end may announce memory in any number of parts, each of any length.
+#[test]
+fn memory_is_announced_in_many_parts_and_long_ones() {
+    let machine = Machine::new().unwrap();
+    let device = Device::new(&machine, None);
+    let target = |iova: u64| {
+        let found = machine.lookup(device.table, at(iova), 1, Permissions::Read).unwrap();
+        found.map(|pieces| pieces[0].base.0).ok()
+    };
+    for count in [1, 9, 65, 513, 4097, 0x1_0001] {
+        let parts: Vec<_> = (0..count)
+            .map(|part| UserRegion {
+                user_address: USER + 32 * part,
+                guest_address: at(START + 16 * part),
+                len: 16,
+            })
+            .collect();
+        for part in [0, count - 1] {
+            let message = update(0x40, 16, USER + 32 * part, Permissions::Read);
+            machine.apply_iotlb(device.id(), &message, &parts).unwrap();
+            assert_eq!(target(0x4f), Some(START + 16 * part + 15), "{part} of {count}");
+        }
+    }
+    let all = [UserRegion {
+        user_address: USER,
+        guest_address: at(START),
+        len: 1 << 42,
+    }];
+    for size in [
+        0x7fff_ffff,
+        0x8000_0001,
+        0xffff_ffff,
+        0x1_0000_0001,
+        0x2_0000_0000,
+        1 << 42,
+    ] {
+        let message = update(0, size, USER, Permissions::Read);
+        machine.apply_iotlb(device.id(), &message, &all).unwrap();
+        assert_eq!(target(size - 1), Some(START + size - 1), "{size:#x}");
+        machine
+            .apply_iotlb(device.id(), &invalidate(0x1000, size - 0x1000), &all)
+            .unwrap();
+        assert_eq!(
+            (target(0xfff), target(0x1000)),
+            (Some(START + 0xfff), None),
+            "{size:#x}"
+        );
+        assert_eq!(target(size - 1), None, "{size:#x}");
+    }
+}
+
 // A message is to a memory behind a table, whose IOMMU is on, and has whole rows after it.
 #[test]
 fn messages_to_no_table() {

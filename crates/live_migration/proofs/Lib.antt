@@ -1,4 +1,5 @@
 pub mod AgainLemmas
+pub mod BareLemmas
 pub mod CallsLemmas
 pub mod CostLemmas
 pub mod FieldLemmas

@@ -3,8 +3,8 @@ use Rattle.std.proofs.Common.{◌≡◌, ℕ, ◌+◌, ◌-◌, ◌^◌, ◌<◌
 use Rattle.std.specs.Io.KnownBytes.{Appends, Consumes}
 use Rattle.std.specs.Prelude.{flat_map, slice_get}
 use Rattle.std.proofs.lemmas.Bool.{cond-true}
-use Rattle.std.proofs.lemmas.List.{get_or-append-add, length-replicate}
-use Rattle.std.proofs.lemmas.Option.{get_or_from_slice_get, none-some, same_Some, slice_get-map, slice_get_cases, slice_get_within}
+use Rattle.std.proofs.lemmas.List.{length-replicate}
+use Rattle.std.proofs.lemmas.Option.{none-some, same_Some, slice_get-map, slice_get_cases}
 use Rattle.vm_memory_base.specs.Pages.{PageSet}
 use Rattle.vm_memory_guest.specs.Host.{Host, block_at}
 use Rattle.live_migration.specs.Calls.{EndsPaused, HasBegun, Moment, ReadsAll}
@@ -14,12 +14,12 @@ use Rattle.live_migration.specs.Frame as message
 use Rattle.live_migration.specs.Frame.{Message, spelling}
 use Rattle.live_migration.specs.Header.{header_bytes}
 use Rattle.live_migration.specs.Image.{arrived}
-use Rattle.live_migration.specs.Receiving.{zeroed}
 use Rattle.live_migration.specs.Rounds as event
 use Rattle.live_migration.specs.Rounds.{AllMay, Ends, Event, IsBeginning, IsThrough, Source, after, after_round, story}
 use Rattle.live_migration.specs.declared.header.BlockEntry.{BlockEntry}
 use Rattle.live_migration.specs.declared.receiver.progress.Progress.{Progress}
 use Rattle.live_migration.specs.declared.sender.pages.Target.{Target}
+use Rattle.live_migration.proofs.BareLemmas.{made_at}
 use Rattle.live_migration.proofs.CallsLemmas.{HasSent, all_go_on, appended, bare_arrives, end_sent, none_arrives, one_more, text}
 use Rattle.live_migration.proofs.FollowingLemmas.{begin_follows, is_over, is_through}
 use Rattle.live_migration.proofs.HeaderLemmas.{same_header}
@@ -114,20 +114,6 @@ read_whole None b x header frames e p q = absurd (none-some x e)
 read_whole (Some xs) None x header frames e p q = absurd p
 read_whole (Some xs) (Some ys) x header frames e p q =
     sym (same_Some xs x e) ∙ p ∙ ap (λ (z : List ℕ). header ++ z) (q ∙ append-nil frames)
-
--- the blocks that were made
-made_at : (old blocks : List (List ℕ)) (entries : List BlockEntry) (base j : ℕ) (e : BlockEntry)
-    → blocks ≡ old ++ zeroed entries → (0 < length entries → base ≡ length old) → slice_get entries j ≡ Some e
-    → block_at blocks (base + j) ≡ replicate e.len 0
-made_at old blocks entries base j e made at there =
-    let within = slice_get_within entries j e there in
-    let some : 0 < length entries = omega arith in
-    ap (λ (bs : List (List ℕ)). block_at bs (base + j)) made
-    ∙ ap (λ (b : ℕ). block_at (old ++ zeroed entries) (b + j)) (at some)
-    ∙ get_or-append-add old (zeroed entries) j []
-    ∙ get_or_from_slice_get (zeroed entries) j (replicate e.len 0) []
-    (slice_get-map (λ (x : BlockEntry). replicate x.len 0) entries j
-    ∙ ap (option_map (λ (x : BlockEntry). replicate x.len 0)) there)
 
 module _ {B C : Type 0} (pages_of : B → PageSet) (digests : Bool) (ts : List Target) (m : Moment B) (s : Ends)
     (ms : List Message) (h : HasSent pages_of digests ts m s ms) (sent : Option (List ℕ)) (p : Progress) (next : Host C)

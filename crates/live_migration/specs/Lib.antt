@@ -1,3 +1,4 @@
+pub mod Bare
 pub mod Calls
 pub mod Digests
 pub mod Following

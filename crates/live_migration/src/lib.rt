@@ -18,7 +18,7 @@ mod zeros;
 pub use frame::{Frame, MOST_PAGE_BYTES};
 pub use header::{BlockEntry, Header, MOST_BLOCKS, Options, decode_header, encode_header};
 pub use policy::{Left, Policy, Rate, Stop};
-pub use receiver::{Guest, Progress, Receiver, SECTION_COST, Section, Stage};
+pub use receiver::{Destination, Guest, Progress, Receiver, SECTION_COST, Section, Stage};
 pub use refusal::Refusal;
 pub use reply::Reply;
 pub use sender::{Rounds, SendError, SendStage, Sender, Target};

@@ -1,5 +1,6 @@
 //! Pages that come into the blocks of a host.
-ghost use Rattle.std.specs.Prelude.{◌≡◌, ◌+◌, ◌-◌, ◌*◌, ◌<◌, ◌≤◌, ◌⊎◌, ◌%◌, [], ◌∷◌, length, take, drop, replicate, min, true, IsTrue, ◌↔◌, Some, IfSome, IfNone, IfOk, OnOk, OnErr, slice_get};
+ghost use Rattle.std.specs.Prelude.{◌≡◌, ◌+◌, ◌-◌, ◌*◌, ◌<◌, ◌≤◌, ◌⊎◌, ◌%◌, ℕ, [], ◌∷◌, length, take, drop, replicate, min, true, IsTrue, ◌↔◌, Some, IfSome, IfNone, IfOk, OnOk, OnErr, slice_get, slice_index};
+ghost use Rattle.live_migration.specs.Bare.{AreBare};
 ghost use Rattle.live_migration.specs.Image.{are_zero, page_bytes, placed};
 ghost use Rattle.live_migration.specs.Placing.{Applies, HasPlaced, IsInside, LieIn};
 ghost use Rattle.live_migration.specs.Frame.{message_of};
@@ -43,15 +44,16 @@ pub(crate) fn put_bytes<B: Bitmap>(
     Ok(())
 }
 
-// Puts pages into a block that begins with the page `first`.
+// Puts pages into a block that begins with the page `first`, and answers where they end.
 fn put_pages<B: Bitmap>(
     host: &mut HostMemory<B>,
     block: BlockId,
     entry: &BlockEntry,
     first: u64,
     bytes: &[u8],
-) -> Result<(), Refusal>
+) -> Result<u64, Refusal>
     ensures ok { OnOk result (HasPlaced host.old host.new block.0 (first * entry.now.page_size) bytes.now) }
+    ensures end { IfOk result (λ end. end ≡ first * entry.now.page_size + length bytes.now) }
     ensures inside { OnOk result (LieIn entry.now first (length bytes.now)) }
     ensures err { OnErr result (host.new ≡ host.old) }
 {
@@ -65,7 +67,8 @@ fn put_pages<B: Bitmap>(
     if count == 0 || (count != entry.len - start && !is_whole(count, entry.page_size)) {
         return Err(Refusal::CutPage);
     }
-    put_bytes(host, block, start as usize, bytes)
+    put_bytes(host, block, start as usize, bytes)?;
+    Ok(start + count)
 }
 
 // Whether so many bytes are whole pages of this size.
@@ -134,6 +137,30 @@ fn put_zeros<B: Bitmap>(
     put_new_zeros(host, block, start as usize, &zeros[..count])
 }
 
+// Whether a page of a block lies where the block has only zeros.
+fn is_bare(bare: &[u64], block: u32, entry: &BlockEntry, page: u64) -> bool
+    ensures block { result ≡ true → block < length bare.now }
+    ensures zeros { result ≡ true → slice_index bare.now block ≤ page * entry.now.page_size }
+    ensures inside { result ≡ true → page * entry.now.page_size < entry.now.len }
+{
+    match (bare.get(block as usize), start_of(entry, page)) {
+        (Some(offset), Some(start)) => *offset <= start,
+        _ => false,
+    }
+}
+
+// Notes that bytes came into a block, up to this one.
+fn note_written(bare: &mut [u64], block: u32, end: u64)
+    ensures others { (j : ℕ) → (j ≡ block → ⊥) → slice_index bare.new j ≡ slice_index bare.old j }
+    ensures kept { slice_index bare.old block ≤ slice_index bare.new block }
+    ensures end { block < length bare.old → end ≤ slice_index bare.new block }
+{
+    let at = block as usize;
+    if at < bare.len() {
+        bare[at] = bare[at].max(end);
+    }
+}
+
 // The block of this number, with its entry, if the host has it as the header says.
 fn find<B>(
     host: &HostMemory<B>,
@@ -157,17 +184,22 @@ fn find<B>(
     }
 }
 
-// Does with a host what a frame says of its pages: the frame's block is that of this number from `base` on.
+// Does with a host what a frame says of its pages: the frame's block is that of this number from `base` on. `bare` says
+// from where on a block has only zeros: there a page of zeros is not looked at.
 pub(crate) fn apply<B: Bitmap>(
     host: &mut HostMemory<B>,
     base: usize,
     entries: &[BlockEntry],
     zeros: &[u8],
+    bare: &mut [u64],
     frame: &Frame<'_>,
 ) -> Result<(), Refusal>
-    requires { zeros.now ≡ replicate (length zeros.now) 0 }
+    requires zeros { zeros.now ≡ replicate (length zeros.now) 0 }
+    requires bare { AreBare base bare.old host.old }
+    requires bare_blocks { length bare.old ≤ length entries.now }
     ensures ok { OnOk result (Applies base entries.now (message_of frame.now) host.old host.new) }
     ensures inside { OnOk result (IsInside entries.now (message_of frame.now)) }
+    ensures bare { AreBare base bare.new host.new }
     ensures err { OnErr result (host.new ≡ host.old) }
 {
     match *frame {
@@ -177,11 +209,15 @@ pub(crate) fn apply<B: Bitmap>(
             bytes,
         } => {
             let (id, entry) = find(host, base, entries, block)?;
-            put_pages(host, id, &entry, first, bytes)?;
+            let end = put_pages(host, id, &entry, first, bytes)?;
+            note_written(bare, block, end);
             Ok(())
         }
         Frame::ZeroPage { block, page } => {
             let (id, entry) = find(host, base, entries, block)?;
+            if is_bare(bare, block, &entry, page) {
+                return Ok(());
+            }
             put_zeros(host, id, &entry, page, zeros)?;
             Ok(())
         }

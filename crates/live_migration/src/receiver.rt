@@ -4,11 +4,13 @@ ghost use Rattle.live_migration.specs.Frame.{message_of};
 ghost use Rattle.live_migration.specs.Stages.{stage_after};
 
 mod begin;
+mod destination;
 mod end;
 mod progress;
 
 use crate::frame::Frame;
 use crate::refusal::Refusal;
+pub use destination::Destination;
 pub use end::Guest;
 pub use progress::{Progress, Receiver, SECTION_COST, Section};
 

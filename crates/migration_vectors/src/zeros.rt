@@ -1,8 +1,8 @@
 //! Pages of zeros: they change and mark nothing where zeros are.
 
-use crate::guests::{Host, dirty_count};
+use crate::guests::{Host, bytes_of, dirty_count};
 use crate::streams::{LIMIT, stream_of};
-use live_migration::{Receiver, Refusal};
+use live_migration::{Destination, Receiver, Refusal};
 use std::alloc::Global;
 use std::test::Fail;
 use vm_memory_base::{ExactBitmap, NewBitmap};
@@ -63,6 +63,66 @@ fn zeros_mark_nothing(rt: HostRuntime) -> Result<(), Fail> {
     for (text, first, second) in CASES {
         let told = marked(alloc, text, &mut Host::new(alloc))?;
         assert!(rt; told == (first, second), "{text}: {told:?}");
+    }
+    Ok(())
+}
+
+// Frames for the first block, and its bytes then: pages that came are looked at, and those after them are not.
+const LATER: [(&str, [u8; 5]); 4] = [
+    (
+        "b 4,1 4,10 4,0 8,0 x,01020304 4,2 4,c 4,0 8,1 4,2 4,c 4,0 8,2",
+        [1, 2, 0, 0, 0],
+    ),
+    (
+        "b 4,2 4,c 4,0 8,0 4,1 4,10 4,0 8,0 x,01020304 4,2 4,c 4,0 8,0",
+        [0, 0, 3, 4, 0],
+    ),
+    (
+        "b 4,1 4,d 4,0 8,2 x,05 4,2 4,c 4,0 8,0 4,2 4,c 4,0 8,2",
+        [0, 0, 0, 0, 0],
+    ),
+    (
+        "b 4,1 4,e 4,0 8,1 x,0304 4,1 4,e 4,0 8,0 x,0102 4,2 4,c 4,0 8,1",
+        [1, 2, 0, 0, 0],
+    ),
+];
+
+// The host of a destination that takes frames until the stream ends.
+fn arrived(alloc: Global, text: &str) -> Result<Host, Fail> {
+    let stream = stream_of(alloc, text)?;
+    let mut input = stream.as_slice();
+    let begun = Destination::begin(alloc, &mut input, Host::new(alloc), LIMIT);
+    let Ok(mut destination) = begun else {
+        return Err(Fail::new(format_args!("{text}: refused")));
+    };
+    for _ in 0..u64::MAX {
+        match destination.take(&mut input) {
+            Ok(_) => {}
+            Err(Refusal::Ended) => {
+                let (_, host) = destination.into_parts();
+                return Ok(host);
+            }
+            Err(refusal) => return Err(Fail::new(format_args!("{text}: {refusal}"))),
+        }
+    }
+    Err(Fail::new("the stream did not end"))
+}
+
+#[test]
+fn destinations_know_zeros(rt: HostRuntime) -> Result<(), Fail> {
+    let alloc = rt.alloc();
+    for (text, first, second) in CASES {
+        let host = arrived(alloc, text)?;
+        let told = (
+            dirty_count(&host, alloc, BlockId(0))? > 0,
+            dirty_count(&host, alloc, BlockId(1))? > 0,
+        );
+        assert!(rt; told == (first, second), "{text}: {told:?}");
+    }
+    for (text, wanted) in LATER {
+        let host = arrived(alloc, text)?;
+        let bytes = bytes_of(&host, BlockId(0));
+        assert!(rt; bytes == wanted.as_slice(), "{text}: {bytes:?}");
     }
     Ok(())
 }

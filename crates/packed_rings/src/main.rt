@@ -1,6 +1,7 @@
 //! Pops chains of packed rings that a hostile driver might have written, and compares each answer with a slow reading
 //! of the same bytes, which is written apart. It prints how many rings ended in each way. Then it returns chains in
-//! every order of four, in rings of many sizes, and says of how many chains the driver learned.
+//! every order of four, in rings of many sizes, and says of how many chains the driver learned; and chains of up to as
+//! many descriptors as a ring or a table has.
 #![tactic(auto)]
 
 mod orders;
@@ -176,6 +177,8 @@ fn main(rt: HostRuntime) -> anyhow::Result<()> {
         let count = orders::all(rt.alloc(), size)?;
         println!(rt; "size {size}: {count} chains in every order")?;
     }
+    let (chains, tables) = orders::long(rt.alloc())?;
+    println!(rt; "{chains} chains of many slots, {tables} of many rows")?;
     let events = orders::events(rt.alloc())?;
     println!(rt; "{events} events")?;
     Ok(())

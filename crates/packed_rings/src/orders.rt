@@ -6,9 +6,10 @@ use anyhow::bail;
 use std::alloc::Global;
 use virtio_queue::{
     PackedBuffer, PackedDescriptor, PackedDriver, PackedField, PackedQueue, RingPosition,
-    VRING_DESC_F_NEXT,
+    VRING_DESC_F_INDIRECT, VRING_DESC_F_NEXT, VRING_DESC_F_WRITE,
 };
 use vm_memory_base::GuestAddress;
+use vm_memory_device::Segment;
 use vm_memory_guest::{GuestMemoryMmap, HostMemory};
 
 /// Sizes of rings, which need not be powers of two.
@@ -47,6 +48,49 @@ const ROUNDS: u16 = 20;
 
 const BASE: u64 = 0x1000;
 
+// Where an indirect table lies, behind the longest ring, and how many bytes memory has.
+const TABLE: u64 = 0x9_0000;
+
+const SIZE: usize = 0x19_0000;
+
+// Numbers of slots and of the rows of a table, around those at which lists grow, and the greatest.
+const SLOTS: [u16; 11] = [16, 17, 64, 65, 512, 513, 1024, 4097, 32_766, 32_767, 32_768];
+
+const ROWS: [u16; 11] = [16, 17, 64, 65, 512, 513, 1024, 4097, 32_769, 65_534, 65_535];
+
+// The segment of a place in a chain of so many: the second half is written.
+fn segment_of(place: u16, count: u16) -> Segment {
+    Segment {
+        addr: GuestAddress(0x5000 + u64::from(place)),
+        len: 16 + u32::from(place),
+        writable: u32::from(place) * 2 >= u32::from(count),
+    }
+}
+
+// Its descriptor, without a next one.
+fn descriptor_of(place: u16, count: u16, id: u16) -> PackedDescriptor {
+    let segment = segment_of(place, count);
+    PackedDescriptor {
+        addr: segment.addr.0,
+        len: segment.len,
+        id,
+        flags: if segment.writable {
+            VRING_DESC_F_WRITE
+        } else {
+            0
+        },
+    }
+}
+
+// Whether these are the segments of a chain of so many.
+fn are_all(segments: &[Segment], count: u16) -> bool {
+    segments.len() == usize::from(count)
+        && segments
+            .iter()
+            .zip(0..count)
+            .all(|(segment, place)| *segment == segment_of(place, count))
+}
+
 // Both halves over one memory.
 #[derive(Drop)]
 struct Pair {
@@ -60,7 +104,7 @@ impl Pair {
     // A pair that stands near the end of its ring.
     fn new(alloc: Global, size: u16) -> anyhow::Result<Pair> {
         let mut host = HostMemory::new(alloc);
-        let ranges = [(GuestAddress(BASE), 0x8_1000)];
+        let ranges = [(GuestAddress(BASE), SIZE)];
         let memory = GuestMemoryMmap::from_ranges(alloc, &mut host, &ranges)?;
         let mut driver = PackedDriver::new(GuestAddress(BASE), size)?;
         let mut queue = driver.queue()?;
@@ -84,23 +128,49 @@ impl Pair {
     fn publish(&mut self, buffer: PackedBuffer) -> anyhow::Result<()> {
         for left in 0..buffer.slots {
             let last = left.wrapping_add(1) == buffer.slots;
-            let descriptor = PackedDescriptor {
-                addr: 0x5000 + u64::from(left),
-                len: 16,
-                id: if last { buffer.id } else { !buffer.id },
-                flags: if last { 0 } else { VRING_DESC_F_NEXT },
-            };
-            if !self.host.holds(&self.memory) {
-                bail!("the host does not hold the memory");
+            let id = if last { buffer.id } else { !buffer.id };
+            let mut descriptor = descriptor_of(left, buffer.slots, id);
+            if !last {
+                descriptor.flags |= VRING_DESC_F_NEXT;
             }
-            self.driver
-                .publish(&self.memory, &mut self.host, descriptor)?;
+            self.publish_one(descriptor)?;
         }
         Ok(())
     }
 
-    // Pops the chain of a buffer, of which one segment lies in each slot, or finds none.
-    fn pops(&mut self, alloc: Global, wanted: Option<PackedBuffer>) -> anyhow::Result<()> {
+    // Publishes a descriptor.
+    fn publish_one(&mut self, descriptor: PackedDescriptor) -> anyhow::Result<()> {
+        if !self.host.holds(&self.memory) {
+            bail!("the host does not hold the memory");
+        }
+        self.driver
+            .publish(&self.memory, &mut self.host, descriptor)?;
+        Ok(())
+    }
+
+    // Publishes a chain of a table of so many descriptors.
+    fn publish_table(&mut self, id: u16, rows: u16) -> anyhow::Result<()> {
+        let table = PackedDriver {
+            desc_ring: TABLE,
+            ..self.driver
+        };
+        for row in 0..rows {
+            if !self.host.holds(&self.memory) {
+                bail!("the host does not hold the memory");
+            }
+            let descriptor = descriptor_of(row, rows, !id);
+            table.put_descriptor(&self.memory, &mut self.host, row, descriptor)?;
+        }
+        self.publish_one(PackedDescriptor {
+            addr: TABLE,
+            len: 16 * u32::from(rows),
+            id,
+            flags: VRING_DESC_F_INDIRECT,
+        })
+    }
+
+    // Pops the chain of a buffer, which has so many segments, or finds none.
+    fn pops(&mut self, alloc: Global, wanted: Option<(PackedBuffer, u16)>) -> anyhow::Result<()> {
         if !self.host.holds(&self.memory) {
             bail!("the host does not hold the memory");
         }
@@ -113,10 +183,10 @@ impl Pair {
             }
             return Ok(());
         };
-        if wanted != Some(buffer) || chain.segments().len() != usize::from(buffer.slots) {
-            bail!("another chain was popped");
+        match wanted {
+            Some((other, count)) if other == buffer && are_all(chain.segments(), count) => Ok(()),
+            _ => bail!("another chain was popped"),
         }
-        Ok(())
     }
 
     // Returns a buffer: the driver finds it, and nothing before or after.
@@ -163,7 +233,7 @@ fn in_order(alloc: Global, pair: &mut Pair, order: &[u16; 4], round: u16) -> any
         pair.publish(*buffer)?;
     }
     for buffer in buffers.iter().flatten() {
-        pair.pops(alloc, Some(*buffer))?;
+        pair.pops(alloc, Some((*buffer, buffer.slots)))?;
     }
     pair.pops(alloc, None)?;
     let mut count = 0u64;
@@ -190,6 +260,26 @@ pub fn all(alloc: Global, size: u16) -> anyhow::Result<u64> {
         }
     }
     Ok(count)
+}
+
+/// Pops and returns chains of many slots, and of tables of many descriptors. It returns how many of each.
+pub fn long(alloc: Global) -> anyhow::Result<(usize, usize)> {
+    let mut pair = Pair::new(alloc, 32768)?;
+    for slots in SLOTS {
+        let buffer = PackedBuffer { id: slots, slots };
+        pair.publish(buffer)?;
+        pair.pops(alloc, Some((buffer, slots)))?;
+        pair.pops(alloc, None)?;
+        pair.returns(buffer)?;
+    }
+    for rows in ROWS {
+        let buffer = PackedBuffer { id: rows, slots: 1 };
+        pair.publish_table(rows, rows)?;
+        pair.pops(alloc, Some((buffer, rows)))?;
+        pair.pops(alloc, None)?;
+        pair.returns(buffer)?;
+    }
+    Ok((SLOTS.len(), ROWS.len()))
 }
 
 // An event: where the driver waits, its flags, and how many slots are used from a position on.

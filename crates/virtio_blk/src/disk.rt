@@ -63,13 +63,13 @@ pub trait Disk: Drop {
     }
 
     /// Writes whole sectors from one on. After an error no byte of the disk has changed.
-    fn write(&mut self, sector: u64, data: &[u8]) -> Result<(), DiskError>
-        requires whole { length data.now % 512 ≡ 0 }
-        requires inside { 512 * sector + length data.now ≤ 512 * sectors self.old }
+    fn write(&mut self, sector: u64, content: &[u8]) -> Result<(), DiskError>
+        requires whole { length content.now % 512 ≡ 0 }
+        requires inside { 512 * sector + length content.now ≤ 512 * sectors self.old }
         ensures bytes { MatchResult result
-            (λ _. bytes self.new ≡ after_write (512 * sector) data.now (bytes self.old))
+            (λ _. bytes self.new ≡ after_write (512 * sector) content.now (bytes self.old))
             (λ _. bytes self.new ≡ bytes self.old) }
-        ensures calls { calls self.old (writes sector data.now) (is_ok result) self.new }
+        ensures calls { calls self.old (writes sector content.now) (is_ok result) self.new }
         ensures sectors { sectors self.new ≡ sectors self.old };
 
     /// Flushes what was written to stable storage. The disk's bytes stay as they are.

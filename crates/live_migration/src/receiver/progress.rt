@@ -54,6 +54,7 @@ impl Progress {
     ghost use Rattle.std.specs.Prelude.{⊤};
     ghost use Rattle.vm_memory_guest.specs.Host.{Host};
     ghost use Rattle.live_migration.specs.Frame.{Message, RoundEnd, message_of, head};
+    ghost use Rattle.live_migration.specs.Bare.{AreBare};
     ghost use Rattle.live_migration.specs.Placing.{Applies, IsInside};
     ghost use Rattle.live_migration.specs.Receiving.{IsRightEnd, IsSectionKept, cost_of, round_after, section_in, sections_told};
     ghost use Rattle.live_migration.specs.Stages.{stage_after};
@@ -107,8 +108,11 @@ impl Progress {
     fn accept<B: Bitmap>(
         &mut self,
         host: &mut HostMemory<B>,
+        bare: &mut [u64],
         frame: &Frame<'_>,
     ) -> Result<(), Refusal>
+        requires bare { AreBare self.old.base bare.old host.old }
+        requires bare_blocks { length bare.old ≤ length self.old.entries.items }
         ensures inside { OnOk result (IsInside self.old.entries.items (message_of frame.now)) }
         ensures applied { OnOk result (Applies self.old.base self.old.entries.items (message_of frame.now) host.old
             host.new) }
@@ -121,6 +125,7 @@ impl Progress {
             ≡ sections_told self.old ++ section_in (message_of frame.now)) }
         ensures left { OnOk result (self.new.left + sum_by cost_of (section_in (message_of frame.now))
             ≡ self.old.left) }
+        ensures bare { AreBare self.old.base bare.new host.new }
         ensures err { OnErr result (host.new ≡ host.old) }
     {
         let stage = stage_after(self.stage, frame)?;
@@ -128,7 +133,7 @@ impl Progress {
             Frame::RoundEnd { round, digest } => self.end_round(round, digest)?,
             Frame::Section { name, bytes } => self.keep_section(name, bytes)?,
             Frame::Pages { .. } | Frame::ZeroPage { .. } | Frame::Done | Frame::Go => {
-                apply(host, self.base, &self.entries, &self.zeros, frame)?
+                apply(host, self.base, &self.entries, &self.zeros, bare, frame)?
             }
         }
         self.stage = stage;
@@ -158,21 +163,28 @@ fn section_of(alloc: Global, name: &[u8], bytes: &[u8]) -> Result<Section, Alloc
 }
 
 impl Receiver {
+    ghost use Rattle.live_migration.specs.Bare.{AreBare};
     ghost use Rattle.live_migration.specs.Receiving.{TakesFrame};
 
     fn take_next<R: Read, B: Bitmap>(
         &mut self,
         reader: &mut R,
         host: &mut HostMemory<B>,
+        bare: &mut [u64],
     ) -> Result<Stage, Refusal>
+        requires bare { AreBare self.old.seen.base bare.old host.old }
+        requires bare_blocks { length bare.old ≤ length self.old.seen.entries.items }
         ensures taken { IfOk result (λ stage. (stage ≡ self.new.seen.stage)
             × TakesFrame (R.remaining reader.old) (R.remaining reader.new) self.old.seen self.new.seen host.old
             host.new) }
+        ensures bare { AreBare self.old.seen.base bare.new host.new }
+        ensures base { self.new.seen.base ≡ self.old.seen.base }
+        ensures entries { self.new.seen.entries.items ≡ self.old.seen.entries.items }
         ensures refused { OnErr result (host.new ≡ host.old) }
     {
         let kind = read_frame(reader, &mut self.payload, self.seen.longest)?;
         let frame = Frame::decode(kind, self.payload.as_slice())?;
-        self.seen.accept(host, &frame)?;
+        self.seen.accept(host, bare, &frame)?;
         self.seen.note(kind, self.payload.as_slice());
         Ok(self.seen.stage)
     }
@@ -189,7 +201,27 @@ impl Receiver {
             host.new) }
         ensures refused { OnErr result ((host.new ≡ host.old) × (self.new.seen.stage ≡ Stage.Failed)) }
     {
-        let taken = self.take_next(reader, host);
+        self.take_from(reader, host, &mut [])
+    }
+
+    // As `take`, over blocks that have only zeros, each from an offset on, as far as there are offsets.
+    pub(super) fn take_from<R: Read, B: Bitmap>(
+        &mut self,
+        reader: &mut R,
+        host: &mut HostMemory<B>,
+        bare: &mut [u64],
+    ) -> Result<Stage, Refusal>
+        requires bare { AreBare self.old.seen.base bare.old host.old }
+        requires bare_blocks { length bare.old ≤ length self.old.seen.entries.items }
+        ensures taken { IfOk result (λ stage. (stage ≡ self.new.seen.stage)
+            × TakesFrame (R.remaining reader.old) (R.remaining reader.new) self.old.seen self.new.seen host.old
+            host.new) }
+        ensures bare { AreBare self.new.seen.base bare.new host.new }
+        ensures base { self.new.seen.base ≡ self.old.seen.base }
+        ensures entries { self.new.seen.entries.items ≡ self.old.seen.entries.items }
+        ensures refused { OnErr result ((host.new ≡ host.old) × (self.new.seen.stage ≡ Stage.Failed)) }
+    {
+        let taken = self.take_next(reader, host, bare);
         if taken.is_err() {
             self.seen.stage = Stage::Failed;
         }

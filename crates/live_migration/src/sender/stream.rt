@@ -1,5 +1,5 @@
 //! A sender with its stream: what was copied is sent, rounds end, and the guest is given up.
-ghost use Rattle.std.specs.Prelude.{◌≡◌, ◌≢◌, true, ℕ, Bool, ◌+◌, ◌-◌, ◌^◌, ◌<◌, ◌≤◌, List, [], ◌++◌, length, map, take, IfOk, IsOk, IsOkUnless, OnOk, OnErr, IsErr, IsTrue, ◌↔◌, ◌⊎◌};
+ghost use Rattle.std.specs.Prelude.{◌≡◌, ◌≢◌, true, ℕ, Bool, ◌+◌, ◌-◌, ◌^◌, ◌<◌, ◌≤◌, List, [], ◌++◌, length, map, take, Some, IfOk, IsOk, IsOkUnless, OnOk, OnErr, IsErr, IsTrue, ◌↔◌, ◌⊎◌};
 ghost use Rattle.std.specs.Io.KnownBytes.{Appends, Keeps};
 ghost use Rattle.live_migration.specs.Digests.{HasNoted, digest_of};
 ghost use Rattle.live_migration.specs.Frame.{Done, Go, IsMessage, RoundEnd, Section, message_of, spelling};
@@ -16,6 +16,7 @@ use crate::header::{BlockEntry, Options, check_header, encode_header};
 use crate::stream::write_bytes;
 use std::alloc::{AllocError, Global};
 use std::io::Write;
+use std::mem;
 use vm_memory_base::{Bitmap, ExactBitmap, GuestAddress};
 use vm_memory_guest::{BlockId, HostMemory};
 
@@ -303,6 +304,34 @@ impl Sender {
                 Err(error)
             }
         }
+    }
+
+    /// As `send_batch` to a list, for a caller who writes it to the stream. If the list is empty, it becomes the batch, and
+    /// no byte is copied.
+    pub fn take_batch(&mut self, bytes: &mut Vec<u8>) -> Result<(), SendError>
+        ensures sent { OnOk result (Sends self.old.rounds.batch.items (Some bytes.old.items) (Some bytes.new.items)
+            self.old.hasher self.new.hasher) }
+        ensures ok { OnOk result (self.new.rounds.batch.items ≡ []) }
+        ensures stage { OnOk result (IsInRounds self.old.stage × (self.new.stage ≡ stages.Sending)) }
+        ensures err { OnErr result (self.new.rounds.batch ≡ self.old.rounds.batch) }
+        ensures unsent { OnErr result (((self.new ≡ self.old) × (bytes.new ≡ bytes.old))
+            ⊎ BreaksOff self.old.rounds.batch.items (Some bytes.old.items) (Some bytes.new.items) self.old.stage
+            self.new.stage) }
+        ensures same { (self.new.rounds.targets ≡ self.old.rounds.targets)
+            × (self.new.rounds.round ≡ self.old.rounds.round)
+            × (self.new.rounds.waiting ≡ self.old.rounds.waiting) × (self.new.rounds.next ≡ self.old.rounds.next)
+            × (self.new.rounds.turn ≡ self.old.rounds.turn) × (self.new.rounds.last ≡ self.old.rounds.last) }
+    {
+        if !bytes.is_empty() {
+            return self.send_batch(bytes);
+        }
+        if !in_rounds(self.stage) {
+            return Err(SendError::Order);
+        }
+        self.hasher.note(self.rounds.batch.as_slice());
+        mem::swap(&mut self.rounds.batch, bytes);
+        self.stage = SendStage::Sending;
+        Ok(())
     }
 
     /// Sends the state of a device or a queue, in a round: its name has at most 255 bytes, and the state at most 2^20,
