@@ -71,12 +71,19 @@ impl Things {
 }
 
 // The messages of a front end that keeps the protocol.
-fn usual(things: &Things, ram: RawFd, numbers: &mut Numbers) -> Vec<Message> {
+fn usual(things: &Things, ram: RawFd, is_packed: bool, numbers: &mut Numbers) -> Vec<Message> {
     let of = |request: u32, flags: u32, payload: &[u8], descriptors: &[RawFd]| Message {
         bytes: message(request, 1 | flags, payload),
         descriptors: descriptors.to_vec(),
     };
-    let bits = USUAL | if numbers.one_in(2) { EVENT_IDX } else { 0 };
+    let event_idx = if numbers.one_in(2) { EVENT_IDX } else { 0 };
+    let bits = USUAL | event_idx | if is_packed { RING_PACKED } else { 0 };
+    // Both positions of a packed ring are at its beginning, most of the time.
+    let base = match (is_packed, numbers.one_in(5)) {
+        (false, _) => 0,
+        (true, false) => 0x8000_8000,
+        (true, true) => numbers.any() as u32 & 0x801f_801f,
+    };
     let user = |at: u64| (USER + at).to_le_bytes();
     let addresses = [
         &two(0, 0)[..],
@@ -98,7 +105,7 @@ fn usual(things: &Things, ram: RawFd, numbers: &mut Numbers) -> Vec<Message> {
         of(SET_FEATURES, NEED_REPLY, &bits.to_le_bytes(), &[]),
         of(SET_MEM_TABLE, NEED_REPLY, &FrontEnd::table(&[(0, SIZE, 0)]), &[ram]),
         of(SET_VRING_NUM, 0, &two(0, 16), &[]),
-        of(SET_VRING_BASE, 0, &two(0, 0), &[]),
+        of(SET_VRING_BASE, 0, &two(0, base), &[]),
         of(SET_VRING_ADDR, 0, &addresses, &[]),
         of(SET_VRING_CALL, 0, &zero, &[things.call.as_raw_fd()]),
         of(SET_VRING_ERR, 0, &zero, &[things.call.as_raw_fd()]),
@@ -158,6 +165,27 @@ fn ring(numbers: &mut Numbers) -> Vec<u8> {
     put(PARTS[1] + 4, &[0, 0]);
     let most = if numbers.one_in(20) { 40 } else { 16 };
     put(PARTS[1] + 2, &(1 + numbers.below(most) as u16).to_le_bytes());
+    ram
+}
+
+// The same as a packed ring: each descriptor has an id and flags that make it available, most of them.
+fn packed_ring(numbers: &mut Numbers) -> Vec<u8> {
+    let mut ram = ring(numbers);
+    for i in 0..16 {
+        let at = PARTS[0] as usize + 16 * i + 12;
+        let flags = u16::from_le_bytes([ram[at], ram[at + 1]]);
+        let mark = [0x80, 0x80, 0x80, 0x8000, 0x8080, 0][numbers.below(6) as usize];
+        let id = if numbers.one_in(20) { numbers.any() } else { i as u64 };
+        let words = [id as u16, flags & 7 | mark].map(u16::to_le_bytes).concat();
+        ram[at..at + 4].copy_from_slice(&words);
+    }
+    // The first chain is available, and the driver's area asks for anything.
+    for (i, flags) in [0x81_u16, 0x83, 0x82].into_iter().enumerate() {
+        let at = PARTS[0] as usize + 16 * i + 14;
+        ram[at..at + 2].copy_from_slice(&flags.to_le_bytes());
+    }
+    let area = PARTS[1] as usize;
+    ram[area..area + 4].copy_from_slice(&(numbers.any() as u32).to_le_bytes());
     ram
 }
 
@@ -257,7 +285,7 @@ fn no_front_end_ends_the_program() {
     let mut program = Program::start("hostile", LEN, &[]);
     let things = Things::new(&program);
     let mut numbers = Numbers(0x9e37_79b9_7f4a_7c15);
-    let (mut early, mut served) = (None, 0);
+    let (mut early, mut served, mut packed) = (None, 0, 0);
     for round in 0..CONNECTIONS {
         let ram = if numbers.one_in(3) {
             &things.other_ram
@@ -266,13 +294,28 @@ fn no_front_end_ends_the_program() {
         };
         let file = File::from(again(ram));
         file.set_len(SIZE).unwrap();
-        std::os::unix::fs::FileExt::write_all_at(&file, &ring(&mut numbers), 0).unwrap();
-        let mut messages = usual(&things, ram.as_raw_fd(), &mut numbers);
+        let is_packed = numbers.one_in(3);
+        let bytes = if is_packed {
+            packed_ring(&mut numbers)
+        } else {
+            ring(&mut numbers)
+        };
+        std::os::unix::fs::FileExt::write_all_at(&file, &bytes, 0).unwrap();
+        let mut messages = usual(&things, ram.as_raw_fd(), is_packed, &mut numbers);
         change(&mut messages, &things, &mut numbers);
         speak(&program, &messages, &things, &mut numbers);
-        let mut idx = [0; 2];
-        let read = std::os::unix::fs::FileExt::read_at(&file, &mut idx, PARTS[2] + 2).unwrap();
-        served += usize::from(read == 2 && idx != [0; 2]);
+        // The index of the used ring, or the flags of the first slot.
+        let mut word = [0; 2];
+        let at = if is_packed { PARTS[0] + 14 } else { PARTS[2] + 2 };
+        let read = std::os::unix::fs::FileExt::read_at(&file, &mut word, at).unwrap();
+        let is_served = match (is_packed, u16::from_le_bytes(word)) {
+            (true, flags) => flags & 0x8080 == 0x8080,
+            (false, index) => index != 0,
+        };
+        if read == 2 && is_served {
+            served += 1;
+            packed += usize::from(is_packed);
+        }
         if round + 1 == CONNECTIONS / 10 {
             early = Some((program.descriptors(), program.memory()));
         }
@@ -288,6 +331,7 @@ fn no_front_end_ends_the_program() {
     );
     // Enough of them came so far that requests were served.
     assert!(served > CONNECTIONS / 4, "{served} served requests");
+    assert!(packed > CONNECTIONS / 20, "{packed} of packed rings");
     let mut front = program.connect();
     front.negotiate(USUAL);
     front.set_memory();
@@ -296,6 +340,6 @@ fn no_front_end_ends_the_program() {
     assert_eq!(front.read_disk(0, 1, 512), [3; 512]);
     assert_eq!(program.image.metadata().unwrap().len(), LEN as u64);
     println!(
-        "{served} of {CONNECTIONS} connections had a request served; {now} bytes of memory, {descriptors} descriptors"
+        "{served} of {CONNECTIONS} connections had a request served, {packed} packed; {now} bytes of memory, {descriptors} descriptors"
     );
 }
