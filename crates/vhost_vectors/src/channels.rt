@@ -1,23 +1,26 @@
-//! Channels that give what a test says, and the bytes of messages, written here by themselves.
+//! Channels that give and take what a test says, and the bytes of messages, written here by themselves.
 
 use std::alloc::Global;
 use std::io::{self, ErrorKind, Read, Write};
 use std::test::Fail;
 
-/// A channel that gives its bytes in pieces, and keeps what is written to it.
+/// A channel that gives its bytes in pieces, and takes and keeps what is written to it in pieces.
 #[derive(Drop)]
 pub struct Given {
     pub input: Vec<u8>,
     pub at: usize,
     // The longest piece.
     pub piece: usize,
-    // Whether nothing is there at every other read.
+    // Whether nothing is there at every other read, and every other write is interrupted.
     pub halts: bool,
-    pub halted: bool,
+    // How many reads and writes there were.
+    pub reads: usize,
+    pub writes: usize,
     // Whether it ends behind its bytes. Else nothing more comes.
     pub ends: bool,
-    // Whether a reply of 20 bytes comes only for a message of 44 that was written.
+    // Whether a reply of 20 bytes comes only for a message of 44 that was written, and so many messages later.
     pub answers: bool,
+    pub late: usize,
     pub output: Vec<u8>,
 }
 
@@ -28,21 +31,31 @@ pub fn giving(alloc: Global, input: Vec<u8>, piece: usize, halts: bool, ends: bo
         at: 0,
         piece,
         halts,
-        halted: false,
+        reads: 0,
+        writes: 0,
         ends,
         answers: false,
+        late: 0,
         output: Vec::new(alloc),
     }
 }
 
+// Each way to say that nothing is there yet.
+const NOTHING: [ErrorKind; 3] = [
+    ErrorKind::WouldBlock,
+    ErrorKind::TimedOut,
+    ErrorKind::Interrupted,
+];
+
 impl Read for Given {
     fn read(&mut self, buf: &mut [u8]) -> io::Result<usize> {
-        self.halted = !self.halted;
-        if self.halts && self.halted {
-            return Err(io::Error::from(ErrorKind::WouldBlock));
+        self.reads = self.reads.wrapping_add(1);
+        if self.halts && self.reads % 2 == 1 {
+            return Err(io::Error::from(NOTHING[self.reads / 2 % 3]));
         }
         let there = if self.answers {
-            self.input.len().min(self.output.len() / 44 * 20)
+            let replies = (self.output.len() / 44).saturating_sub(self.late);
+            self.input.len().min(replies.saturating_mul(20))
         } else {
             self.input.len()
         };
@@ -62,8 +75,13 @@ impl Read for Given {
 
 impl Write for Given {
     fn write(&mut self, buf: &[u8]) -> io::Result<usize> {
-        self.output.extend_from_slice(buf)?;
-        Ok(buf.len())
+        self.writes = self.writes.wrapping_add(1);
+        if self.halts && self.writes % 2 == 1 {
+            return Err(io::Error::from(ErrorKind::Interrupted));
+        }
+        let count = buf.len().min(self.piece);
+        self.output.extend_from_slice(&buf[..count])?;
+        Ok(count)
     }
 
     fn flush(&mut self) -> io::Result<()> {

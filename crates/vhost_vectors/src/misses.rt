@@ -22,7 +22,7 @@ enum Ask {
 
 // The limit of the table, the request, what the front end sends, its replies on the back end's own channel, and what
 // comes of it: the answer, the messages of the back end, and the values of its replies. The front end's replies come
-// behind the messages that they are for, or early.
+// behind the messages that they are for, or early, or late, which is one message later.
 //
 // `u3` is an UPDATE of page 3, `r3` one for reads alone, `i3` an INVALIDATE; `e3` an UPDATE of nothing, `v3` one of
 // another version, `a3` one of memory that was not announced. Messages of other requests are `k`, without a payload,
@@ -30,7 +30,7 @@ enum Ask {
 // maps page 3; `x` is of no request. After `!` a reply is asked for. A reply is its number, `?` a message that is none.
 type Case = (usize, Ask, &'static str, &'static str, &'static str);
 
-static CASES: [Case; 36] = [
+static CASES: [Case; 38] = [
     // The page is there before.
     (2, NEAR, "+u0", "", "Ok;;"),
     // A miss of the first byte, and of one behind a page that is there.
@@ -67,6 +67,15 @@ static CASES: [Case; 36] = [
     // The front end refuses.
     (2, NEAR, "", "1", "Refused(1); miss0.8r;"),
     (2, ACROSS, "u0", "0 7", "Refused(7); miss0.ff8r miss1.0r;"),
+    // What it refused before it mapped the address is nothing to the next one.
+    (2, ACROSS, "u0 u1", "late 7 0", "Ok; miss0.ff8r miss1.0r;"),
+    (
+        2,
+        ACROSS,
+        "u0",
+        "late 7 0",
+        "Deadline; miss0.ff8r miss1.0r;",
+    ),
     // What it takes back while the request waits is taken back then, and answered.
     (2, ACROSS, "+u0 +u5 !i5 !i0 u1", "0", "Ok; miss1.0r; 0 0"),
     (
@@ -497,6 +506,7 @@ fn run(alloc: Global, case: &Case, piece: usize, halts: bool) -> Result<String, 
     let front = giving(alloc, input, piece, halts, *words == "end");
     let mut own = giving(alloc, replied(alloc, replies)?, piece, halts, false);
     own.answers = !replies.starts_with("early");
+    own.late = usize::from(replies.starts_with("late"));
     let limits = Limits {
         tries: 10,
         looks: 3000,

@@ -60,10 +60,11 @@ fn sent(alloc: Global, case: Case, is_reply: bool) -> Result<Vec<u8>, Fail> {
     Ok(all)
 }
 
-fn run(alloc: Global, case: Case) -> Result<(Vec<u8>, Vec<u8>), Fail> {
+// What is sent over channels that take so many bytes at once, and halt or not.
+fn run(alloc: Global, case: Case, piece: usize, halts: bool) -> Result<(Vec<u8>, Vec<u8>), Fail> {
     let limits = Limits { tries: 1, looks: 1 };
-    let front = giving(alloc, Vec::new(alloc), 1000, false, false);
-    let own = giving(alloc, Vec::new(alloc), 1000, false, false);
+    let front = giving(alloc, Vec::new(alloc), piece, halts, false);
+    let own = giving(alloc, Vec::new(alloc), piece, halts, false);
     let mut iotlb = make_iotlb(alloc, TlbId(0), front, own, limits)?;
     for (replies, bytes) in case {
         let message = message_of(bytes);
@@ -84,13 +85,15 @@ fn run(alloc: Global, case: Case) -> Result<(Vec<u8>, Vec<u8>), Fail> {
 fn messages_are_sent_as_they_are(rt: HostRuntime) -> Result<(), Fail> {
     let alloc = rt.alloc();
     for (number, case) in CASES.iter().enumerate() {
-        let (front, own) = run(alloc, case)?;
         let replied = sent(alloc, case, true)?;
         let told = sent(alloc, case, false)?;
-        assert!(rt;
-            front.as_slice() == replied.as_slice() && own.as_slice() == told.as_slice(),
-            "case {number}: {front:?} {own:?}"
-        );
+        for (piece, halts) in [(1000, false), (1000, true), (7, false), (1, true)] {
+            let (front, own) = run(alloc, case, piece, halts)?;
+            assert!(rt;
+                front.as_slice() == replied.as_slice() && own.as_slice() == told.as_slice(),
+                "case {number}, pieces of {piece}: {front:?} {own:?}"
+            );
+        }
     }
     Ok(())
 }
