@@ -108,7 +108,13 @@ fn packed_requests_are_served(rt: HostRuntime) -> Result<(), Fail> {
             event_idx: *event_idx,
         };
         let scattered = *event_idx;
-        let told = told_of(rt.alloc(), scattered, numbered(rt.alloc(), 4)?, false, &scene)?;
+        let told = told_of(
+            rt.alloc(),
+            scattered,
+            numbered(rt.alloc(), 4)?,
+            false,
+            &scene,
+        )?;
         expect_text(number, told.as_str(), wanted)?;
     }
     Ok(())
