@@ -239,6 +239,7 @@ fn main(rt: HostRuntime) -> Result<()> {
     let words: Vec<String> = env::args(&rt)?.collect(alloc)?;
     let numbers = numbers(alloc, words.as_slice())?;
     let &[len, cut, calls, rounds] = numbers.as_slice() else {
+        println!(rt; "usage: blk_speed BYTES SEGMENT CALLS ROUNDS, each a number")?;
         return Ok(());
     };
     let mut writes = bench_of(alloc, 1, len, cut, calls)?;
