@@ -1,14 +1,13 @@
-//! Guest memory behind an IOMMU that is on and off: windows, snapshots, and a long value.
+//! Guest memory behind an IOMMU that is on and off: windows, and a long value.
 
 use std::alloc::Global;
-use std::sync::{Arc, Wait};
+use std::sync::Arc;
 use std::test::Fail;
 use test_text::expect_text;
 use vm_memory::{
-    BitmapId, Bytes, ExactBitmap, ExclusiveBitmap, GuestAddress, GuestAddressSpace, GuestMemory,
-    GuestMemoryAtomic, GuestMemoryBackend, GuestMemoryMmap, GuestMemoryRegion,
-    GuestRegionCollection, GuestRegionMmap, HostMemory, Iommu, IommuMemory, Lends, MachineMemory,
-    NewBitmap, Permissions, SpaceId, TableIommu, TlbId,
+    BitmapId, Bytes, ExactBitmap, ExclusiveBitmap, GuestAddress, GuestMemory, GuestMemoryBackend,
+    GuestMemoryMmap, GuestMemoryRegion, GuestRegionCollection, GuestRegionMmap, HostMemory, Iommu,
+    IommuMemory, MachineMemory, NewBitmap, Permissions, SpaceId, TableIommu, TlbId,
 };
 
 // An address, where it leads, so many bytes, and the accesses that are permitted.
@@ -271,49 +270,6 @@ fn a_memory_is_of_its_parts(rt: HostRuntime) -> Result<(), Fail> {
         text.as_str(),
         "1 1 0x1fff false true\n1 1 0x1fff true false\n\
          1 1 0x1fff true false\n1 1 0x3fff true false\nnot translated\n1 1 0x1fff true false\n",
-    )
-}
-
-// The parts of the memory that a snapshot is of and of the one that a reader lends, after each replacement.
-fn tell_replaced<W: Wait, M: GuestMemoryBackend, I: Iommu>(
-    rt: &W,
-    alloc: Global,
-    memory: IommuMemory<M, I>,
-    others: Vec<IommuMemory<M, I>>,
-    text: &mut String,
-) -> Result<(), Fail> {
-    let space = GuestMemoryAtomic::new(alloc, memory)?;
-    let mut reader = space.reader(rt)?;
-    for memory in others {
-        space.lock(rt).replace(rt, alloc, memory)?;
-        parts(space.memory(rt, alloc)?.lend(), text)?;
-        parts(reader.memory(rt)?.lend(), text)?;
-    }
-    Ok(())
-}
-
-// The IOMMU of the first memory is off. It is on in the second, off in the third, and on in the last.
-#[test]
-fn memory_behind_an_iommu_is_replaced(rt: HostRuntime) -> Result<(), Fail> {
-    let mut host = HostMemory::new(rt.alloc());
-    let first = memory_behind(rt.alloc(), &mut host)?;
-    let ranges = [(GuestAddress(0), 0x4000)];
-    let other = GuestMemoryMmap::from_ranges(rt.alloc(), &mut host, &ranges)?;
-    let mut second = first.with_replaced_backend(other)?;
-    second.set_iommu_enabled(true);
-    let mut third = second.clone()?;
-    third.set_iommu_enabled(false);
-    let mut last = first.clone()?;
-    last.set_iommu_enabled(true);
-    let others = vec![in rt.alloc(); second, third, last]?;
-    let mut text = String::new(rt.alloc());
-    tell_replaced(&rt, rt.alloc(), first, others, &mut text)?;
-    expect_text(
-        0,
-        text.as_str(),
-        "1 1 0x3fff true false\n1 1 0x3fff true false\n\
-         1 1 0x3fff false true\n1 1 0x3fff false true\n\
-         1 1 0x1fff true false\n1 1 0x1fff true false\n",
     )
 }
 
