@@ -1,13 +1,14 @@
-//! Guest memory behind an IOMMU that is on and off: windows, and a long value.
+//! Guest memory behind an IOMMU that is on and off: windows, snapshots, and a long value.
 
 use std::alloc::Global;
-use std::sync::Arc;
+use std::sync::{Arc, Wait};
 use std::test::Fail;
 use test_text::expect_text;
 use vm_memory::{
-    BitmapId, Bytes, ExactBitmap, ExclusiveBitmap, GuestAddress, GuestMemory, GuestMemoryBackend,
-    GuestMemoryMmap, GuestMemoryRegion, GuestRegionCollection, GuestRegionMmap, HostMemory, Iommu,
-    IommuMemory, MachineMemory, NewBitmap, Permissions, SpaceId, TableIommu, TlbId,
+    BitmapId, Bytes, ExactBitmap, ExclusiveBitmap, GuestAddress, GuestAddressSpace, GuestMemory,
+    GuestMemoryAtomic, GuestMemoryBackend, GuestMemoryMmap, GuestMemoryRegion,
+    GuestRegionCollection, GuestRegionMmap, HostMemory, Iommu, IommuMemory, Lends, MachineMemory,
+    NewBitmap, Permissions, SpaceId, TableIommu, TlbId,
 };
 
 // An address, where it leads, so many bytes, and the accesses that are permitted.
@@ -270,6 +271,58 @@ fn a_memory_is_of_its_parts(rt: HostRuntime) -> Result<(), Fail> {
         text.as_str(),
         "1 1 0x1fff false true\n1 1 0x1fff true false\n\
          1 1 0x1fff true false\n1 1 0x3fff true false\nnot translated\n1 1 0x1fff true false\n",
+    )
+}
+
+// The last address of the backend, if accesses go there as they are.
+fn tell_physical<M: GuestMemory>(memory: &M, text: &mut String) -> Result<(), Fail> {
+    match memory.physical_memory() {
+        Some(backend) => writeln!(text, "{:#x}", backend.last_addr().0)?,
+        None => text.push_str("translated\n")?,
+    }
+    Ok(())
+}
+
+// Tells of which memory a snapshot is after each replacement, and which one a reader lends.
+fn tell_replaced<W: Wait, M: GuestMemory + Drop>(
+    rt: &W,
+    alloc: Global,
+    first: M,
+    others: Vec<M>,
+    text: &mut String,
+) -> Result<(), Fail> {
+    let space = GuestMemoryAtomic::new(alloc, first)?;
+    let mut reader = space.reader(rt)?;
+    for memory in others {
+        space.lock(rt).replace(rt, alloc, memory)?;
+        let snapshot = space.memory(rt, alloc)?;
+        tell_physical(snapshot.lend(), text)?;
+        let lent = reader.memory(rt)?;
+        tell_physical(lent.lend(), text)?;
+    }
+    Ok(())
+}
+
+// The IOMMU of the first memory is off. It is on, off, on and off in those that follow.
+#[test]
+fn memory_behind_an_iommu_is_replaced(rt: HostRuntime) -> Result<(), Fail> {
+    let mut host = HostMemory::new(rt.alloc());
+    let first = memory_behind(rt.alloc(), &mut host)?;
+    let ranges = [(GuestAddress(0), 0x4000)];
+    let other = GuestMemoryMmap::from_ranges(rt.alloc(), &mut host, &ranges)?;
+    let mut second = first.with_replaced_backend(other)?;
+    second.set_iommu_enabled(true);
+    let mut third = second.clone()?;
+    third.set_iommu_enabled(false);
+    let mut fourth = first.clone()?;
+    fourth.set_iommu_enabled(true);
+    let others = vec![in rt.alloc(); second, third, fourth, first.clone()?]?;
+    let mut text = String::new(rt.alloc());
+    tell_replaced(&rt, rt.alloc(), first, others, &mut text)?;
+    expect_text(
+        0,
+        text.as_str(),
+        "translated\ntranslated\n0x3fff\n0x3fff\ntranslated\ntranslated\n0x1fff\n0x1fff\n",
     )
 }
 
