@@ -1,6 +1,7 @@
-//! Times requests of a block device beside plain accesses of as many bytes: `blk_speed BYTES SEGMENT CALLS ROUNDS`. The
-//! data of a request lie in segments of SEGMENT bytes, and what is printed is the fastest of ROUNDS rounds of CALLS calls.
-//! Without arguments nothing is timed.
+//! Times requests of a block device beside plain accesses: `blk_speed BYTES SEGMENT CALLS ROUNDS`. A request has BYTES
+//! bytes of data, in segments of SEGMENT bytes. It is served alone, and over a queue, of which the driver publishes 64
+//! entries at a time. The plain accesses are those that a request needs: of as many bytes, of a header and of a status.
+//! What is printed is the fastest of ROUNDS rounds of CALLS calls. Without arguments nothing is timed.
 #![tactic(auto)]
 
 ghost use Rattle.std.specs.Prelude.{◌≡◌};
@@ -11,6 +12,9 @@ use std::alloc::Global;
 use std::env;
 use std::time::{Clock, Instant};
 use virtio_blk::{BlockDevice, MemoryDisk};
+use virtio_queue::{
+    AnyQueue, Descriptor, DriverQueue, QueueField, VRING_DESC_F_NEXT, VRING_DESC_F_WRITE,
+};
 use vm_memory_base::{Bitmap, ExclusiveBitmap, GuestAddress};
 use vm_memory_device::{Chain, Segment};
 use vm_memory_guest::{Bytes, GuestMemory, GuestMemoryMmap, HostMemory};
@@ -18,6 +22,13 @@ use vm_memory_guest::{Bytes, GuestMemory, GuestMemoryMmap, HostMemory};
 const HEADER: u64 = 0x1000;
 
 const STATUS: u64 = 0x2000;
+
+const QUEUE: u64 = 0x3000;
+
+// How many descriptors the queue has, and how many entries the driver publishes at a time.
+const SIZE: u16 = 128;
+
+const BATCH: u16 = 64;
 
 const DATA: u64 = 0x1_0000;
 
@@ -72,12 +83,56 @@ fn serve_all<M: GuestMemory, B: Bitmap>(
     sum
 }
 
+// Publishes the same chain for a batch, and processes it. It says how many chains came back.
+#[inline(always)]
+fn process_batch<M: GuestMemory, B: Bitmap>(
+    device: &mut BlockDevice<MemoryDisk>,
+    queue: &mut AnyQueue,
+    driver: &mut DriverQueue,
+    mem: &M,
+    host: &mut HostMemory<B>,
+) -> u32
+    requires { Holds (shape_of host.old) (M.names mem.now) }
+    ensures { shape_of host.new ≡ shape_of host.old }
+{
+    let next = driver.next_avail.wrapping_add(BATCH);
+    driver.next_avail = next;
+    if driver
+        .set_field(mem, host, QueueField::AvailIdx, next)
+        .is_err()
+    {
+        return 0;
+    }
+    device.process(queue, mem, host, u32::from(BATCH)).count
+}
+
+// Processes so many batches.
+#[inline(never)]
+fn process_all<M: GuestMemory, B: Bitmap>(
+    device: &mut BlockDevice<MemoryDisk>,
+    queue: &mut AnyQueue,
+    driver: &mut DriverQueue,
+    mem: &M,
+    host: &mut HostMemory<B>,
+    batches: u32,
+) -> u64
+    requires { Holds (shape_of host.old) (M.names mem.now) }
+    ensures { shape_of host.new ≡ shape_of host.old }
+{
+    let mut sum = 0u64;
+    for _ in 0..batches {
+        sum = sum.wrapping_add(u64::from(process_batch(device, queue, driver, mem, host)));
+    }
+    sum
+}
+
 // Writes bytes so many times.
 #[inline(never)]
 fn write_all<M: GuestMemory, B: Bitmap>(
     mem: &M,
     host: &mut HostMemory<B>,
     bytes: &[u8],
+    addr: u64,
     calls: u32,
 ) -> u64
     requires { Holds (shape_of host.old) (M.names mem.now) }
@@ -85,7 +140,7 @@ fn write_all<M: GuestMemory, B: Bitmap>(
 {
     let mut sum = 0u64;
     for _ in 0..calls {
-        if mem.write_slice(host, bytes, GuestAddress(DATA)).is_ok() {
+        if mem.write_slice(host, bytes, GuestAddress(addr)).is_ok() {
             sum = sum.wrapping_add(1);
         }
     }
@@ -98,13 +153,14 @@ fn read_all<M: GuestMemory, B: Bitmap>(
     mem: &M,
     host: &HostMemory<B>,
     bytes: &mut [u8],
+    addr: u64,
     calls: u32,
 ) -> u64
     requires { Holds (shape_of host.now) (M.names mem.now) }
 {
     let mut sum = 0u64;
     for _ in 0..calls {
-        if mem.read_slice(host, bytes, GuestAddress(DATA)).is_ok() {
+        if mem.read_slice(host, bytes, GuestAddress(addr)).is_ok() {
             sum = sum.wrapping_add(1);
         }
     }
@@ -124,8 +180,11 @@ fn put_header<M: GuestMemory, B: Bitmap>(mem: &M, host: &mut HostMemory<B>, kind
 #[derive(Clone, Copy)]
 enum Part {
     Serve,
+    Process,
     Write,
     Read,
+    Header,
+    Status,
 }
 
 // A guest and its device, with a request.
@@ -135,6 +194,8 @@ struct Bench {
     memory: GuestMemoryMmap,
     device: BlockDevice<MemoryDisk>,
     chain: Chain,
+    queue: AnyQueue,
+    driver: DriverQueue,
     buffer: Vec<u8>,
     calls: u32,
 }
@@ -152,18 +213,33 @@ fn run(bench: &mut Bench, part: Part) -> u64 {
             &bench.chain,
             bench.calls,
         ),
+        Part::Process => process_all(
+            &mut bench.device,
+            &mut bench.queue,
+            &mut bench.driver,
+            &bench.memory,
+            &mut bench.host,
+            bench.calls / u32::from(BATCH),
+        ),
         Part::Write => write_all(
             &bench.memory,
             &mut bench.host,
             bench.buffer.as_slice(),
+            DATA,
             bench.calls,
         ),
         Part::Read => read_all(
             &bench.memory,
             &bench.host,
             bench.buffer.as_mut_slice(),
+            DATA,
             bench.calls,
         ),
+        Part::Header => {
+            let mut header = [0u8; 16];
+            read_all(&bench.memory, &bench.host, &mut header, HEADER, bench.calls)
+        }
+        Part::Status => write_all(&bench.memory, &mut bench.host, &[0u8], STATUS, bench.calls),
     }
 }
 
@@ -187,6 +263,40 @@ fn fastest<R: Clock>(rt: &R, bench: &mut Bench, part: Part, rounds: u32) -> Resu
     Ok(least)
 }
 
+// The driver's half of a queue, in whose table a chain lies from the first descriptor on. Each entry of the available ring
+// has its head.
+fn driver_of<M: GuestMemory, B: Bitmap>(
+    mem: &M,
+    host: &mut HostMemory<B>,
+    chain: &Chain,
+) -> Result<DriverQueue> {
+    let driver = DriverQueue::new(GuestAddress(QUEUE), SIZE)?;
+    let mut index = 0u16;
+    let mut left = chain.segments().len();
+    for segment in chain.segments() {
+        if !host.holds(mem) {
+            bail!("the host does not hold the memory");
+        }
+        left = left.saturating_sub(1);
+        let next = index.wrapping_add(1);
+        let goes_on = if left > 0 { VRING_DESC_F_NEXT } else { 0 };
+        let is_written = if segment.writable {
+            VRING_DESC_F_WRITE
+        } else {
+            0
+        };
+        let descriptor = Descriptor {
+            addr: segment.addr.0,
+            len: segment.len,
+            flags: goes_on | is_written,
+            next,
+        };
+        driver.put_descriptor(mem, host, index, descriptor)?;
+        index = next;
+    }
+    Ok(driver)
+}
+
 // A guest with a request of this kind.
 fn bench_of(alloc: Global, kind: u8, len: u32, cut: u32, calls: u32) -> Result<Bench> {
     let mut host: HostMemory<ExclusiveBitmap> = HostMemory::new(alloc);
@@ -198,11 +308,16 @@ fn bench_of(alloc: Global, kind: u8, len: u32, cut: u32, calls: u32) -> Result<B
     }
     let chain = chain_of(alloc, len, kind == 0, cut)?;
     put_header(&memory, &mut host, kind);
+    let driver = driver_of(&memory, &mut host, &chain)?;
+    let mut queue = AnyQueue::Split(driver.queue()?);
+    queue.set_event_idx(device.event_idx());
     Ok(Bench {
         host,
         memory,
         device,
         chain,
+        queue,
+        driver,
         buffer: vec![in alloc; 1u8; len as usize]?,
         calls,
     })
@@ -213,8 +328,11 @@ fn tell<R: Clock + Print>(rt: &R, bench: &mut Bench, name: &str, rounds: u32) ->
     let calls = u64::from(bench.calls.max(1));
     for (part, what) in [
         (Part::Serve, "serve"),
+        (Part::Process, "process"),
         (Part::Write, "write_slice"),
         (Part::Read, "read_slice"),
+        (Part::Header, "read_slice of a header"),
+        (Part::Status, "write_slice of a status"),
     ] {
         let tenths = fastest(rt, bench, part, rounds)?.saturating_mul(10) / calls;
         let (nanos, rest) = (tenths / 10, tenths % 10);
