@@ -44,7 +44,7 @@ pub(crate) fn put_bytes<B: Bitmap>(
     Ok(())
 }
 
-// Puts pages into a block that begins with the page `first`, and answers where they end.
+// Puts pages into a block that begins with the page `first`, and returns where they end.
 fn put_pages<B: Bitmap>(
     host: &mut HostMemory<B>,
     block: BlockId,
@@ -87,8 +87,8 @@ fn has_zeros<B: Bitmap>(host: &HostMemory<B>, block: BlockId, start: usize, len:
     are_zero(host.bytes(&window))
 }
 
-// Puts zeros into a block, if the host has the place. If they are there already, nothing changes: a page that is only
-// looked at takes no memory, and no mark.
+// Puts zeros into a block, if the host has the place. If they are there already, nothing changes: such a page is only
+// read, and not marked.
 fn put_new_zeros<B: Bitmap>(
     host: &mut HostMemory<B>,
     block: BlockId,

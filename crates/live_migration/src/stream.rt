@@ -50,7 +50,7 @@ pub(crate) fn read_bytes<R: Read>(
     fill(reader, bytes.as_mut_slice())
 }
 
-// Reads a frame, and answers its kind. `FrameLength` where it is longer than its kind may be, where pages have at most
+// Reads a frame, and returns its kind. `FrameLength` where it is longer than its kind may be, where pages have at most
 // `longest` bytes: then nothing of it is taken.
 #[tactic(auto, using(crate::proofs::StreamLemmas::consumes_consumes))]
 pub(crate) fn read_frame<R: Read>(

@@ -33,7 +33,7 @@ fn read_header<R: Read>(alloc: Global, reader: &mut R) -> Result<Vec<u8>, Refusa
     Ok(bytes)
 }
 
-// Makes the blocks of a header, of zeros, and answers the number of the first.
+// Makes the blocks of a header, of zeros, and returns the number of the first.
 fn make_blocks<B: NewBitmap + Drop>(
     host: &mut HostMemory<B>,
     entries: &[BlockEntry],

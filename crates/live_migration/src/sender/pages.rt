@@ -153,7 +153,7 @@ fn copy_run(
 }
 
 // Copies the first of these pages behind what waits to be sent, and those that follow it in one frame with it. It
-// answers how many were copied.
+// returns how many were copied.
 fn copy_first(
     batch: &mut Vec<u8>,
     number: u32,
@@ -298,7 +298,7 @@ fn take_all<B: ExactBitmap>(
     }
 }
 
-// Copies pages of a block behind what waits to be sent, as long as there is room, and answers how many: at most 2^20
+// Copies pages of a block behind what waits to be sent, as long as there is room, and returns how many: at most 2^20
 // bytes of pages, zeros among them.
 pub(super) fn copy_pages(
     batch: &mut Vec<u8>,

@@ -25,7 +25,7 @@ pub struct Served {
 }
 
 impl<D: Disk> BlockDevice<D> {
-    // Pops a chain, serves it and returns it, where there is one.
+    // Pops a chain, serves it and returns it, if there is one.
     fn serve_next<M: GuestMemory, B: Bitmap>(
         &mut self,
         queue: &mut AnyQueue,
@@ -100,9 +100,9 @@ impl<D: Disk> BlockDevice<D> {
         (count, Ok(true))
     }
 
-    /// Serves the chains that the driver has made available in a queue of either kind and returns each, until there are no more, but at most `most`
-    /// chains: the crate's README.md. When there are no more, it asks the driver to notify the device of the next one,
-    /// and goes on with what came by then.
+    /// Serves the chains that the driver has made available in a queue of either kind and returns each, until there are
+    /// no more, but at most `most` chains: the crate's README.md. When there are no more, it asks the driver to notify
+    /// the device of the next one, and goes on with what came by then.
     ///
     /// The owner calls it when the driver notifies the device, and again whenever it returns that there is `more`.
     /// So no request waits without a notification. The bound is for a guest that keeps publishing, or whose requests

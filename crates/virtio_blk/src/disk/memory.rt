@@ -13,7 +13,7 @@ pub struct MemoryDisk {
 }
 
 impl MemoryDisk {
-    /// A disk of these bytes. Those behind the last whole sector are no part of it.
+    /// A disk of these bytes. Those after the last whole sector are no part of it.
     pub fn new(bytes: Vec<u8>) -> MemoryDisk
         ensures { bytes_of result ≡ bytes.items }
     {
