@@ -333,8 +333,8 @@ impl SessionQueue {
         bytes_moved(writer.write(mem, host, bytes), answer);
     }
 
-    // Returns a chain in flight.
-    #[inline(always)]
+    // Returns a chain in flight. It is called, so that the calls of both kinds of memory need few registers.
+    #[inline(never)]
     pub(crate) fn add_used<M: GuestMemory, B: Bitmap>(
         &mut self,
         mem: &M,
