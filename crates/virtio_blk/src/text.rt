@@ -63,7 +63,7 @@ pub(crate) fn read_all<M: GuestMemory, B: Bitmap>(
 }
 
 // Writes the buffer to the next bytes of a text. Where fewer are written than the buffer has, the next one cannot be.
-#[inline]
+#[inline(always)]
 pub(crate) fn write_front<M: GuestMemory, B: Bitmap>(
     writer: &mut ChainWriter<'_>,
     mem: &M,
