@@ -58,6 +58,14 @@ pub record HarvestsNext {B : Type 0} (pages_of : B → PageSet) (old new : Round
   pub last : new.last ≡ old.turn
   pub same : (new.targets ≡ old.targets) × (new.round ≡ old.round) × (new.batch ≡ old.batch)
 
+-- pages of a block still wait, or the round has no more blocks
+abbrev pub IsBusy : Rounds → Type 0
+IsBusy r = (r.next < length r.waiting.items) ⊎ (length r.targets.items ≤ r.turn)
+
+-- there is no block whose pages wait, or none that a frame can name
+abbrev pub NoneHarvested : Rounds → Type 0
+NoneHarvested r = (length r.targets.items ≤ r.last) ⊎ (2 ^ 32 ≤ r.last)
+
 -- the size of the pages of a target
 abbrev pub page_size_of : Option Target → ℕ
 page_size_of (Some t) = t.entry.page_size
@@ -101,6 +109,10 @@ pub record CopiesPages {B : Type 0} (count : ℕ) (old new : Rounds) (host : Hos
 -- nothing waits to be copied or sent
 abbrev pub IsIdle : Rounds → Type 0
 IsIdle r = (length r.waiting.items ≤ r.next) × (r.batch.items ≡ [])
+
+-- each block of a round was harvested, nothing waits, and one more round has a number
+abbrev pub IsThrough : Rounds → Type 0
+IsThrough r = IsIdle r × (r.turn ≡ length r.targets.items) × (r.round + 1 < 2 ^ 32)
 
 -- the host has a target's block, as long as at the beginning
 abbrev pub IsAsItWas : {B : Type 0} → Target → Host B → Type 0

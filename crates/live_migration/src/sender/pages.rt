@@ -1,5 +1,5 @@
 //! Pages of a block that are taken and copied.
-ghost use Rattle.std.specs.Prelude.{◌≡◌, ◌≢◌, true, false, ℕ, ◌+◌, ◌*◌, ◌^◌, ◌<◌, ◌≤◌, ◌↔◌, IsTrue, [], ◌∷◌, ◌⊎◌, length, take, Some, IfOk, OnOk, OnErr, slice_index};
+ghost use Rattle.std.specs.Prelude.{◌≡◌, ◌≢◌, true, false, ℕ, ◌+◌, ◌*◌, ◌^◌, ◌<◌, ◌≤◌, ◌↔◌, IsTrue, [], ◌∷◌, ◌⊎◌, length, take, Some, IfErr, IfOk, OnOk, OnErr, slice_index};
 ghost use Rattle.std.specs.Int.{div_ceil};
 ghost use Rattle.vm_memory_base.specs.Address.{numbers};
 ghost use Rattle.vm_memory_guest.specs.Host as names;
@@ -223,7 +223,8 @@ fn covers(page_size: usize, count: usize, len: u64) -> bool
 fn check_pages<B: ExactBitmap>(host: &HostMemory<B>, target: &Target) -> Result<(), SendError>
     requires held { Holds (shape_of host.now) (names.Block target.now.block.0 ∷ []) }
     requires len { length (block_at host.now.blocks target.now.block.0) ≡ target.now.entry.len }
-    ensures { OnOk result (IsTracked B.pages target.now host.now) }
+    ensures tracked { OnOk result (IsTracked B.pages target.now host.now) }
+    ensures error { IfErr result (λ e. (e ≡ SendError.Untracked) ⊎ (e ≡ SendError.Changed)) }
 {
     match host.bitmap(BitmapId::Block(target.block.0)).shape() {
         None => Err(SendError::Untracked),
@@ -261,6 +262,7 @@ pub(super) fn take_pages<B: ExactBitmap>(
 ) -> Result<Vec<usize>, SendError>
     ensures taken { IfOk result (λ pages. TakesPages B.pages target.now round pages.items host.old host.new) }
     ensures err { OnErr result (host.new ≡ host.old) }
+    ensures error { IfErr result (λ e. (e ≡ SendError.Untracked) ⊎ (e ≡ SendError.Changed) ⊎ (e ≡ SendError.Memory)) }
 {
     if !has_target(host, target) {
         return Err(SendError::Changed);
@@ -288,6 +290,7 @@ fn take_all<B: ExactBitmap>(
     requires len { len ≡ length (block_at host.old.blocks target.now.block.0) }
     ensures taken { IfOk result (λ pages. TakesPages B.pages target.now 0 pages.items host.old host.new) }
     ensures err { OnErr result (host.new ≡ host.old) }
+    ensures error { IfErr result (λ e. e ≡ SendError.Memory) }
 {
     let Ok(all) = all_pages(alloc, len, target.entry.page_size as usize) else {
         return Err(SendError::Memory);

@@ -1,5 +1,5 @@
 //! The rounds of a sender: which pages wait to be copied, and what was copied and waits to be sent.
-ghost use Rattle.std.specs.Prelude.{◌≡◌, ◌+◌, ◌^◌, ◌<◌, ◌≤◌, length, IfOk, OnOk, OnErr};
+ghost use Rattle.std.specs.Prelude.{◌≡◌, ◌+◌, ◌^◌, ◌<◌, ◌≤◌, ◌⊎◌, length, IfErr, IfOk, IsErrOf, OnOk, OnErr};
 
 use super::pages::{
     SendError, Target, copy_pages, has_target, mark_targets, take_pages, whole_block,
@@ -25,7 +25,7 @@ pub struct Rounds {
 
 impl Rounds {
     ghost use Rattle.live_migration.specs.Following.{StaysAsItWas};
-    ghost use Rattle.live_migration.specs.Sending.{AreMarkedAgain, CopiesPages, HarvestsNext, harvested};
+    ghost use Rattle.live_migration.specs.Sending.{AreMarkedAgain, CopiesPages, HarvestsNext, IsBusy, NoneHarvested, harvested};
 
     /// Takes the pages of the next block of the round, so that they wait to be copied and none of the block is dirty,
     /// and returns how many. In the first round these are all pages of the block, whoever harvested before.
@@ -39,6 +39,10 @@ impl Rounds {
         host: &mut HostMemory<B>,
     ) -> Result<usize, SendError>
         ensures taken { OnOk result (HarvestsNext B.pages self.old self.new host.old host.new) }
+        ensures count { IfOk result (λ count. count ≡ length self.new.waiting.items) }
+        ensures order { IsErrOf result SendError.Order → IsBusy self.old }
+        ensures error { IfErr result (λ e. (e ≡ SendError.Order) ⊎ (e ≡ SendError.Untracked) ⊎ (e ≡ SendError.Changed)
+            ⊎ (e ≡ SendError.Memory)) }
         ensures err { OnErr result ((self.new ≡ self.old) × (host.new ≡ host.old)) }
     {
         if self.next < self.waiting.len() {
@@ -73,10 +77,12 @@ impl Rounds {
     /// pages, zeros among them, and at most 2^20 + 20 bytes wait to be sent then. It returns how many pages were
     /// copied, which is 0 if there is no room.
     ///
-    /// `Changed` if the host no longer has the block as it was, and `Memory` if the first allocation fails. Then
-    /// nothing changes.
+    /// `Order` if no block was harvested yet, of a sender without blocks, and past 2^32 - 1 blocks. `Changed` if the host
+    /// no longer has the block as it was, and `Memory` if the first allocation fails. Then nothing changes.
     pub fn copy_batch<B: Bitmap>(&mut self, host: &HostMemory<B>) -> Result<usize, SendError>
         ensures copied { IfOk result (λ count. CopiesPages count self.old self.new host.now) }
+        ensures order { IsErrOf result SendError.Order → NoneHarvested self.old }
+        ensures error { IfErr result (λ e. (e ≡ SendError.Order) ⊎ (e ≡ SendError.Changed) ⊎ (e ≡ SendError.Memory)) }
         ensures short { length self.new.batch.items ≤ 2 ^ 20 + 20 }
         ensures err { OnErr result (StaysAsItWas self.old self.new) }
     {

@@ -1,5 +1,5 @@
 //! A sender with its stream: what was copied is sent, rounds end, and the guest is given up.
-ghost use Rattle.std.specs.Prelude.{◌≡◌, ◌≢◌, true, ℕ, Bool, ◌+◌, ◌-◌, ◌^◌, ◌<◌, ◌≤◌, List, [], ◌++◌, length, map, take, Some, IfOk, IsOk, IsOkUnless, OnOk, OnErr, IsErr, IsTrue, ◌↔◌, ◌⊎◌};
+ghost use Rattle.std.specs.Prelude.{◌≡◌, ◌≢◌, true, ℕ, Bool, ◌+◌, ◌-◌, ◌^◌, ◌<◌, ◌≤◌, List, [], ◌++◌, length, map, take, Some, IfErr, IfOk, IsOk, IsOkUnless, OnOk, OnErr, IsErr, IsErrOf, IsTrue, ◌↔◌, ◌⊎◌};
 ghost use Rattle.std.specs.Io.KnownBytes.{Appends, Keeps};
 ghost use Rattle.live_migration.specs.Digests.{HasNoted, digest_of};
 ghost use Rattle.live_migration.specs.Frame.{Done, Go, IsMessage, RoundEnd, Section, message_of, spelling};
@@ -59,6 +59,7 @@ fn send<W: Write>(writer: &mut W, hasher: &mut StreamHasher, bytes: &[u8]) -> Re
     ensures ok { OnOk result (Sends bytes.now (W.contents writer.old) (W.contents writer.new) hasher.old hasher.new) }
     ensures err { OnErr result ((count : ℕ)
         × Appends (W.contents writer.old) (W.contents writer.new) (take count bytes.now)) }
+    ensures error { IfErr result (λ e. e ≡ SendError.Failed) }
 {
     if write_bytes(writer, bytes).is_err() {
         return Err(SendError::Failed);
@@ -79,6 +80,7 @@ fn send_frame<W: Write>(
         hasher.old hasher.new) }
     ensures err { OnErr result ((count : ℕ)
         × Appends (W.contents writer.old) (W.contents writer.new) (take count (spelling (message_of frame.now)))) }
+    ensures error { IfErr result (λ e. (e ≡ SendError.Failed) ⊎ (e ≡ SendError.Memory)) }
 {
     let mut bytes = Vec::new(alloc);
     if frame.encode(&mut bytes).is_err() {
@@ -102,6 +104,7 @@ fn send_round_end<W: Write>(
         (take count (spelling (RoundEnd round (digest_of digests sent))))) }
     ensures fits { (digests : Bool) (sent : List ℕ) → HasNoted digests hasher.old sent
         → OnOk result (IsMessage (RoundEnd round (digest_of digests sent))) }
+    ensures error { IfErr result (λ e. (e ≡ SendError.Failed) ⊎ (e ≡ SendError.Memory)) }
 {
     let Ok(digest) = hasher.digest() else {
         return Err(SendError::Memory);
@@ -220,7 +223,7 @@ impl Rounds {
 
 impl Sender {
     ghost use Rattle.live_migration.specs.Following.{StaysAsItWas};
-    ghost use Rattle.live_migration.specs.Sending.{AreMarkedAgain, HarvestsNext, CopiesPages, IsIdle, harvested};
+    ghost use Rattle.live_migration.specs.Sending.{AreMarkedAgain, HarvestsNext, CopiesPages, IsBusy, IsIdle, IsThrough, NoneHarvested, harvested};
 
     /// Writes the header of these options and blocks of a host, each with its address. The first round is sent after
     /// `ready`. The
@@ -257,6 +260,10 @@ impl Sender {
         host: &mut HostMemory<B>,
     ) -> Result<usize, SendError>
         ensures taken { OnOk result (HarvestsNext B.pages self.old.rounds self.new.rounds host.old host.new) }
+        ensures count { IfOk result (λ count. count ≡ length self.new.rounds.waiting.items) }
+        ensures order { IsErrOf result SendError.Order → IsBusy self.old.rounds }
+        ensures error { IfErr result (λ e. (e ≡ SendError.Order) ⊎ (e ≡ SendError.Untracked) ⊎ (e ≡ SendError.Changed)
+            ⊎ (e ≡ SendError.Memory)) }
         ensures err { OnErr result ((self.new ≡ self.old) × (host.new ≡ host.old)) }
         ensures same { (self.new.hasher ≡ self.old.hasher) × (self.new.stage ≡ self.old.stage) }
     {
@@ -266,6 +273,8 @@ impl Sender {
     /// As `Rounds::copy_batch`.
     pub fn copy_batch<B: Bitmap>(&mut self, host: &HostMemory<B>) -> Result<usize, SendError>
         ensures copied { IfOk result (λ count. CopiesPages count self.old.rounds self.new.rounds host.now) }
+        ensures order { IsErrOf result SendError.Order → NoneHarvested self.old.rounds }
+        ensures error { IfErr result (λ e. (e ≡ SendError.Order) ⊎ (e ≡ SendError.Changed) ⊎ (e ≡ SendError.Memory)) }
         ensures short { length self.new.rounds.batch.items ≤ 2 ^ 20 + 20 }
         ensures err { OnErr result (StaysAsItWas self.old.rounds self.new.rounds) }
         ensures same { (self.new.hasher ≡ self.old.hasher) × (self.new.stage ≡ self.old.stage) }
@@ -280,6 +289,9 @@ impl Sender {
             self.old.hasher self.new.hasher) }
         ensures ok { OnOk result (self.new.rounds.batch.items ≡ []) }
         ensures stage { OnOk result (IsInRounds self.old.stage × (self.new.stage ≡ stages.Sending)) }
+        ensures order { IsErrOf result SendError.Order → IsInRounds self.old.stage → ⊥ }
+        ensures error { IfErr result (λ e. (e ≡ SendError.Order)
+            ⊎ ((e ≡ SendError.Failed) × (self.new.stage ≡ stages.Failed))) }
         ensures err { OnErr result (self.new.rounds.batch ≡ self.old.rounds.batch) }
         ensures unsent { OnErr result (((self.new ≡ self.old) × (writer.new ≡ writer.old))
             ⊎ BreaksOff self.old.rounds.batch.items (W.contents writer.old) (W.contents writer.new) self.old.stage
@@ -313,6 +325,9 @@ impl Sender {
             self.old.hasher self.new.hasher) }
         ensures ok { OnOk result (self.new.rounds.batch.items ≡ []) }
         ensures stage { OnOk result (IsInRounds self.old.stage × (self.new.stage ≡ stages.Sending)) }
+        ensures order { IsErrOf result SendError.Order → IsInRounds self.old.stage → ⊥ }
+        ensures error { IfErr result (λ e. (e ≡ SendError.Order)
+            ⊎ ((e ≡ SendError.Failed) × (self.new.stage ≡ stages.Failed))) }
         ensures err { OnErr result (self.new.rounds.batch ≡ self.old.rounds.batch) }
         ensures unsent { OnErr result (((self.new ≡ self.old) × (bytes.new ≡ bytes.old))
             ⊎ BreaksOff self.old.rounds.batch.items (Some bytes.old.items) (Some bytes.new.items) self.old.stage
@@ -347,7 +362,11 @@ impl Sender {
         ensures sent { OnOk result (Sends (spelling (Section name.now bytes.now)) (W.contents writer.old)
             (W.contents writer.new) self.old.hasher self.new.hasher) }
         ensures fits { OnOk result ((length name.now < 256) × (length bytes.now ≤ 2 ^ 20)) }
+        ensures section { IsErrOf result SendError.Section → (256 ≤ length name.now) ⊎ (2 ^ 20 < length bytes.now) }
         ensures stage { OnOk result (IsInRounds self.old.stage × (self.new.stage ≡ stages.Sending)) }
+        ensures order { IsErrOf result SendError.Order → IsInRounds self.old.stage → ⊥ }
+        ensures error { IfErr result (λ e. (e ≡ SendError.Section) ⊎ (e ≡ SendError.Order)
+            ⊎ (((e ≡ SendError.Failed) ⊎ (e ≡ SendError.Memory)) × (self.new.stage ≡ stages.Failed))) }
         ensures unsent { OnErr result (((self.new ≡ self.old) × (writer.new ≡ writer.old))
             ⊎ BreaksOff (spelling (Section name.now bytes.now)) (W.contents writer.old) (W.contents writer.new)
             self.old.stage self.new.stage) }
@@ -384,6 +403,9 @@ impl Sender {
             × (self.old.rounds.turn ≡ length self.old.rounds.targets.items)) }
         ensures next { OnOk result ((self.new.rounds.round ≡ self.old.rounds.round + 1) × (self.new.rounds.turn ≡ 0)) }
         ensures stage { OnOk result (IsInRounds self.old.stage × (self.new.stage ≡ stages.RoundEnded)) }
+        ensures order { IsErrOf result SendError.Order → IsInRounds self.old.stage × IsThrough self.old.rounds → ⊥ }
+        ensures error { IfErr result (λ e. (e ≡ SendError.Order)
+            ⊎ (((e ≡ SendError.Failed) ⊎ (e ≡ SendError.Memory)) × (self.new.stage ≡ stages.Failed))) }
         ensures err { OnErr result (self.new.rounds ≡ self.old.rounds) }
         ensures unsent { (digests : Bool) (sent : List ℕ) → HasNoted digests self.old.hasher sent
             → OnErr result (((self.new ≡ self.old) × (writer.new ≡ writer.old))
@@ -423,6 +445,10 @@ impl Sender {
             self.old.hasher self.new.hasher) }
         ensures ok { OnOk result ((self.new.stage ≡ stages.Done) × (self.old.stage ≡ stages.RoundEnded)
             × (self.old.rounds.turn ≡ 0)) }
+        ensures order { IsErrOf result SendError.Order
+            → (self.old.stage ≡ stages.RoundEnded) × (self.old.rounds.turn ≡ 0) → ⊥ }
+        ensures error { IfErr result (λ e. (e ≡ SendError.Order)
+            ⊎ (((e ≡ SendError.Failed) ⊎ (e ≡ SendError.Memory)) × (self.new.stage ≡ stages.Failed))) }
         ensures unsent { OnErr result (((self.new ≡ self.old) × (writer.new ≡ writer.old))
             ⊎ BreaksOff (spelling Done) (W.contents writer.old) (W.contents writer.new) self.old.stage self.new.stage) }
         ensures same { self.new.rounds ≡ self.old.rounds }
@@ -452,6 +478,8 @@ impl Sender {
         ensures early { self.old.stage ≢ stages.Accepted
             → IsErr result × (writer.new ≡ writer.old) × (self.new ≡ self.old) }
         ensures gone { self.old.stage ≡ stages.Accepted → self.new.stage ≡ stages.Gone }
+        ensures order { IsErrOf result SendError.Order → self.old.stage ≢ stages.Accepted }
+        ensures error { IfErr result (λ e. (e ≡ SendError.Order) ⊎ (e ≡ SendError.Failed)) }
         ensures same { self.new.rounds ≡ self.old.rounds }
     {
         if self.stage != SendStage::Accepted {

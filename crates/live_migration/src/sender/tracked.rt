@@ -1,9 +1,9 @@
 //! Blocks whose pages a `TrackedBitmap` tracks, which threads mark and which is harvested without the lock of a host.
-ghost use Rattle.std.specs.Prelude.{◌≡◌, ◌/◌, ◌<◌, length, map, IfOk, OnOk, OnErr};
+ghost use Rattle.std.specs.Prelude.{◌≡◌, ◌/◌, ◌<◌, ◌⊎◌, length, map, IfErr, IfOk, IsErrOf, OnOk, OnErr};
 ghost use Rattle.std.specs.Int.{div_ceil};
 ghost use Rattle.live_migration.specs.Leave.{BeginsToSend};
 ghost use Rattle.live_migration.specs.Targets.{AreBlocks, sized_asked, sized_place_of};
-ghost use Rattle.live_migration.specs.Sending.{IsAsItWas};
+ghost use Rattle.live_migration.specs.Sending.{IsAsItWas, IsBusy};
 ghost use Rattle.live_migration.specs.Words as spec;
 ghost use Rattle.live_migration.specs.Words.{TakesWords};
 
@@ -48,6 +48,7 @@ fn taken_by(
 ) -> Result<Vec<usize>, SendError>
     ensures count { OnOk result (length words.now ≡ div_ceil (spec.pages_in entry.now) 32) }
     ensures pages { IfOk result (λ pages. pages.items ≡ spec.taken_by entry.now round words.now) }
+    ensures error { IfErr result (λ e. (e ≡ SendError.Changed) ⊎ (e ≡ SendError.Memory)) }
 {
     if entry.page_size == 0 {
         return Err(SendError::Changed);
@@ -120,6 +121,9 @@ impl Rounds {
     /// words of that number of pages, and `Memory` if an allocation fails. Then nothing changes.
     pub fn harvest_words(&mut self, alloc: Global, words: &[u32]) -> Result<usize, SendError>
         ensures taken { OnOk result (TakesWords words.now self.old self.new) }
+        ensures count { IfOk result (λ count. count ≡ length self.new.waiting.items) }
+        ensures order { IsErrOf result SendError.Order → IsBusy self.old }
+        ensures error { IfErr result (λ e. (e ≡ SendError.Order) ⊎ (e ≡ SendError.Changed) ⊎ (e ≡ SendError.Memory)) }
         ensures err { OnErr result (self.new ≡ self.old) }
     {
         if self.next < self.waiting.len() {
@@ -156,6 +160,9 @@ impl Sender {
     /// As `Rounds::harvest_words`.
     pub fn harvest_words(&mut self, alloc: Global, words: &[u32]) -> Result<usize, SendError>
         ensures taken { OnOk result (TakesWords words.now self.old.rounds self.new.rounds) }
+        ensures count { IfOk result (λ count. count ≡ length self.new.rounds.waiting.items) }
+        ensures order { IsErrOf result SendError.Order → IsBusy self.old.rounds }
+        ensures error { IfErr result (λ e. (e ≡ SendError.Order) ⊎ (e ≡ SendError.Changed) ⊎ (e ≡ SendError.Memory)) }
         ensures err { OnErr result (self.new ≡ self.old) }
         ensures same { (self.new.hasher ≡ self.old.hasher) × (self.new.stage ≡ self.old.stage) }
     {
