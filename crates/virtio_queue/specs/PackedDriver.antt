@@ -1,8 +1,9 @@
 -- The driver's half of a packed queue: where its areas lie, and what its calls leave.
-use Rattle.std.specs.Prelude.{ℕ, ◌+◌, ◌*◌, ◌%◌, ◌^◌, nat_le, Bool, true, not, ◌==◌, if◌then◌else◌, Option, Some, None, Result, Ok, Err}
+use Rattle.std.specs.Prelude.{◌≡◌, ℕ, ◌+◌, ◌*◌, ◌%◌, ◌^◌, nat_le, nat_lt, Bool, true, not, ◌&&◌, ◌==◌, if◌then◌else◌, List, Option, Some, None, Result, Ok, Err, MatchResult}
 use Rattle.vm_memory_guest.specs.Host.{Host}
 use Rattle.vm_memory_guest.specs.Memory.{Memory}
-use Rattle.virtio_queue.specs.Packed.{PackedVirtqueue, beginning, is_packed_size, new_state}
+use Rattle.virtio_queue.specs.Driver.{Puts}
+use Rattle.virtio_queue.specs.Packed.{PackedVirtqueue, beginning, is_packed_size, moved, new_state}
 use Rattle.virtio_queue.specs.PackedRing.{is_used, packed_at}
 use Rattle.virtio_queue.specs.Rings.{and_then}
 use Rattle.virtio_queue.specs.declared.descriptor.Descriptor.{Descriptor}
@@ -64,6 +65,39 @@ if_used p d = if is_used d.flags p.wrap then Some (d.id, d.len) else None
 
 abbrev pub next_used : {B : Type 0} → Memory → Host B → PackedDriver → Result (Option (ℕ × ℕ)) QueueError
 next_used m host d = and_then (packed_at m host d.desc_ring d.next_used.slot) (λ s. Ok (if_used d.next_used s))
+
+-- a position so many slots on, if the ring has as many and the position is one of its slots
+abbrev pub moved_in : ℕ → RingPosition → ℕ → Result RingPosition QueueError
+moved_in size p n = if is_packed_size size && (nat_lt p.slot size && nat_le n size) then Ok (moved size p n)
+    else Err errors.InvalidSize
+
+-- what moving on returns, and where it leads: nowhere if it is refused
+abbrev pub done : Result RingPosition QueueError → Result (Unit {0}) QueueError
+done (Ok p) = Ok tt
+done (Err e) = Err e
+
+abbrev pub at_or : RingPosition → Result RingPosition QueueError → RingPosition
+at_or p (Ok q) = q
+at_or p (Err e) = p
+
+-- past so many slots that were used
+abbrev pub skipped : PackedDriver → ℕ → Result (Unit {0}) QueueError
+skipped d n = done (moved_in d.size d.next_used n)
+
+abbrev pub after_skip : PackedDriver → ℕ → PackedDriver
+after_skip d n = record d { next_used = at_or d.next_used (moved_in d.size d.next_used n) }
+
+-- bytes were put into the next slot. Or the ring has no such slot, and nothing changed
+abbrev pub Publishes : {B : Type 0} → (B → ℕ → ℕ → B → Type 0) → Memory → PackedDriver → List ℕ → Host B
+    → Result (Unit {0}) QueueError → Host B → Type 0
+Publishes marks m d bytes old answer new = MatchResult (moved_in d.size d.next_avail 1)
+    (λ _. Puts marks m d.desc_ring (16 * d.next_avail.slot) bytes old answer new)
+    (λ e. (answer ≡ Err e) × (new ≡ old))
+
+-- the driver moves on to the next slot
+abbrev pub after_publish : PackedDriver → Result (Unit {0}) QueueError → PackedDriver
+after_publish d (Ok _) = record d { next_avail = at_or d.next_avail (moved_in d.size d.next_avail 1) }
+after_publish d (Err e) = d
 
 -- the device's half over the same areas: ready, with nothing popped and nothing returned
 abbrev pub ready_over : PackedDriver → PackedVirtqueue

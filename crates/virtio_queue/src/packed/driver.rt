@@ -5,7 +5,7 @@ ghost use Rattle.vm_memory_guest.specs.Host.{shape_of, Holds};
 ghost use Rattle.virtio_queue.specs.Driver.{Puts};
 ghost use Rattle.virtio_queue.specs.Fields.{Answers, MayWant, StoresWord, word_at};
 ghost use Rattle.virtio_queue.specs.Packed.{moved};
-ghost use Rattle.virtio_queue.specs.PackedDriver.{area_of, device_of, layout_of, made_available, next_used, offset_of, split_of};
+ghost use Rattle.virtio_queue.specs.PackedDriver.{Publishes, after_publish, after_skip, area_of, device_of, layout_of, made_available, moved_in, next_used, offset_of, skipped, split_of};
 
 use super::chain::packed_at;
 use super::descriptor::PackedDescriptor;
@@ -58,7 +58,9 @@ pub struct PackedDriver {
 }
 
 // A position so many slots on, in a ring of any size.
-fn moved_in(size: u16, position: RingPosition, count: u16) -> Result<RingPosition, QueueError> {
+fn moved_in(size: u16, position: RingPosition, count: u16) -> Result<RingPosition, QueueError>
+    ensures { result ≡ moved_in size position count }
+{
     if !is_packed_size(size) || position.slot >= size || count > size {
         return Err(QueueError::InvalidSize);
     }
@@ -170,6 +172,24 @@ impl PackedDriver {
         put_value(mem, host, self.desc_ring, 16 * slot as u64, bytes)
     }
 
+    // Puts a descriptor into the next slot, with the flags that make it available.
+    fn put_available<M: GuestMemory, B: Bitmap>(
+        &self,
+        mem: &M,
+        host: &mut HostMemory<B>,
+        descriptor: PackedDescriptor,
+    ) -> Result<(), QueueError>
+        requires { Holds (shape_of host.old) (M.names mem.now) }
+        ensures put { let slot = made_available descriptor self.now.next_avail.wrap in
+            Puts B.marks (M.memory mem.now) self.now.desc_ring (16 * self.now.next_avail.slot)
+            (⟦<Descriptor as ByteValued>⟧.bytes (split_of slot)) host.old result host.new }
+        ensures shape { shape_of host.new ≡ shape_of host.old }
+    {
+        let place = self.next_avail;
+        let slot = descriptor.made_available(place.wrap);
+        self.put_descriptor(mem, host, place.slot, slot)
+    }
+
     /// Puts a descriptor into the next slot, with the flags that make it available, and moves on. A chain is put by one
     /// call for each of its descriptors, the device doing nothing meanwhile. `InvalidSize` if the ring has no such
     /// slot.
@@ -180,13 +200,22 @@ impl PackedDriver {
         descriptor: PackedDescriptor,
     ) -> Result<(), QueueError>
         requires { Holds (shape_of host.old) (M.names mem.now) }
+        ensures published { let slot = made_available descriptor self.old.next_avail.wrap in
+            Publishes B.marks (M.memory mem.now) self.old (⟦<Descriptor as ByteValued>⟧.bytes (split_of slot))
+            host.old result host.new }
+        ensures moved { self.new ≡ after_publish self.old result }
         ensures shape { shape_of host.new ≡ shape_of host.old }
     {
-        let place = self.next_avail;
-        let next = moved_in(self.size, place, 1)?;
-        self.put_descriptor(mem, host, place.slot, descriptor.made_available(place.wrap))?;
-        self.next_avail = next;
-        Ok(())
+        match moved_in(self.size, self.next_avail, 1) {
+            Ok(next) => {
+                let put = self.put_available(mem, host, descriptor);
+                if put.is_ok() {
+                    self.next_avail = next;
+                }
+                put
+            }
+            Err(error) => Err(error),
+        }
     }
 
     /// The id and the length in the next used descriptor, if the device has returned one. `skip` goes past it.
@@ -206,7 +235,10 @@ impl PackedDriver {
     }
 
     /// Goes past a used descriptor: past as many slots as its chain took. `InvalidSize` if the ring has fewer.
-    pub fn skip(&mut self, slots: u16) -> Result<(), QueueError> {
+    pub fn skip(&mut self, slots: u16) -> Result<(), QueueError>
+        ensures skipped { result ≡ skipped self.old slots }
+        ensures moved { self.new ≡ after_skip self.old slots }
+    {
         self.next_used = moved_in(self.size, self.next_used, slots)?;
         Ok(())
     }
