@@ -263,8 +263,8 @@ fn fastest<R: Clock>(rt: &R, bench: &mut Bench, part: Part, rounds: u32) -> Resu
     Ok(least)
 }
 
-// The driver's half of a queue, in whose table a chain lies from the first descriptor on. Each entry of the available ring
-// has its head.
+// The driver's half of a queue, in whose table a chain lies from the first descriptor on. Each entry of the available
+// ring has its head.
 fn driver_of<M: GuestMemory, B: Bitmap>(
     mem: &M,
     host: &mut HostMemory<B>,
