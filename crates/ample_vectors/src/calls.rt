@@ -36,10 +36,7 @@ fn regions_at(
     ensures { IfOk result (λ regions.
         HoldsRegions ⟦<GuestRegionMmap as GuestMemoryRegion>⟧.region host.now (regions_of regions)) }
 {
-    if host.shape().block_len(block).is_none() {
-        return Err(Fail::new("the host has no such block"));
-    }
-    let mapping = MmapRegion::of_block(host, block);
+    let mapping = MmapRegion::of_block(host, block).ok_or("the host has no such block")?;
     let first = GuestRegionMmap::new(mapping, GuestAddress(0)).ok_or("the region does not fit")?;
     let second = GuestRegionMmap::new(mapping, GuestAddress(0x10000)).ok_or(
         "the region does not fit",

@@ -69,7 +69,7 @@ pub fn expect_look_up(
     text.clear();
     match table.resolve(GuestAddress(first), len, access) {
         Ok(pieces) => {
-            for piece in &pieces {
+            for piece in pieces.as_slice() {
                 write!(text, " {:#x}+{:#x}", piece.base.0, piece.length)?;
             }
             expect_text(case, text.as_str(), wanted)

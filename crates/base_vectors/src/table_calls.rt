@@ -262,8 +262,8 @@ fn many_ranges(rt: HostRuntime) -> Result<(), Fail> {
     }
     assert!(rt; table.num_ranges() == 70_000);
     let found = table.resolve(GuestAddress(0), 70_000 * 0x1000, Permissions::Read)?;
-    assert!(rt; found.len() == 70_000);
-    for (number, piece) in found.iter().enumerate() {
+    assert!(rt; found.as_slice().len() == 70_000);
+    for (number, piece) in found.as_slice().iter().enumerate() {
         assert!(rt; piece.base.0 == (number as u64).wrapping_mul(0x2000) && piece.length == 0x1000);
     }
     table.invalidate_mapping(GuestAddress(0x1000_0000), 0x1000)?;
@@ -271,4 +271,21 @@ fn many_ranges(rt: HostRuntime) -> Result<(), Fail> {
     let wanted = "misses 0x10000000+0x1000 access";
     let all = (0, 70_000 * 0x1000);
     expect_look_up(rt.alloc(), 0, &table, all, Permissions::Read, wanted)
+}
+
+// A full table takes each mapping, in place of one that it has.
+#[test]
+fn full_tables(rt: HostRuntime) -> Result<(), Fail> {
+    for limit in [100usize, 4097] {
+        let mut table = Iotlb::with_limit(rt.alloc(), limit);
+        for number in 0..20_000u64 {
+            let from = GuestAddress(number * 0x2000);
+            let evicted = table.set_mapping_counted(from, from, 0x1000, Permissions::Read)?;
+            assert!(rt; evicted == usize::from(number as usize >= limit));
+            let found = table.resolve(from, 0x1000, Permissions::Read)?;
+            assert!(rt; found.as_slice().len() == 1 && table.num_ranges() <= limit);
+        }
+        assert!(rt; table.num_ranges() == limit);
+    }
+    Ok(())
 }

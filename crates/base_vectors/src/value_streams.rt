@@ -20,6 +20,9 @@ fn values_go_through_streams(rt: HostRuntime) -> Result<(), Fail> {
         let bytes = (0x0100 + k as u32).to_le_bytes();
         assert!(rt; written.get(4 * k..4 * k + 4) == Some(&bytes[..]));
     }
+    let mut longer = Vec::new(rt.alloc());
+    [5u8; 0x5001].write_all_to(&mut longer)?;
+    assert!(rt; longer.len() == 0x5001 && longer.iter().all(|byte| *byte == 5));
     let mut from: &[u8] = written.as_slice();
     assert!(rt; <[u32; 256]>::read_exact_from(&mut from)? == long);
     assert!(rt; from.len() == 0);

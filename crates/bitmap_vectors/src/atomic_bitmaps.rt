@@ -524,11 +524,11 @@ fn many_pages(rt: HostRuntime) -> Result<(), Fail> {
     Ok(())
 }
 
-// More words than 2^20, two of which have a page.
+// More words than 2^22, two of which have a page.
 #[test]
 fn many_words(rt: HostRuntime) -> Result<(), Fail> {
     let bitmap = AtomicBitmap::new(rt.alloc(), MANY_WORDS, NonZeroUsize::MIN)?;
-    bitmap.set_addr_range(0x400_0000, 1);
+    bitmap.set_addr_range(0x1000_0000, 1);
     bitmap.set_bit(MANY_WORDS - 1);
     let copy = bitmap.clone()?;
     for one in [&copy, &bitmap] {

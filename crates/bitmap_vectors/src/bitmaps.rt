@@ -90,15 +90,15 @@ fn many_pages_are_harvested(rt: HostRuntime) -> Result<(), Fail> {
     Ok(())
 }
 
-/// So many pages have more words than 2^20.
-pub const MANY_WORDS: usize = 0x401_0041;
+/// So many pages have more words than 2^22.
+pub const MANY_WORDS: usize = 0x1001_0041;
 
-/// Whether words are those of `MANY_WORDS` pages, of which page 2^26 and the last are dirty.
+/// Whether words are those of `MANY_WORDS` pages, of which page 2^28 and the last are dirty.
 pub fn has_two_pages(words: &[u64]) -> bool {
-    words.len() == 0x10_0402
+    words.len() == 0x40_0402
         && words.iter().enumerate().all(|(number, word)| {
             *word
-                == if number == 0x10_0000 || number == 0x10_0401 {
+                == if number == 0x40_0000 || number == 0x40_0401 {
                     1
                 } else {
                     0
@@ -109,14 +109,14 @@ pub fn has_two_pages(words: &[u64]) -> bool {
 #[test]
 fn many_words_are_taken(rt: HostRuntime) -> Result<(), Fail> {
     let mut bitmap = ExclusiveBitmap::new(rt.alloc(), MANY_WORDS, NonZeroUsize::MIN)?;
-    for page in [0x400_0000, MANY_WORDS - 1] {
+    for page in [0x1000_0000, MANY_WORDS - 1] {
         bitmap.mark_dirty(page, 1);
     }
-    let pages = [0x400_0000, MANY_WORDS - 1];
+    let pages = [0x1000_0000, MANY_WORDS - 1];
     assert!(rt; bitmap.dirty_pages(rt.alloc())?.as_slice() == pages.as_slice());
     let words = bitmap.get_and_reset(rt.alloc())?;
     assert!(rt; has_two_pages(words.as_slice()));
-    bitmap.mark_dirty(0x400_0000, 1);
+    bitmap.mark_dirty(0x1000_0000, 1);
     bitmap.mark_dirty(MANY_WORDS - 1, usize::MAX);
     assert!(rt; bitmap.harvest(rt.alloc())?.as_slice() == pages.as_slice());
     let words = bitmap.get_and_reset(rt.alloc())?;

@@ -220,10 +220,10 @@ fn expect_many(
     expect_told(bitmap, one, last.saturating_add(1), false)
 }
 
-// Of 2^20 + 1 pages, and of a page more than 2^20 words have.
+// Of 2^20 + 1 pages, and of more than 2^22 words have.
 #[test]
 fn many_pages_of_many_markers(rt: HostRuntime) -> Result<(), Fail> {
-    for last in [0x10_0000usize, 0x201_0020] {
+    for last in [0x10_0000usize, 0x801_0020] {
         let count = last.saturating_add(1);
         let (bitmap, mut harvester, mut markers) = TrackedBitmap::new(
             rt.alloc(),

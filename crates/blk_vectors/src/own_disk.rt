@@ -68,6 +68,8 @@ pub fn serve<M: GuestMemory, B: Bitmap>(
         sectors: (disk.len() / 512) as u64,
         read_only: false,
         acked,
+        seg_max: None,
+        size_max: None,
     };
     let request = begin(terms, memory, host, chain)?;
     let (status, moved) = perform(disk, request, memory, host, chain);

@@ -6,7 +6,9 @@ use std::sync::atomic::Ordering;
 use std::test::Fail;
 use test_regions::{AROUND_A_HOLE, BEFORE_A_BARE_REGION, Place, TestRegion, memory_of};
 use test_text::expect_text;
-use vm_memory_base::{GuestAddress, MappedRange, MemoryRegionAddress, Permissions};
+use vm_memory_base::{
+    GuestAddress, MappedRange, MappedRangeList, MemoryRegionAddress, Permissions,
+};
 use vm_memory_guest::{
     Bytes, GuestMemory, GuestMemoryBackend, GuestMemoryError, GuestMemoryRegion,
     GuestMemorySliceIterator, GuestRegionCollection, HostMemory, IommuMemorySliceIterator, SpaceId,
@@ -260,7 +262,7 @@ fn pieces_text(
         base: GuestAddress(*base),
         length: *length,
     });
-    let ranges = ranges.collect(alloc)?;
+    let ranges = MappedRangeList::from_vec(ranges.collect(alloc)?);
     for window in IommuMemorySliceIterator::of_pieces(
         layout,
         ranges,

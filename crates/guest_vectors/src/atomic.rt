@@ -152,6 +152,10 @@ fn expect_readers<W: Wait, R: GuestMemoryRegion>(
     for page in pages {
         plug_in(rt, alloc, &other, page)?;
         count = count.saturating_add(1);
+        // Between two looks it is replaced once, and then twice.
+        if count == 4 {
+            continue;
+        }
         let (first, second) = (
             reader.memory(rt)?.num_regions(),
             reader.memory(rt)?.num_regions(),

@@ -19,10 +19,7 @@ fn machine_of(alloc: Global, size: usize, page_size: usize) -> Result<TestMachin
     let page_size = NonZeroUsize::new(page_size).ok_or("a page has no bytes")?;
     let bitmap = ExclusiveBitmap::new(alloc, size, page_size)?;
     let block = host.new_block_with(size, bitmap)?;
-    if host.shape().block_len(block).is_none() {
-        return Err(Fail::new("the host has no such block"));
-    }
-    let mapping = MmapRegion::of_block(&host, block);
+    let mapping = MmapRegion::of_block(&host, block).ok_or("the host has no such block")?;
     let low = GuestRegionMmap::new(mapping, GuestAddress(0)).ok_or("the region does not fit")?;
     let high = GuestRegionMmap::new(mapping, GuestAddress(0x10000)).ok_or(
         "the region does not fit",
@@ -152,10 +149,8 @@ fn expect_rounds<R: GuestMemoryRegion, I: Iommu, B: ExactBitmap + Drop>(
     let mut image = vec![in alloc; 0u8; size]?;
     follow(&mut machine, alloc, image.as_mut_slice(), steps)?;
     let host = machine.into_host();
-    if host.shape().block_len(BlockId(0)).is_none() {
-        return Err(Fail::new("the host has no such block"));
-    }
-    let window = MmapRegion::of_block(&host, BlockId(0)).as_volatile_slice();
+    let block = MmapRegion::of_block(&host, BlockId(0)).ok_or("the host has no such block")?;
+    let window = block.as_volatile_slice();
     if !host.holds(&window) || !host.bytes(&window).ends_with(ends) {
         return Err(Fail::new(format_args!("a block of {size} bytes")));
     }
@@ -193,8 +188,7 @@ fn a_bitmap_may_end_before_its_block(rt: HostRuntime) -> Result<(), Fail> {
     let mut host: HostMemory<ExclusiveBitmap> = HostMemory::new(rt.alloc());
     let page = NonZeroUsize::new(0x1000).ok_or("a page has no bytes")?;
     let block = host.new_block_with(0x2000, ExclusiveBitmap::new(rt.alloc(), 0x1000, page)?)?;
-    assert!(rt; host.shape().block_len(block).is_some());
-    let mapping = MmapRegion::of_block(&host, block);
+    let mapping = MmapRegion::of_block(&host, block).ok_or("the host has no such block")?;
     let region = GuestRegionMmap::new(mapping, GuestAddress(0)).ok_or("the region does not fit")?;
     let window = region.get_slice(MemoryRegionAddress(0x1000), 1)?;
     expect_unmarked(rt.alloc(), &mut host, &window)

@@ -5,7 +5,7 @@ ghost use Rattle.test_regions.specs.Markers.{IsMarkerOf, AreNewOf, AreMarkersOf}
 use std::alloc::Global;
 use std::sync::Arc;
 use std::test::Fail;
-use vm_memory_base::{BitmapId, GuestAddress, Marker, MarkerBitmap, TrackedBitmap};
+use vm_memory_base::{GuestAddress, Marker, MarkerBitmap, TrackedBitmap};
 use vm_memory_guest::{BlockId, GuestMemoryMmap, GuestRegionMmap, HostMemory, MmapRegion};
 
 /// Takes the last of the markers.
@@ -38,10 +38,7 @@ pub fn marked_host(
 
 /// A memory of the block, from 0x1000 on.
 pub fn memory_of_block(alloc: Global, host: &MarkedHost) -> Result<GuestMemoryMmap, Fail> {
-    if !host.shape().has_bitmap(BitmapId::Block(0)) {
-        return Err(Fail::new("there is no block"));
-    }
-    let block = MmapRegion::of_block(host, BlockId(0));
+    let block = MmapRegion::of_block(host, BlockId(0)).ok_or("there is no block")?;
     let region = GuestRegionMmap::new(block, GuestAddress(0x1000)).ok_or(
         "the region does not fit",
     )?;

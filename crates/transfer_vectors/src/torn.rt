@@ -38,14 +38,14 @@ impl ReadVolatile for TwoFiles {
 }
 
 const SOCKETS: [&str; 4] = [
-    "Err(PartialBuffer { expected: 8, completed: 6 }) [1, 2, 3, 4, 5, 6, 0, 0]",
+    "Err(PartialBuffer { expected: 8, completed: 6 }) [1, 2, 3, 4, 5, 6, 170, 170]",
     // The socket has no more for now.
     "Err(IOError(Os { code: 11, kind: WouldBlock, message: \"Resource temporarily unavailable\" })) \
-     [1, 2, 3, 4, 5, 6, 0, 0]",
+     [1, 2, 3, 4, 5, 6, 170, 170]",
     "Err(IOError(Os { code: 11, kind: WouldBlock, message: \"Resource temporarily unavailable\" })) \
-     [0, 0, 0, 0, 1, 2, 0, 0]",
+     [170, 170, 170, 170, 1, 2, 170, 170]",
     "Err(IOError(Os { code: 11, kind: WouldBlock, message: \"Resource temporarily unavailable\" })) \
-     [0, 0, 0, 0, 0, 0, 0, 0]",
+     [170, 170, 170, 170, 170, 170, 170, 170]",
 ];
 
 #[test]
@@ -68,9 +68,9 @@ fn a_socket_that_ends_or_fails_leaves_what_came(rt: HostRuntime) -> Result<(), F
 
 // A file that was opened to be written fails each read.
 const FILES: [&str; 3] = [
-    "Err(IOError(Os { code: 9, kind: Uncategorized, message: \"Bad file descriptor\" })) [1, 2, 3, 4, 0, 0, 0, 0]",
-    "Err(IOError(Os { code: 9, kind: Uncategorized, message: \"Bad file descriptor\" })) [0, 0, 0, 0, 0, 5, 6, 0]",
-    "Err(IOError(Os { code: 9, kind: Uncategorized, message: \"Bad file descriptor\" })) [0, 0, 0, 0, 0, 0, 0, 0]",
+    "Err(IOError(Os { code: 9, kind: Uncategorized, message: \"Bad file descriptor\" })) [1, 2, 3, 4, 170, 170, 170, 170]",
+    "Err(IOError(Os { code: 9, kind: Uncategorized, message: \"Bad file descriptor\" })) [170, 170, 170, 170, 170, 5, 6, 170]",
+    "Err(IOError(Os { code: 9, kind: Uncategorized, message: \"Bad file descriptor\" })) [170, 170, 170, 170, 170, 170, 170, 170]",
 ];
 
 const FULL: &str =

@@ -67,7 +67,7 @@ where
     }
 }
 
-/// What a transfer from a source returns, and the bytes that the regions, which have zeros, have then.
+/// What a transfer from a source returns, and the bytes that the regions, which have 170 in each, have then.
 pub fn comes_in<S: ReadVolatile>(
     alloc: Global,
     place: Place,
@@ -76,6 +76,10 @@ pub fn comes_in<S: ReadVolatile>(
 ) -> Result<String, Fail> {
     let mut host = HostMemory::<()>::new(alloc);
     let memory = GuestMemoryMmap::from_ranges(alloc, &mut host, &TWO)?;
+    if !host.holds(&memory) {
+        return Err(Fail::new("the host does not hold the memory"));
+    }
+    memory.write_slice(&mut host, &[170; 8], GuestAddress(0))?;
     let told = match place {
         Memory(at) => come(alloc, &mut host, &memory, GuestAddress(at), amount, source)?,
         Region(at) => {
@@ -178,19 +182,19 @@ const COME_IN: [(Place, Amount, Source, &str); 18] = [
         Memory(0),
         UpTo(8),
         Script(&[Did::Give(&[1, 2]), Did::Give(&[3, 4, 5, 6])]),
-        "Ok(2) [1, 2, 0, 0, 0, 0, 0, 0]",
+        "Ok(2) [1, 2, 170, 170, 170, 170, 170, 170]",
     ),
     (
         Memory(0),
         All(8),
         Script(&[Did::Give(&[1, 2]), Did::Give(&[3, 4, 5, 6])]),
-        "Err(PartialBuffer { expected: 8, completed: 6 }) [1, 2, 3, 4, 5, 6, 0, 0]",
+        "Err(PartialBuffer { expected: 8, completed: 6 }) [1, 2, 3, 4, 5, 6, 170, 170]",
     ),
     (
         Memory(0),
         UpTo(8),
         Script(&[Did::Give(&[1, 2, 3, 4]), Did::Fail(&[9])]),
-        "Err(IOError(Kind(Other))) [1, 2, 3, 4, 9, 0, 0, 0]",
+        "Err(IOError(Kind(Other))) [1, 2, 3, 4, 9, 170, 170, 170]",
     ),
     (
         Memory(1),
@@ -201,7 +205,7 @@ const COME_IN: [(Place, Amount, Source, &str); 18] = [
             Did::Give(&[4]),
             Did::Fail(&[7, 9]),
         ]),
-        "Err(IOError(Kind(Other))) [0, 1, 2, 3, 4, 7, 9, 0]",
+        "Err(IOError(Kind(Other))) [170, 1, 2, 3, 4, 7, 9, 170]",
     ),
     (
         Memory(0),
@@ -212,85 +216,85 @@ const COME_IN: [(Place, Amount, Source, &str); 18] = [
             Did::Give(&[3]),
             Did::Give(&[4]),
         ]),
-        "Ok(()) [1, 2, 3, 4, 0, 0, 0, 0]",
+        "Ok(()) [1, 2, 3, 4, 170, 170, 170, 170]",
     ),
     (
         Memory(0),
         UpTo(4),
         Script(&[Did::Interrupted(&[9, 9]), Did::Give(&[1])]),
-        "Ok(1) [1, 9, 0, 0, 0, 0, 0, 0]",
+        "Ok(1) [1, 9, 170, 170, 170, 170, 170, 170]",
     ),
     (
         Memory(2),
         All(4),
         List(&[1, 2, 3, 4, 5]),
-        "Ok(()) [0, 0, 1, 2, 3, 4, 0, 0]",
+        "Ok(()) [170, 170, 1, 2, 3, 4, 170, 170]",
     ),
     (
         Memory(2),
         All(4),
         List(&[1, 2, 3]),
-        "Err(PartialBuffer { expected: 4, completed: 3 }) [0, 0, 1, 2, 3, 0, 0, 0]",
+        "Err(PartialBuffer { expected: 4, completed: 3 }) [170, 170, 1, 2, 3, 170, 170, 170]",
     ),
     (
         Memory(8),
         UpTo(0),
         List(&[1]),
-        "Ok(0) [0, 0, 0, 0, 0, 0, 0, 0]",
+        "Ok(0) [170, 170, 170, 170, 170, 170, 170, 170]",
     ),
     (
         Memory(8),
         UpTo(1),
         List(&[1]),
-        "Err(InvalidGuestAddress(GuestAddress(8))) [0, 0, 0, 0, 0, 0, 0, 0]",
+        "Err(InvalidGuestAddress(GuestAddress(8))) [170, 170, 170, 170, 170, 170, 170, 170]",
     ),
     (
         Region(2),
         UpTo(8),
         List(&[1, 2, 3]),
-        "Ok(2) [0, 0, 0, 0, 0, 0, 1, 2]",
+        "Ok(2) [170, 170, 170, 170, 170, 170, 1, 2]",
     ),
     (
         Region(0),
         All(2),
         List(&[7, 8, 9]),
-        "Ok(()) [0, 0, 0, 0, 7, 8, 0, 0]",
+        "Ok(()) [170, 170, 170, 170, 7, 8, 170, 170]",
     ),
     (
         Region(0),
         All(2),
         List(&[5]),
-        "Err(IOError(Kind(UnexpectedEof))) [0, 0, 0, 0, 0, 0, 0, 0]",
+        "Err(IOError(Kind(UnexpectedEof))) [170, 170, 170, 170, 170, 170, 170, 170]",
     ),
     (
         Region(2),
         All(3),
         List(&[5]),
-        "Err(InvalidBackendAddress) [0, 0, 0, 0, 0, 0, 0, 0]",
+        "Err(InvalidBackendAddress) [170, 170, 170, 170, 170, 170, 170, 170]",
     ),
     (
         Region(1),
         All(3),
         Script(&[Did::Give(&[1]), Did::Fail(&[9])]),
-        "Err(IOError(Kind(Other))) [0, 0, 0, 0, 0, 1, 9, 0]",
+        "Err(IOError(Kind(Other))) [170, 170, 170, 170, 170, 1, 9, 170]",
     ),
     (
         Window(1),
         UpTo(8),
         List(&[1, 2, 3]),
-        "Ok(2) [0, 0, 0, 0, 0, 1, 2, 0]",
+        "Ok(2) [170, 170, 170, 170, 170, 1, 2, 170]",
     ),
     (
         Window(1),
         All(3),
         List(&[1, 2, 3]),
-        "Err(OutOfBounds { addr: 4 }) [0, 0, 0, 0, 0, 0, 0, 0]",
+        "Err(OutOfBounds { addr: 4 }) [170, 170, 170, 170, 170, 170, 170, 170]",
     ),
     (
         Window(0),
         All(3),
         Script(&[Did::Give(&[1]), Did::Interrupted(&[8]), Did::Fail(&[9])]),
-        "Err(IOError(Kind(Other))) [0, 0, 0, 0, 1, 9, 0, 0]",
+        "Err(IOError(Kind(Other))) [170, 170, 170, 170, 1, 9, 170, 170]",
     ),
 ];
 
@@ -415,10 +419,10 @@ fn expect_carried<W: WriteVolatile, S: ReadVolatile>(
     let came = comes_in(alloc, Memory(2), All(5), source)?;
     let text = format!(in alloc; "{went} {came}")?;
     let wanted = match case {
-        0 => "Ok(()) Ok(()) [0, 0, 1, 2, 3, 4, 5, 0]",
-        1 => "Ok(()) Ok(()) [0, 0, 2, 3, 4, 5, 6, 0]",
-        2 => "Ok(()) Ok(()) [0, 0, 3, 4, 5, 6, 7, 0]",
-        _ => "Ok(()) Ok(()) [0, 0, 4, 5, 6, 7, 8, 0]",
+        0 => "Ok(()) Ok(()) [170, 170, 1, 2, 3, 4, 5, 170]",
+        1 => "Ok(()) Ok(()) [170, 170, 2, 3, 4, 5, 6, 170]",
+        2 => "Ok(()) Ok(()) [170, 170, 3, 4, 5, 6, 7, 170]",
+        _ => "Ok(()) Ok(()) [170, 170, 4, 5, 6, 7, 8, 170]",
     };
     expect_text(case, text.as_str(), wanted)
 }

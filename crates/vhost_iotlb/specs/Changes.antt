@@ -1,7 +1,7 @@
 -- What messages make of a table of a host.
 use Rattle.std.specs.Prelude.{◌≡◌, ◌⊎◌, ◌≤◌, ℕ, ◌+◌, ◌-◌, ◌^◌, ◌&&◌, ◌==◌, min, nat_lt, if◌then◌else◌, List, [], ◌∷◌, ◌++◌, length, slice_get, Option, Some, None, Result, Ok, Err}
 use Rattle.vm_memory_base.specs.Table as table
-use Rattle.vm_memory_base.specs.Table.{Table, TableEvent, changed, overruns}
+use Rattle.vm_memory_base.specs.Table.{Table, TableEvent, changed, evictions, overruns}
 use Rattle.vm_memory_base.specs.declared.address.GuestAddress.{GuestAddress}
 use Rattle.vm_memory_base.specs.declared.iotlb.Permissions.{Permissions}
 use Rattle.vm_memory_guest.specs.Host.{Host, with_table_at}
@@ -48,6 +48,16 @@ call_of regions (AccessFail iova access) = Err (refusal.Malformed malformed.Kind
 abbrev pub DoneFor : TableEvent → TableEvent → Type 0
 DoneFor (table.Invalidate iova len) call = (call ≡ table.Invalidate iova len) ⊎ (call ≡ table.InvalidateAll)
 DoneFor asked call = call ≡ asked
+
+-- how many ranges a table evicts when it does what is asked: an UPDATE may have it evict some
+abbrev pub evicted_for : Result TableEvent Refusal → Option Table → ℕ
+evicted_for (Ok (table.Set iova to len permissions)) (Some t) = evictions (table.Set iova to len permissions) t
+evicted_for asked t = 0
+
+-- an answer without its number
+abbrev pub done_of : Result ℕ Refusal → Result (Unit {0}) Refusal
+done_of (Ok n) = Ok tt
+done_of (Err e) = Err e
 
 -- a call of the table of this number changed it, and nothing else changed
 pub record Changes {B : Type 0} (number : ℕ) (call : TableEvent) (old new : Host B) : Type 0 where

@@ -1,9 +1,9 @@
 //! A bounded table of a host, and what messages make of it.
-ghost use Rattle.std.specs.Prelude.{◌≡◌, ◌⊎◌, ◌+◌, ◌^◌, ◌<◌, true, false, List, [], length, Some, IfOk, OnOk, OnErr};
+ghost use Rattle.std.specs.Prelude.{◌≡◌, ◌⊎◌, ◌+◌, ◌^◌, ◌<◌, true, false, List, [], length, Some, IfNone, IfOk, IfSome, Ok, OnErr, OnOk, OnSome, slice_get};
 ghost use Rattle.vm_memory_base.specs.Table as tables;
 ghost use Rattle.vm_memory_base.specs.Table.{TableEvent};
 ghost use Rattle.vm_memory_guest.specs.Host.{shape_of, with_given_table};
-ghost use Rattle.vhost_iotlb.specs.Changes.{Applies, Changes, invalidated};
+ghost use Rattle.vhost_iotlb.specs.Changes.{Applies, Changes, call_of, done_of, evicted_for, invalidated};
 
 use std::alloc::{AllocError, Global};
 use thiserror::Error;
@@ -37,7 +37,7 @@ pub struct DeviceTable {
     pub memory: MemoryRegions,
 }
 
-// Maps a range of a table of a host.
+// Maps a range of a table of a host, and returns how many ranges the table evicted, or nothing if an allocation failed.
 fn set_in<B>(
     host: &mut HostMemory<B>,
     table: TlbId,
@@ -45,19 +45,21 @@ fn set_in<B>(
     to: GuestAddress,
     size: u64,
     permissions: Permissions,
-) -> bool
+) -> Option<usize>
     requires there { table.0 < length host.old.tables }
     requires fits { iova + size < 2 ^ 64 }
-    ensures set { result ≡ true → Changes table.0 (tables.Set iova to.0 size permissions) host.old host.new }
-    ensures refused { result ≡ false → host.new ≡ host.old }
+    ensures set { OnSome result (Changes table.0 (tables.Set iova to.0 size permissions) host.old host.new) }
+    ensures count { IfSome result
+        (λ n. n ≡ evicted_for (Ok (tables.Set iova to.0 size permissions)) (slice_get host.old.tables table.0)) }
+    ensures refused { IfNone result (host.new ≡ host.old) }
     ensures shape { shape_of host.new ≡ shape_of host.old }
 {
     let set = host
         .table_mut(table)
-        .set_mapping(GuestAddress(iova), to, size as usize, permissions);
+        .set_mapping_counted(GuestAddress(iova), to, size as usize, permissions);
     match set {
-        Ok(()) => true,
-        Err(_) => false,
+        Ok(count) => Some(count),
+        Err(_) => None,
     }
 }
 
@@ -148,6 +150,25 @@ impl DeviceTable {
             × Applies self.now.table.0 self.now.memory message.now result calls host.old host.new }
         ensures shape { shape_of host.new ≡ shape_of host.old }
     {
+        match self.apply_counted(host, message) {
+            Ok(_) => Ok(()),
+            Err(refusal) => Err(refusal),
+        }
+    }
+
+    /// Does what [`apply`](Self::apply) does, and returns how many ranges the table evicted for an UPDATE, and 0 for an
+    /// INVALIDATE.
+    pub fn apply_counted<B>(
+        &self,
+        host: &mut HostMemory<B>,
+        message: &IotlbMessage,
+    ) -> Result<usize, Refusal>
+        ensures applied { (calls : List TableEvent)
+            × Applies self.now.table.0 self.now.memory message.now (done_of result) calls host.old host.new }
+        ensures evicted { IfOk result (λ n. n
+            ≡ evicted_for (call_of self.now.memory message.now) (slice_get host.old.tables self.now.table.0)) }
+        ensures shape { shape_of host.new ≡ shape_of host.old }
+    {
         if !host.shape().has_table(self.table) {
             return Err(Refusal::NoTable);
         }
@@ -164,17 +185,16 @@ impl DeviceTable {
                 let Some(to) = self.memory.guest_of(user_address, size) else {
                     return Err(Refusal::UserAddress);
                 };
-                if set_in(host, self.table, iova, to, size, permissions) {
-                    Ok(())
-                } else {
-                    Err(Refusal::Memory)
+                match set_in(host, self.table, iova, to, size, permissions) {
+                    Some(count) => Ok(count),
+                    None => Err(Refusal::Memory),
                 }
             }
             IotlbMessage::Invalidate { iova, size } => {
                 match invalidated(iova, size) {
                     Ok(len) => {
                         take_back_in(host, self.table, iova, len);
-                        Ok(())
+                        Ok(0)
                     }
                     Err(error) => {
                         invalidate_all(host, self.table);

@@ -12,12 +12,13 @@ use Rattle.vm_memory_guest.specs.Memory.{Memory, IsOn, route}
 use Rattle.vm_memory_guest.specs.declared.region.error.GuestMemoryError.{GuestMemoryError}
 use Rattle.vm_memory_guest.specs.declared.region.error.GuestMemoryError.TheVariants as errors
 use Rattle.vm_memory_device.specs.Chain.{Entry, text_path}
+use Rattle.vm_memory_device.specs.declared.chain.Segment.{Segment}
 use Rattle.virtio_blk.specs.Config.{Device, counted, must_stay, terms_of}
 use Rattle.virtio_blk.specs.Disk.{Call}
 use Rattle.virtio_blk.specs.Inside.{CanDo, Did, asked_of, length_of}
 use Rattle.virtio_blk.specs.Request.{fits, kind_of, request_of, sector_of}
 use Rattle.virtio_blk.specs.Served.{Does, NoHeader, Performs, ServesTexts, Tells, TellsStatus}
-use Rattle.virtio_blk.specs.Steps.{Begins, Finishes, FitsOn, Told, gapless, header_fault, status_fault}
+use Rattle.virtio_blk.specs.Steps.{Begins, Finishes, FitsOn, Told, breaks_limits, gapless, header_fault, status_fault}
 use Rattle.virtio_blk.specs.Texts.{Accessed, Stops, WritesAt, reached, text_bytes}
 use Rattle.virtio_blk.specs.declared.request.Request.{Request}
 use Rattle.virtio_blk.specs.declared.request.Request.TheVariants.{Read, Write, Flush, GetId, Refused, Unserved}
@@ -138,7 +139,7 @@ module _ {B : Type 0} (m : Memory) (host : Host B) (terms : Terms) (given room :
   Made a = Asks (asked_of a).0 (asked_of a).1
 
   -- what the first step answers, or a refusal in place of an error
-  pub asks_of : (answer : Result Request GuestMemoryError) → Goes given → Begins m host terms given room answer
+  pub asks_of : (answer : Result Request GuestMemoryError) → Goes given → Begins m host terms false given room answer
       → Asks (asked_of answer).0 (asked_of answer).1
   asks_of answer goes begins = unserved (length room == 0) refl begins
     where
@@ -189,16 +190,18 @@ module _ {B : Type 0} (m : Memory) (host : Host B) (terms : Terms) (given room :
       (omega (arith, some)) small))
 
 -- what the first step answers can be done
-pub can_serve : {B : Type 0} (m : Memory) (host : Host B) (terms now : Terms) (given room : List Entry)
-    (answer : Result Request GuestMemoryError) (asked : Request × Bool) → Goes given → now ≡ terms
-    → Begins m host now given room answer → asked ≡ asked_of answer → terms.sectors < 2 ^ 55
+pub can_serve : {B : Type 0} (m : Memory) (host : Host B) (terms now : Terms) (chain : List Segment)
+    (given room : List Entry) (answer : Result Request GuestMemoryError) (asked : Request × Bool) → Goes given → now ≡ terms
+    → breaks_limits terms chain ≡ false → Begins m host now (breaks_limits now chain) given room answer
+    → asked ≡ asked_of answer → terms.sectors < 2 ^ 55
     → Asks m host terms given room asked.0 asked.1
     × CanDo terms.sectors asked.0 (length (drop 16 given)) (length room)
-can_serve m host terms now given room answer asked goes same begun is small =
+can_serve m host terms now chain given room answer asked goes same kept begun is small =
     let asks : Asks m host terms given room asked.0 asked.1 =
     subst (λ (p : Request × Bool). Asks m host terms given room p.0 p.1) (sym is)
     (asks_of m host terms given room answer goes
-    (subst (λ (t : Terms). Begins m host t given room answer) same begun)) in
+    (subst (λ b. Begins m host terms b given room answer) kept
+    (subst (λ (t : Terms). Begins m host t (breaks_limits t chain) given room answer) same begun))) in
     (asks, can_of m host terms given room asked.0 asked.1 asks small)
 
 -- a reader that skipped a header, or all that there is

@@ -580,12 +580,13 @@ told_map m (Some NoHostBytes) x y f without (inl is) = absurd (cc)
 told_map m (Some (Refused iova len reason)) x y f without (inl is) = absurd (cc)
 told_map m fault x y f without (inr (is, on)) = absurd (cc)
 
-pub begun_of : {B : Type 0} (m : Memory) (host : Host B) (terms : Terms) (given room : List Entry) (header : List ℕ)
+-- so it is of a chain that keeps the limits
+begun_within : {B : Type 0} (m : Memory) (host : Host B) (terms : Terms) (given room : List Entry) (header : List ℕ)
     (request : Request) → length room ≢ 0 → 16 ≤ length given
     → Told m (header_fault m host.tables given) (Some (text_bytes m host given 16)) None (Ok (Some header))
     → request ≡ request_of terms header (length given - 16) (length room - 1)
-    → Begins m host terms given room (Ok request)
-begun_of m host terms given room header request some enough told is =
+    → Begins m host terms false given room (Ok request)
+begun_within m host terms given room header request some enough told is =
     let asked = λ (bs : List ℕ). request_of terms bs (length given - 16) (length room - 1) in
     let refused = requests.Refused 1 in
     let same = λ (x y : Result Request GuestMemoryError). x ≡ y in
@@ -599,3 +600,12 @@ begun_of m host terms given room header request some enough told is =
     (subst (λ (r : Request). Told m (header_fault m host.tables given) (asked (text_bytes m host given 16)) refused
     (Ok r)) (sym is)
     (told_map m (header_fault m host.tables given) (text_bytes m host given 16) header asked refused told)))
+
+pub begun_of : {B : Type 0} (m : Memory) (host : Host B) (terms : Terms) (is_broken : Bool) (given room : List Entry)
+    (header : List ℕ) (request : Request) → length room ≢ 0 → is_broken ≡ false → 16 ≤ length given
+    → Told m (header_fault m host.tables given) (Some (text_bytes m host given 16)) None (Ok (Some header))
+    → request ≡ request_of terms header (length given - 16) (length room - 1)
+    → Begins m host terms is_broken given room (Ok request)
+begun_of m host terms is_broken given room header request some kept enough told is =
+    subst (λ b. Begins m host terms b given room (Ok request)) (sym kept)
+    (begun_within m host terms given room header request some enough told is)

@@ -1,5 +1,5 @@
 -- The device as its owner sees it, and the features that it offers.
-use Rattle.std.specs.Prelude.{ℕ, ◌+◌, ◌-◌, ◌^◌, min, if◌then◌else◌, Bool, true, false, ◌==◌, ◌&&◌, not, nat_lt, List, bit_and}
+use Rattle.std.specs.Prelude.{ℕ, ◌+◌, ◌-◌, ◌^◌, min, if◌then◌else◌, Bool, true, false, ◌==◌, ◌&&◌, not, nat_lt, List, None, bit_and}
 use Rattle.virtio_blk.specs.declared.request.Terms.{Terms}
 
 -- a device: its disk, whether it only reads that, its name of 20 bytes, the features that were accepted, and how many
@@ -11,9 +11,15 @@ pub record Device (D : Type 0) : Type 0 where
   pub acked : ℕ
   pub starved : ℕ
 
--- what its requests are held against
+-- what its requests are held against: the device offers no limits
 abbrev pub terms_of : {D : Type 0} → (D → ℕ) → Device D → Terms
-terms_of sectors d = record { sectors = sectors d.disk; read_only = d.read_only; acked = d.acked }
+terms_of sectors d = record {
+  sectors = sectors d.disk;
+  read_only = d.read_only;
+  acked = d.acked;
+  seg_max = None;
+  size_max = None;
+}
 
 -- one chain more is counted if an allocation failed for it. The count stays at the greatest number of 64 bits
 abbrev pub counted : Bool → ℕ → ℕ

@@ -1,5 +1,6 @@
 -- The two steps of a request, before and after the disk.
-use Rattle.std.specs.Prelude.{◌≡◌, ◌⊎◌, ℕ, ◌+◌, ◌-◌, ◌*◌, ◌%◌, ◌≤◌, min, nat_lt, true, ◌==◌, ◌&&◌, if◌then◌else◌, List, [], ◌∷◌, length, take, drop, Option, Some, None, is_none, Result, Ok, Err, is_ok, MatchBool}
+use Rattle.std.specs.Prelude.{◌≡◌, ◌⊎◌, ℕ, ◌+◌, ◌-◌, ◌*◌, ◌%◌, ◌≤◌, min, nat_lt, Bool, true, false, ◌==◌, ◌&&◌, ◌||◌, if◌then◌else◌, List, [], ◌∷◌, length, take, drop, Option, Some, None, is_none, Result, Ok, Err, is_ok, MatchBool}
+use Rattle.std.specs.List.{list_any}
 use Rattle.vm_memory_base.specs.Table.{Table}
 use Rattle.vm_memory_base.specs.declared.iotlb.Permissions.TheVariants as permissions
 use Rattle.vm_memory_guest.specs.Access.{AccessFault}
@@ -10,6 +11,7 @@ use Rattle.vm_memory_guest.specs.Memory.{Memory, IsOn, route}
 use Rattle.vm_memory_guest.specs.declared.region.error.GuestMemoryError.{GuestMemoryError}
 use Rattle.vm_memory_guest.specs.declared.region.error.GuestMemoryError.TheVariants as errors
 use Rattle.vm_memory_device.specs.Chain.{Entry, text_fault}
+use Rattle.vm_memory_device.specs.declared.chain.Segment.{Segment}
 use Rattle.virtio_blk.specs.Request.{request_of}
 use Rattle.virtio_blk.specs.Texts.{WritesAt, text_bytes}
 use Rattle.virtio_blk.specs.declared.request.Request.{Request}
@@ -35,13 +37,28 @@ Told m fault done without answer =
 abbrev pub header_fault : Memory → List Table → List Entry → Option AccessFault
 header_fault m tables es = text_fault m.regions (route m tables) permissions.Read true (take 16 es)
 
--- what a chain with these texts asks for. One with no byte for the status is not served, and one whose header is short,
--- or has no memory, is refused
-abbrev pub Begins : {B : Type 0} → Memory → Host B → Terms → List Entry → List Entry → Result Request GuestMemoryError
-    → Type 0
-Begins m host terms given room answer =
+-- a number is above a limit, if there is one
+abbrev pub is_over : Option ℕ → ℕ → Bool
+is_over None n = false
+is_over (Some most) n = nat_lt most n
+
+-- one of these segments has more bytes than a limit, if there is one
+abbrev pub has_longer : Option ℕ → List Segment → Bool
+has_longer None segments = false
+has_longer (Some most) segments = list_any (λ s. nat_lt most s.len) segments
+
+-- the segments of a chain break a limit that the driver keeps: beside the two with the header and the status they are
+-- too many, or one of all is too long
+abbrev pub breaks_limits : Terms → List Segment → Bool
+breaks_limits terms segments = is_over terms.seg_max (length segments - 2) || has_longer terms.size_max segments
+
+-- what a chain with these texts asks for, which breaks a limit or not. One with no byte for the status is not served, and
+-- one that breaks a limit, or whose header is short, or has no memory, is refused
+abbrev pub Begins : {B : Type 0} → Memory → Host B → Terms → Bool → List Entry → List Entry
+    → Result Request GuestMemoryError → Type 0
+Begins m host terms is_broken given room answer =
     MatchBool (length room == 0) (answer ≡ Ok Unserved)
-    (MatchBool (nat_lt (length given) 16) (answer ≡ Ok (Refused 1))
+    (MatchBool (is_broken || nat_lt (length given) 16) (answer ≡ Ok (Refused 1))
     (Told m (header_fault m host.tables given)
     (request_of terms (text_bytes m host given 16) (length given - 16) (length room - 1)) (Refused 1) answer))
 

@@ -163,6 +163,8 @@ impl<D: Disk> BlockDevice<D> {
             sectors: self.disk.sectors(),
             read_only: self.read_only,
             acked: self.acked,
+            seg_max: None,
+            size_max: None,
         }
     }
 }

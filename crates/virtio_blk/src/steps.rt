@@ -1,14 +1,15 @@
 //! A request in two steps, for a device whose disk is its own: the crate's README.md, "A disk of your own".
-ghost use Rattle.std.specs.Prelude.{◌≡◌, ◌≤◌, Some, None, IfOk, length};
+ghost use Rattle.std.specs.Prelude.{◌≡◌, ◌≤◌, nat_lt, Some, None, IfOk, length};
+ghost use Rattle.std.specs.List.{list_any};
 ghost use Rattle.vm_memory_device.specs.Chain.{readable, text, writable};
 ghost use Rattle.vm_memory_guest.specs.Host.{shape_of, Holds};
 ghost use Rattle.virtio_blk.specs.Inside.{failed};
-ghost use Rattle.virtio_blk.specs.Steps.{Begins, Finishes, FitsOn, Told, header_fault};
+ghost use Rattle.virtio_blk.specs.Steps.{Begins, Finishes, FitsOn, Told, breaks_limits, has_longer, header_fault, is_over};
 ghost use Rattle.virtio_blk.specs.Texts.{text_bytes};
 
 use crate::request::{Request, Terms, VIRTIO_BLK_S_IOERR, request_of};
 use vm_memory_base::Bitmap;
-use vm_memory_device::Chain;
+use vm_memory_device::{Chain, Segment};
 use vm_memory_guest::{GuestMemory, GuestMemoryError, GuestMemoryResult, HostMemory};
 
 // What a step returns whose access failed: the error, if the step may succeed later, and else what it returns without
@@ -47,9 +48,56 @@ fn read_header<M: GuestMemory, B: Bitmap>(
     Ok(Some(header))
 }
 
+// Whether a number is above a limit, if there is one.
+#[inline]
+fn is_over(limit: Option<usize>, count: usize) -> bool
+    ensures { result ≡ is_over limit count }
+{
+    match limit {
+        Some(most) => count > most,
+        None => false,
+    }
+}
+
+// Whether a segment has more bytes than a limit.
+#[inline]
+fn is_longer(most: usize, segment: &Segment) -> bool
+    ensures { result ≡ nat_lt most segment.now.len }
+{
+    segment.len as usize > most
+}
+
+// Whether one of these segments has more bytes than a limit.
+#[inline]
+fn any_longer(most: usize, segments: &[Segment]) -> bool
+    ensures { result ≡ list_any (λ s. nat_lt most s.len) segments.now }
+{
+    segments.iter().any(|segment| is_longer(most, segment))
+}
+
+// The same, if there is a limit.
+#[inline]
+fn has_longer(limit: Option<usize>, segments: &[Segment]) -> bool
+    ensures { result ≡ has_longer limit segments.now }
+{
+    match limit {
+        Some(most) => any_longer(most, segments),
+        None => false,
+    }
+}
+
+// Whether the segments of a chain break a limit that the driver keeps.
+#[inline]
+fn breaks_limits(terms: Terms, segments: &[Segment]) -> bool
+    ensures { result ≡ breaks_limits terms segments.now }
+{
+    is_over(terms.seg_max, segments.len().saturating_sub(2)) || has_longer(terms.size_max, segments)
+}
+
 /// Reads the header of a request and says what the device has to do, before it does any of it. Nothing changes.
 ///
-/// A request that is wrong is not an error, but `Refused`. An error means that nothing is decided:
+/// A request that is wrong is not an error, but `Refused`. One that breaks a limit of the terms is refused before its
+/// header is read, with `VIRTIO_BLK_S_IOERR`. An error means that nothing is decided:
 /// [`GuestMemoryError::IommuError`] if the IOMMU refuses an access to the header, and [`GuestMemoryError::Memory`] if
 /// its translation fails to allocate. A device whose mappings come later makes the call again then.
 pub fn begin<M: GuestMemory, B: Bitmap>(
@@ -59,8 +107,8 @@ pub fn begin<M: GuestMemory, B: Bitmap>(
     chain: &Chain,
 ) -> GuestMemoryResult<Request>
     requires { Holds (shape_of host.now) (M.names mem.now) }
-    ensures begun { Begins (M.memory mem.now) host.now terms (text (readable chain.now)) (text (writable chain.now))
-        result }
+    ensures begun { Begins (M.memory mem.now) host.now terms (breaks_limits terms chain.now)
+        (text (readable chain.now)) (text (writable chain.now)) result }
     ensures fits { IfOk result (λ request. FitsOn terms.sectors request) }
 {
     let room = chain.writer().left();
@@ -71,7 +119,7 @@ pub fn begin<M: GuestMemory, B: Bitmap>(
     let refused = Request::Refused {
         status: VIRTIO_BLK_S_IOERR,
     };
-    if len < 16 {
+    if breaks_limits(terms, chain.segments()) || len < 16 {
         return Ok(refused);
     }
     match read_header(mem, host, chain)? {

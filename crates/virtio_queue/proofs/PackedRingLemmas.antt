@@ -1,8 +1,7 @@
 -- What a device writes into a packed ring, and what it finds there.
-use Rattle.std.proofs.Common.{◌≡◌, ◌∙◌, ℕ, ◌+◌, ◌*◌, true, false, List, [], ◌∷◌, Option, Some, None, Result, Ok, Err, ap, inl, inr, refl, subst, sym}
+use Rattle.std.proofs.Common.{◌≡◌, ◌∙◌, ℕ, ◌+◌, ◌*◌, true, false, [], ◌∷◌, Result, Ok, Err, ap, inl, inr, refl, subst, sym}
 use Rattle.std.specs.Int.{w16, from_le_bytes, to_le_bytes}
 use Rattle.vm_memory_base.specs.declared.iotlb.Permissions.TheVariants as permissions
-use Rattle.vm_memory_device.specs.declared.chain.Segment.{Segment}
 use Rattle.vm_memory_guest.specs.Dirt.{path_cells}
 use Rattle.vm_memory_guest.specs.Host.{Host, bytes_at}
 use Rattle.vm_memory_guest.specs.Memory.{Memory}
@@ -11,30 +10,13 @@ use Rattle.vm_memory_guest.specs.Window.{Window, Writes, cells_of}
 use Rattle.virtio_queue.specs.Fields.{Answers, MayWant, WritesBytes, reached_at, stored_at, window_at, word_at, word_window}
 use Rattle.virtio_queue.specs.Packed.{to_bits}
 use Rattle.virtio_queue.specs.PackedEvents.{AreApart, EnablesIfReady, MayWantKick, Waits, kick_flags, kick_places}
-use Rattle.virtio_queue.specs.PackedRing.{MayWantChain, MayWantSegments, has_next, if_next, is_available, next_chain, popped}
+use Rattle.virtio_queue.specs.PackedRing.{has_next, is_available}
 use Rattle.virtio_queue.specs.PackedUsed.{AddsUsed, rest_bytes, rest_place, used_flags, used_places}
 use Rattle.virtio_queue.specs.Rings.{and_then}
 use Rattle.virtio_queue.specs.declared.error.QueueError.{QueueError}
 use Rattle.virtio_queue.specs.declared.packed.state.PackedBuffer.{PackedBuffer}
 use Rattle.virtio_queue.specs.declared.packed.state.PackedState.{PackedState}
 use Rattle.virtio_queue.proofs.RingLemmas.{both_found, window_stays, word_in_window}
-
--- a chain that was found is refused
-pub pop_refused : {B : Type 0} (m : Memory) (host : Host B) (q : PackedState) (e : QueueError)
-    → has_next m host q ≡ Ok true → Answers (MayWantSegments m host q) (next_chain m host q) (Err e)
-    → Answers (MayWantChain m host q) (popped m host q) (Err e)
-pop_refused m host q e found (inl is) =
-    inl (ap chained is ∙ sym (ap (λ (r : Result _ QueueError). and_then r (if_next m host q)) found))
-  where
-    chained : Result (PackedBuffer × List Segment) QueueError
-        → Result (Option (PackedBuffer × List Segment)) QueueError
-    chained r = and_then r (λ p. Ok (Some p))
-pop_refused m host q e found (inr (is, wants)) = inr (ap refused is, inr (true, found, (refl, wants)))
-  where
-    refused : Result (PackedBuffer × List Segment) QueueError
-        → Result (Option (PackedBuffer × List Segment)) QueueError
-    refused (Ok ss) = Ok None
-    refused (Err d) = Err d
 
 -- length and id that were written, and then the flags
 pub added : {B : Type 0} (marks : B → ℕ → ℕ → B → Type 0) (m : Memory) (q : PackedState) (buffer : PackedBuffer)

@@ -3,12 +3,16 @@ use Rattle.std.specs.Prelude.{◌≡◌, ℕ, false, if◌then◌else◌, List, 
 use Rattle.vm_memory_device.specs.declared.chain.Segment.{Segment}
 use Rattle.vm_memory_guest.specs.Host.{Host}
 use Rattle.vm_memory_guest.specs.Memory.{Memory}
+use Rattle.virtio_queue.specs.Asking.{needing, packed_needing}
 use Rattle.virtio_queue.specs.Available as split_available
+use Rattle.virtio_queue.specs.Looks.{Asks, and_asks, gives}
 use Rattle.virtio_queue.specs.Notification as split_notification
 use Rattle.virtio_queue.specs.Packed as packed
 use Rattle.virtio_queue.specs.PackedEvents as packed_events
+use Rattle.virtio_queue.specs.PackedPopping as packed_popping
 use Rattle.virtio_queue.specs.PackedRing as packed_ring
 use Rattle.virtio_queue.specs.PackedUsed as packed_used
+use Rattle.virtio_queue.specs.Popping as split_popping
 use Rattle.virtio_queue.specs.Rings.{behind}
 use Rattle.virtio_queue.specs.State as split
 use Rattle.virtio_queue.specs.Used as split_used
@@ -84,6 +88,15 @@ after_used (Packed q) buffer answer = Packed (packed_used.after_used q buffer an
 abbrev pub after_asked : AnyQueue → Result Bool QueueError → AnyQueue
 after_asked (Split q) answer = Split (split_notification.after_asked q answer)
 after_asked (Packed q) answer = Packed (packed_events.after_asked q answer)
+
+-- what a pop looks at, and asking whether the driver has to be notified
+abbrev pub popping : AnyQueue → Asks (Option (PackedBuffer × List Segment))
+popping (Split q) = and_asks (split_popping.popping q.state) (λ found. gives (by_head (Ok found)))
+popping (Packed q) = packed_popping.popping q.state
+
+abbrev pub asking : AnyQueue → Asks Bool
+asking (Split q) = needing q
+asking (Packed q) = packed_needing q
 
 module _ {B : Type 0} (m : Memory) (host : Host B) where
   -- what is popped: the next chain, with what it is returned by, if there is one

@@ -54,6 +54,11 @@ direct f = no_other f.indirect
     no_other None = Ok f.segments
     no_other (Some d) = Err errors.NestedIndirect
 
+-- segments, if they make a chain
+abbrev pub if_chain : List Segment → Option ChainFault → Result (List Segment) QueueError
+if_chain segments None = Ok segments
+if_chain segments (Some fault) = Err (errors.InvalidChain fault)
+
 module _ {B : Type 0} (m : Memory) (host : Host B) where
   -- what following gives in a table of N descriptors at an address
   abbrev pub followed_in : ℕ → ℕ → ℕ → Result Followed QueueError
@@ -71,11 +76,7 @@ module _ {B : Type 0} (m : Memory) (host : Host B) where
   abbrev pub segments_at : QueueState → ℕ → Result (List Segment) QueueError
   segments_at q head = and_then (followed_in q.desc_table q.size head) (λ f. with_indirect f.segments f.indirect)
 
-  -- the chain of a head, if its segments make one
-  abbrev pub if_chain : List Segment → Option ChainFault → Result (List Segment) QueueError
-  if_chain segments None = Ok segments
-  if_chain segments (Some fault) = Err (errors.InvalidChain fault)
-
+  -- the chain of a head
   abbrev pub chain_at : QueueState → ℕ → Result (List Segment) QueueError
   chain_at q head = and_then (segments_at q head) (λ segments. if_chain segments (chain_fault segments))
 

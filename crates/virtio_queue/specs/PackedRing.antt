@@ -118,7 +118,7 @@ module _ {B : Type 0} (m : Memory) (host : Host B) where
 
   -- the chain that they make, with what it is returned by
   abbrev pub chain_of : Listed → Result (PackedBuffer × List Segment) QueueError
-  chain_of l = and_then (segments_of l) (λ ss. and_then (if_chain m host ss (chain_fault ss)) (λ ss.
+  chain_of l = and_then (segments_of l) (λ ss. and_then (if_chain ss (chain_fault ss)) (λ ss.
       Ok (buffer_of l, ss)))
 
   abbrev pub next_chain : PackedState → Result (PackedBuffer × List Segment) QueueError

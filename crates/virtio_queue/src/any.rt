@@ -1,11 +1,13 @@
 //! Queues of either kind.
 ghost use Rattle.std.specs.Prelude.{◌≡◌, None, Ok, false};
 ghost use Rattle.vm_memory_guest.specs.Host.{shape_of, Holds};
-ghost use Rattle.virtio_queue.specs.Any.{AddsUsed, Disables, Enables, HasNone, MayWantChain, MayWantNeeds, MayWantValid, Waits, after_asked, after_pop, after_used, at_next, has_event_idx, max_size_of, needs_notification, next_avail_of, past, popped, unset, valid, with_event_idx, with_ready};
+ghost use Rattle.virtio_queue.specs.Any.{AddsUsed, Disables, Enables, HasNone, MayWantChain, MayWantNeeds, MayWantValid, Waits, after_asked, after_pop, after_used, asking, at_next, has_event_idx, max_size_of, needs_notification, next_avail_of, past, popped, popping, unset, valid, with_event_idx, with_ready};
 ghost use Rattle.virtio_queue.specs.Fields.{Answers};
+ghost use Rattle.virtio_queue.specs.Looks.{Follows};
 ghost use Rattle.virtio_queue.specs.declared.packed.state.PackedBuffer.{PackedBuffer};
 
 use crate::error::QueueError;
+use crate::looks::Looks;
 use crate::packed::{PackedBuffer, PackedQueue, RingPosition};
 use crate::queue::Queue;
 use std::alloc::Global;
@@ -126,6 +128,26 @@ impl AnyQueue {
         }
     }
 
+    /// As `pop_descriptor_chain`, from memory that a driver may write meanwhile.
+    #[inline(always)]
+    pub fn pop_from<L: Looks>(
+        &mut self,
+        alloc: Global,
+        looks: &mut L,
+    ) -> Result<Option<(PackedBuffer, Chain)>, QueueError>
+        ensures looks { Follows L.looks (popping self.old) looks.old result looks.new }
+        ensures moved { self.new ≡ after_pop self.old result }
+    {
+        match self {
+            AnyQueue::Split(queue) => match queue.pop_from(alloc, looks) {
+                Ok(Some((id, chain))) => Ok(Some((PackedBuffer { id, slots: 1 }, chain))),
+                Ok(None) => Ok(None),
+                Err(error) => Err(error),
+            },
+            AnyQueue::Packed(queue) => queue.pop_from(alloc, looks),
+        }
+    }
+
     /// Returns a chain, with the number of bytes written to it.
     #[inline(always)]
     pub fn add_used<M: GuestMemory, B: Bitmap>(
@@ -161,6 +183,18 @@ impl AnyQueue {
         match self {
             AnyQueue::Split(queue) => queue.needs_notification(mem, host),
             AnyQueue::Packed(queue) => queue.needs_notification(mem, host),
+        }
+    }
+
+    /// As `needs_notification`, from memory that a driver may write meanwhile.
+    #[inline(always)]
+    pub fn needs_notification_from<L: Looks>(&mut self, looks: &mut L) -> Result<bool, QueueError>
+        ensures looks { Follows L.looks (asking self.old) looks.old result looks.new }
+        ensures asked { self.new ≡ after_asked self.old result }
+    {
+        match self {
+            AnyQueue::Split(queue) => queue.needs_notification_from(looks),
+            AnyQueue::Packed(queue) => queue.needs_notification_from(looks),
         }
     }
 

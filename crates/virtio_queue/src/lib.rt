@@ -9,6 +9,7 @@ mod error;
 pub mod examples;
 mod fields;
 pub mod laws;
+mod looks;
 mod packed;
 pub mod packed_laws;
 mod queue;
@@ -18,6 +19,7 @@ pub use any::AnyQueue;
 pub use descriptor::{Descriptor, VRING_DESC_F_INDIRECT, VRING_DESC_F_NEXT, VRING_DESC_F_WRITE};
 pub use driver::{DriverQueue, QueueField};
 pub use error::QueueError;
+pub use looks::Looks;
 pub use packed::{
     PackedBuffer, PackedDescriptor, PackedDriver, PackedField, PackedQueue, PackedState,
     RingPosition, VRING_PACKED_DESC_F_AVAIL, VRING_PACKED_DESC_F_USED,

@@ -1,23 +1,27 @@
 -- Calls of a machine, as the steps of their commands.
-use Rattle.std.proofs.Common.{◌≡◌, ◌⊎◌, ◌∙◌, refl, sym, ap, subst, inl, inr, ℕ, List, length, map, slice_get, Option, Some, None, option_map, Result, Ok, Err}
+use Rattle.std.proofs.Common.{◌≡◌, ◌⊎◌, ◌∙◌, refl, sym, ap, subst, inl, inr, ℕ, ◌<◌, List, length, map, slice_get, Option, Some, None, IsSome, IsSomeAnd, option_map, Result, Ok, Err}
 use Rattle.std.proofs.lemmas.Option.{slice_get-map}
 use Rattle.std.specs.Int as int
 use Rattle.std.specs.Int.{byte_len, from_le_bytes, to_le_bytes}
 use Rattle.vm_memory_base.specs.Pages.{PageSet}
 use Rattle.vm_memory_base.specs.declared.address.GuestAddress.{GuestAddress}
+use Rattle.vm_memory_base.specs.Table.{Table}
+use Rattle.vm_memory_base.specs.declared.iotlb.Permissions.{Permissions}
 use Rattle.vm_memory_base.specs.declared.iotlb.Permissions.TheVariants as permissions
 use Rattle.vm_memory_guest.specs.Access.{Reached}
 use Rattle.vm_memory_guest.specs.Dirt.{bytes_read}
 use Rattle.vm_memory_guest.specs.Host.{Host}
 use Rattle.vm_memory_guest.specs.Memory as guest
+use Rattle.vm_memory_guest.specs.Memory.{route}
 use Rattle.vm_memory_guest.specs.Typed.{answered}
 use Rattle.vm_memory_guest.specs.Walk.{NeedsPieces}
 use Rattle.vm_memory_guest.specs.declared.region.error.GuestMemoryError.{GuestMemoryError}
-use Rattle.vm_memory.specs.Calls.{AreIntegers, IsInteger, SendsAs, SentBy, WritesOf, loaded}
+use Rattle.vm_memory_guest.proofs.PieceLemmas.{split-some}
+use Rattle.vm_memory.specs.Calls.{AreIntegers, IsInteger, ReadsInto, SendsAs, SentBy, WritesOf, loaded}
 use Rattle.vm_memory.specs.Commands.{MayTranslate, MayWant}
 use Rattle.vm_memory.specs.Effect.{apply, if_there, leaves, Replies}
 use Rattle.vm_memory.specs.Machine.{Step, outcome}
-use Rattle.vm_memory.specs.Reply.{refused_as, replied, reply_of}
+use Rattle.vm_memory.specs.Reply.{refused_as, replied, reply_of, reply_of_refusal}
 use Rattle.vm_memory.specs.State.{State}
 use Rattle.vm_memory.specs.Transfers.{beside_taken}
 use Rattle.vm_memory.specs.Typed.{integer_of, loads, stores, stores_bytes, taken_by}
@@ -59,6 +63,28 @@ sends_are_step now wants c expected out may taken r (bytes, took, inl is) =
     (bytes, took, inl (ap (λ (x : Reply). (x, now)) is ∙ sym out))
 sends_are_step now wants c expected out may taken r (bytes, took, inr (is, want)) =
     (bytes, took, inr (ap (λ (x : Reply). beside_taken bytes x) is, may want, refl))
+
+-- a memory whose access takes the pieces of a translation is there, and the access is of some bytes
+translated : (m : Option guest.Memory) (tables : List Table) (a n : ℕ) (access : Permissions)
+    → IsSomeAnd m (λ x. NeedsPieces x tables a n access) → IsSome m × (0 < n)
+translated None tables a n access h = absurd h
+translated (Some m) tables a n access h = (refl, split-some (route m tables) a n h.1)
+
+-- a read that is refused is a step of its command, which may want memory for the bytes
+pub refused_read_is_step : {T : Type 0} (now : State) (memory a count : ℕ) (c : ℕ → Command) (told : T → Reply)
+    (buffer new : List ℕ) (e : Refusal) (r : Reply)
+    → (IsSome (slice_get now.memories memory) × (0 < count) → MayWant now (c count)) → length buffer ≡ count
+    → ReadsInto now memory a (c (length buffer)) told buffer (Err e) new → r ≡ reply_of_refusal e
+    → Step now (c count) r now
+refused_read_is_step now memory a count c told buffer new e r may size (inl read) is =
+    inl (ap (λ (x : Reply). (x, now)) is ∙ read.0 ∙ ap (λ (k : ℕ). outcome now (c k)) size)
+refused_read_is_step {T} now memory a count c told buffer new e r may size (inr (wanted, pieces, same)) is =
+    let there = translated (slice_get now.memories memory) now.host.tables a (length buffer) permissions.Read pieces in
+    inr (
+      is ∙ ap (λ (x : Result T Refusal). replied told x) wanted,
+      may (there.0, subst (λ (k : ℕ). 0 < k) size there.1),
+      refl,
+    )
 
 -- a number is stored in the bytes of its width
 spelled : (width : Width) (number : ℕ)

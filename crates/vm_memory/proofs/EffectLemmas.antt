@@ -17,7 +17,7 @@ use Rattle.vm_memory_guest.specs.Layout.{inserted, removed}
 use Rattle.vm_memory_guest.specs.Memory.{Memory, IsOn, behind_of}
 use Rattle.vm_memory_guest.specs.Region.{Region, IsRegion, IsLayout, layout_error}
 use Rattle.vm_memory_guest.specs.Typed.{path_given}
-use Rattle.vm_memory_guest.specs.Window.{bitmap_of, with_bitmap}
+use Rattle.vm_memory_guest.specs.Window.{with_bitmap}
 use Rattle.vm_memory_guest.specs.declared.region.error.GuestRegionCollectionError.{GuestRegionCollectionError}
 use Rattle.vm_memory_guest.specs.declared.region.error.GuestRegionCollectionError.TheVariants as layouts
 use Rattle.vm_memory.specs.Copy.{copied, has_block, ends_inside}
@@ -25,7 +25,7 @@ use Rattle.vm_memory.specs.Effect.{Effect, Replies, AddsLayout, AddsMemory, Sets
 use Rattle.vm_memory.specs.Effect.{if_there, laid_out, without, leaves}
 use Rattle.vm_memory.specs.Commands.{table_call}
 use Rattle.vm_memory.specs.Lawful.{IsLaidOut, IsLawful}
-use Rattle.vm_memory.specs.Commands.{effect}
+use Rattle.vm_memory.specs.Commands.{bitmap_in, effect}
 use Rattle.vm_memory_device.specs.Reach.{reached_by}
 use Rattle.vm_memory.specs.Reply.{access_result, reply_of, reply_of_layout_error, writes}
 use Rattle.vm_memory.specs.Rounds.{IsDirect, image_after}
@@ -40,6 +40,7 @@ use Rattle.vm_memory.specs.declared.machine.command.Fault.TheVariants as fault
 use Rattle.vm_memory.specs.declared.machine.command.Reply.{Reply}
 use Rattle.vm_memory.specs.declared.machine.command.Reply.TheVariants as reply
 use Rattle.vm_memory_device.proofs.TableLemmas.{AreLeftBy, same, changed_at}
+use Rattle.vm_memory.proofs.BitmapLemmas.{bitmap_in-there}
 use Rattle.vm_memory.proofs.CallLemmas.{HistoryLaws}
 use Rattle.vm_memory.proofs.LawfulLemmas.{PassesLaw, IsLayout-removed, layout_at, memory_at, region_at, named_fit}
 use Rattle.vm_memory.proofs.LayoutLemmas.{OfLeft, All-inserted, All-removed}
@@ -202,14 +203,14 @@ module _ (old : State) (c : Command) where
   }
 
 -- pages that are taken
-harvested : (old : State) (id : BitmapId) (set : PageSet) → bitmap_of old.host id ≡ Some set
+harvested : (old : State) (id : BitmapId) (set : PageSet) → bitmap_in old.host id ≡ Some set
     → IsOf old (command.Harvest id) (Leaves (reply.Pages (dirty_pages set)) (with_bitmap old.host id (cleaned set)))
 harvested old (Block b) set e = record {
   answer = λ law. tt;
   still = λ law. absurd;
   tables = λ laws number. same number _ _ refl;
   image = λ laws block image direct kept.
-      harvest_keeps laws.are_listed laws.cleaned_stay block image old.host kept b set e;
+      harvest_keeps laws.are_listed laws.cleaned_stay block image old.host kept b set (bitmap_in-there old.host (Block b) set e);
 }
 harvested old (Space s) set e = record {
   answer = λ law. tt;
@@ -335,8 +336,8 @@ module _ (old : State) where
       there old _ (slice_get old.memories memory) _ (λ m e. (answers.gave old.host m addr.0 true n sink, silent _ tt _))
   command_has_effect (command.CheckRange memory addr n access) =
       there old _ (slice_get old.memories memory) _ (λ m e. (tt, silent _ tt _))
-  command_has_effect (command.Dirty id) = there old _ (bitmap_of old.host id) _ (λ set e. (tt, silent _ tt _))
-  command_has_effect (command.Harvest id) = there old _ (bitmap_of old.host id) _ (harvested old id)
+  command_has_effect (command.Dirty id) = there old _ (bitmap_in old.host id) _ (λ set e. (tt, silent _ tt _))
+  command_has_effect (command.Harvest id) = there old _ (bitmap_in old.host id) _ (harvested old id)
   command_has_effect (command.Copy from to) =
       copies_to old _ tt from to (has_block old.host from && has_block old.host to)
       (ends_inside old.host from && ends_inside old.host to)

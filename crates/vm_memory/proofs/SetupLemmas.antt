@@ -1,32 +1,28 @@
 -- What is made for a machine.
-use Rattle.std.proofs.Common.{◌≡◌, ◌∙◌, ℕ, zero, suc, ◌+◌, ◌<◌, ◌^◌, true, List, [], ◌∷◌, ◌++◌, length, map, slice_get, Some, is_some, refl, sym, ap, subst, inl, inr, arith}
-use Rattle.std.proofs.lemmas.Bool.{false≢true, lt-ltb}
-use Rattle.std.proofs.lemmas.List.{map-append, length-map}
+use Rattle.std.proofs.Common.{◌≡◌, ◌==◌, ◌&&◌, ◌∙◌, ℕ, ◌+◌, ◌<◌, ◌^◌, true, Ok, set, List, [], ◌∷◌, ◌++◌, length, map, Some, refl, sym, ap, subst, inl, inr, arith}
+use Rattle.std.proofs.lemmas.Bool.{lt-ltb}
+use Rattle.std.proofs.lemmas.List.{map-append, map-set, length-map}
+use Rattle.vm_memory_base.specs.Exclusive.{pages_of}
+use Rattle.vm_memory_base.specs.Pages.{PageSet, new_pages}
 use Rattle.vm_memory_base.specs.declared.address.GuestAddress.{GuestAddress}
 use Rattle.vm_memory_base.specs.declared.bitmap.exclusive.ExclusiveBitmap.{ExclusiveBitmap}
-use Rattle.vm_memory_guest.specs.Host.{Host, block_at}
+use Rattle.vm_memory_guest.specs.Host.{Host, block_at, has_bytes, shape_of, without_block}
 use Rattle.vm_memory_guest.specs.Mmap.{mmap_region}
 use Rattle.vm_memory_guest.specs.Region.{Region}
 use Rattle.vm_memory_guest.specs.declared.host.BlockId.{BlockId}
 use Rattle.vm_memory_guest.specs.declared.mmap.GuestRegionMmap.{GuestRegionMmap}
 use Rattle.vm_memory.specs.State.{State}
 use Rattle.vm_memory.specs.ScriptMachine.{ScriptParts, state_made}
-use Rattle.vm_memory.specs.Setup.{SetsUp, IsMade, add_region, region_at, set_up}
+use Rattle.vm_memory.specs.Setup.{GivesBack, SetsUp, IsMade, names_no_block, region_at, set_up}
 use Rattle.vm_memory.specs.declared.machine.setup.Setup.TheVariants as setup
 use Rattle.vm_memory.specs.declared.machine.setup.SetupReply.{SetupReply}
 use Rattle.vm_memory.specs.declared.machine.setup.SetupReply.TheVariants.{RegionMade, Memory}
 use Rattle.vm_memory.proofs.SpellingLemmas.{first}
 
-block_there : (blocks : List (List ℕ)) (b : ℕ) → is_some (slice_get (map length blocks) b) ≡ true
-    → slice_get blocks b ≡ Some (block_at blocks b)
-block_there [] b h = absurd (false≢true h)
-block_there (x ∷ blocks) zero h = refl
-block_there (x ∷ blocks) (suc b) h = block_there blocks b h
-
 -- a region of a whole block that is there
 pub record IsWhole (host : Host ExclusiveBitmap) (block : BlockId) (addr : GuestAddress) (r : GuestRegionMmap)
     : Type 0 where
-  pub there : is_some (slice_get (map length host.blocks) block.0) ≡ true
+  pub there : has_bytes (shape_of host) block.0 ≡ true
   pub start : r.start ≡ addr.0
   pub block_is : r.mapping.block ≡ block.0
   pub size : r.mapping.size ≡ length (block_at host.blocks block.0)
@@ -46,8 +42,7 @@ made m block addr r h =
     ap (λ q. old.regions ++ q ∷ []) is ∙ sym (map-append mmap_region m.regions (r ∷ [])) in
     let count : length (map mmap_region m.regions) ≡ length m.regions = simp length-map in
     let add : List Region → ℕ → SetupReply × State = λ rs n. (RegionMade n, record old { regions = rs }) in
-    ap (add_region old block.0 addr.0) (block_there m.host.blocks block.0 h.there)
-    ∙ first _ _ _ (lt-ltb _ _ below)
+    first _ _ _ h.there ∙ first _ _ _ (lt-ltb _ _ below)
     ∙ ap (λ rs. add rs (length old.regions)) grown
     ∙ ap (λ n. add (map mmap_region (m.regions ++ r ∷ [])) n) count
   where
@@ -73,3 +68,24 @@ region_refused m pool block addr r h same =
       subst (λ (o : SetupReply × State). IsMade o.0) (sym (made m block addr r h)) tt,
       ap (λ p. state_made (record m { regions = p })) same,
     )
+
+-- a block is given back where nothing names one
+pub block_given_back : (m : ScriptParts) (block : ℕ) (bitmap : ExclusiveBitmap) (host : Host ExclusiveBitmap)
+    → has_bytes (shape_of m.host) block ≡ true
+    → (length m.regions == 0 && length m.layouts == 0 && length m.memories == 0) ≡ true
+    → Some (pages_of bitmap) ≡ new_pages 1 0 → host ≡ without_block m.host block bitmap
+    → GivesBack (state_made m) block (Ok tt) (state_made (record m { host = host }))
+block_given_back m block bitmap host there none pages left =
+    let old = state_made m in
+    let seen : PageSet → State = λ set. record old { host = without_block old.host block set } in
+    let lengths : names_no_block old ≡ true = simp length-map none in
+    let is : state_made (record m { host = host }) ≡ seen (new_pages 1 0) =
+    ap (λ h. state_made (record m { host = h })) left
+    ∙ ap (λ (sets : List PageSet). record old {
+      host = record old.host {
+        blocks = set old.host.blocks block [];
+        bitmaps = sets;
+      };
+    }) (map-set (λ b. Some (pages_of b)) m.host.bitmaps block bitmap)
+    ∙ ap seen pages in
+    inl (ap (λ s. (Ok tt, s)) is ∙ sym (first _ _ _ there ∙ first _ _ _ lengths))

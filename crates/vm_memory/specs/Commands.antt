@@ -6,12 +6,14 @@ use Rattle.vm_memory_base.specs.Pages.{dirty_pages, cleaned}
 use Rattle.vm_memory_base.specs.Table as table
 use Rattle.vm_memory_base.specs.Table.{TableEvent, says, overruns}
 use Rattle.vm_memory_base.specs.declared.bitmap.BitmapId.{BitmapId}
+use Rattle.vm_memory_base.specs.declared.bitmap.BitmapId.TheVariants.{Block, Space}
 use Rattle.vm_memory_base.specs.declared.iotlb.Permissions.{Permissions}
 use Rattle.vm_memory_base.specs.declared.iotlb.Permissions.TheVariants as permissions
+use Rattle.vm_memory_guest.specs.Host.{Host, has_bytes, shape_of}
 use Rattle.vm_memory_guest.specs.Layout.{inserted, removed}
 use Rattle.vm_memory_guest.specs.Region.{layout_error}
 use Rattle.vm_memory_guest.specs.Walk.{NeedsPieces}
-use Rattle.vm_memory_guest.specs.Window.{bitmap_of, with_bitmap}
+use Rattle.vm_memory_guest.specs.Window.{with_bitmap}
 use Rattle.vm_memory_device.specs.Iommu.{behind}
 use Rattle.vm_memory_device.specs.Memories.{plain}
 use Rattle.vm_memory.specs.State.{State, named}
@@ -33,6 +35,11 @@ use Rattle.vm_memory.specs.declared.machine.command.Command.TheVariants.{ReadFro
 use Rattle.vm_memory.specs.declared.machine.command.Command.TheVariants.{WriteTo, WriteAllTo}
 use Rattle.vm_memory.specs.declared.machine.command.Reply.{Reply}
 use Rattle.vm_memory.specs.declared.machine.command.Reply.TheVariants.{Pages, Done}
+
+-- the bitmap of this name, if there is one, and its block was not given back
+abbrev pub bitmap_in : {B : Type 0} → Host B → BitmapId → Option B
+bitmap_in host (Block block) = if has_bytes (shape_of host) block then slice_get host.bitmaps block else None
+bitmap_in host (Space space) = slice_get host.spaces space
 
 -- what a command does, if no allocation fails
 abbrev pub effect : State → Command → Effect
@@ -71,9 +78,9 @@ effect old (ReadExactFrom memory addr count source) =
 effect old (WriteTo memory addr count sink) = asks old memory (λ m host. sends false m host addr.0 count sink)
 effect old (WriteAllTo memory addr count sink) = asks old memory (λ m host. sends true m host addr.0 count sink)
 effect old (CheckRange memory addr count access) = asks old memory (λ m host. checks m host addr.0 count access)
-effect old (Dirty id) = if_there (bitmap_of old.host id) (λ set. Replies (Pages (dirty_pages set)))
+effect old (Dirty id) = if_there (bitmap_in old.host id) (λ set. Replies (Pages (dirty_pages set)))
 effect old (Harvest id) =
-    if_there (bitmap_of old.host id) (λ set. Leaves (Pages (dirty_pages set)) (with_bitmap old.host id (cleaned set)))
+    if_there (bitmap_in old.host id) (λ set. Leaves (Pages (dirty_pages set)) (with_bitmap old.host id (cleaned set)))
 effect old (Copy from to) = leaves (copies old.host from to)
 effect old (Set number iova to len perm) =
     leaves (changes old.host number iova.0 len (table.Set iova.0 to.0 len perm))
@@ -89,7 +96,7 @@ MayTranslate old memory a n access =
 
 -- a bitmap that is there has a dirty page
 abbrev pub HasDirtyPage : State → BitmapId → Type 0
-HasDirtyPage old id = IsSomeAnd (bitmap_of old.host id) (λ set. dirty_pages set ≢ [])
+HasDirtyPage old id = IsSomeAnd (bitmap_in old.host id) (λ set. dirty_pages set ≢ [])
 
 -- when an allocation may fail: for what is made, for a range that is mapped or no longer is, for the bytes, the pages
 -- and the ranges that a reply lists, for the room of a sink, and for the pieces of a translation that is allowed. For

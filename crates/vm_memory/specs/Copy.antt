@@ -1,15 +1,15 @@
 -- Copies between ranges of blocks.
-use Rattle.std.specs.Prelude.{◌+◌, min, Bool, ◌&&◌, nat_lt, nat_le, if◌then◌else◌, length}
+use Rattle.std.specs.Prelude.{◌+◌, min, Bool, ◌&&◌, nat_le, if◌then◌else◌, length}
 use Rattle.vm_memory_base.specs.Pages.{PageSet}
 use Rattle.vm_memory_guest.specs.Copy.{after_copy}
-use Rattle.vm_memory_guest.specs.Host.{Host, block_at, cells_from}
+use Rattle.vm_memory_guest.specs.Host.{Host, block_at, cells_from, has_bytes, shape_of}
 use Rattle.vm_memory.specs.declared.machine.command.BlockRange.{BlockRange}
 use Rattle.vm_memory.specs.declared.machine.command.Reply.{Reply}
 use Rattle.vm_memory.specs.declared.machine.command.Reply.TheVariants.{Done, NoSuch, BadRange}
 
--- whether there is the block of a range
+-- whether there is the block of a range, and was not given back
 abbrev pub has_block : {B : Type 0} → Host B → BlockRange → Bool
-has_block host w = nat_lt w.block (length host.blocks)
+has_block host w = has_bytes (shape_of host) w.block
 
 -- whether a range ends in its block
 abbrev pub ends_inside : {B : Type 0} → Host B → BlockRange → Bool

@@ -1,5 +1,5 @@
 //! What a machine replies and leaves in small cases: each function here is a theorem, and does nothing.
-#![tactic(auto, unfolding(vm_memory_base::specs::Runs::runs, vm_memory_base::specs::Table::each, vm_memory_base::specs::Transfer::again_upto, vm_memory_base::specs::Transfer::rest_of, vm_memory_guest::specs::Access::path, vm_memory_guest::specs::Access::first_fault, vm_memory_guest::specs::Access::stretches, vm_memory_guest::specs::Dealt::in_order))]
+#![tactic(auto, unfolding(vm_memory_base::specs::Runs::runs, vm_memory_base::specs::Table::each, vm_memory_base::specs::Transfer::again_upto, vm_memory_base::specs::Transfer::rest_of, vm_memory_guest::specs::Access::path, vm_memory_guest::specs::Access::first_fault, vm_memory_guest::specs::Access::stretches, vm_memory_guest::specs::Dealt::in_order, vm_memory_guest::specs::Walk::IsSplit))]
 
 ghost use Rattle.std.specs.Prelude.{◌≡◌, ℕ, ◌-◌, ◌^◌, [], ◌∷◌, ◌++◌, None, true, false};
 ghost use Rattle.vm_memory_base.specs.Lookup.{mapped_ranges};
@@ -204,7 +204,7 @@ pub fn images_that_mirror_a_block()
 {}
 
 /// An allocation may fail for what is made, for the bytes and the pages that are replied, for ranges of a table, and
-/// for the pieces of a translation that is allowed. Without any of these, none fails.
+/// for the pieces of a translation that is allowed, if there are two or more. Without any of these, none fails.
 pub fn who_may_want_memory()
     ensures layout { MayWant machine (FromRegions (0 ∷ [])) }
     ensures memory { MayWant machine (Plain 0) }
@@ -213,12 +213,15 @@ pub fn who_may_want_memory()
     ensures translated_read_of_nothing { MayWant machine (Read 1 (at 0) 0) → ⊥ }
     ensures write { MayWant machine (Write 0 (at 0) (9 ∷ [])) → ⊥ }
     ensures transfer_out_of_nothing { MayWant machine (WriteTo 0 (at 0) 0 []) → ⊥ }
-    ensures translated_write { MayWant machine (Write 1 (at 16) (9 ∷ [])) }
+    ensures translated_write { MayWant machine (Write 1 (at 16) (9 ∷ [])) → ⊥ }
     ensures write_without_a_mapping { MayWant machine (Write 1 (at 0) (9 ∷ [])) → ⊥ }
     ensures write_that_is_not_allowed { MayWant machine (Write 1 (at 20) (9 ∷ [])) → ⊥ }
     ensures translated_write_of_nothing { MayWant machine (Write 1 (at 0) []) → ⊥ }
     ensures write_that_is_off { MayWant machine (Write 2 (at 0) (9 ∷ [])) → ⊥ }
-    ensures translated_store { MayWant machine (Store 1 One (at 16) 9) }
+    ensures translated_store { MayWant machine (Store 1 One (at 16) 9) → ⊥ }
+    ensures load_over_two_mappings { MayWant machine (Load 1 Two (at 19)) }
+    ensures check_over_two_mappings { MayWant machine (CheckRange 1 (at 19) 2 permissions.Read) }
+    ensures check_that_is_not_allowed { MayWant machine (CheckRange 1 (at 19) 2 permissions.Write) → ⊥ }
     ensures store_too_great { MayWant machine (Store 1 One (at 0) 256) → ⊥ }
     ensures copy { MayWant machine (Copy (in_block 0 0 1) (in_block 1 0 1)) → ⊥ }
     ensures no_region { MayWant machine (FromRegions (0 ∷ 3 ∷ [])) → ⊥ }
@@ -352,7 +355,7 @@ pub fn transfers_in_are_answered()
         ≡ (Fault (not_translated 20 1 AccessNotAllowed), machine) }
     ensures no_such { outcome machine (ReadFrom 3 (at 0) 1 (Give (9 ∷ []) ∷ [])) ≡ (NoSuch, machine) }
     ensures never_wants { MayWant machine (ReadExactFrom 0 (at 0) 1 []) → ⊥ }
-    ensures may_want { MayWant machine (ReadFrom 1 (at 16) 1 []) }
+    ensures in_one_mapping { MayWant machine (ReadFrom 1 (at 16) 1 []) → ⊥ }
 {}
 
 /// The reply to a transfer out says how it ended, and which bytes its sink took, even if it failed. It changes nothing,

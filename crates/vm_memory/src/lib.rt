@@ -12,7 +12,7 @@ pub use machine::journal::{CallError, Journal};
 pub use machine::lend::Work;
 pub use machine::list::{NumberList, PieceList, SinkList, SourceList};
 pub use machine::refusal::Refusal;
-pub use machine::setup::{ScriptMachine, Setup, SetupReply};
+pub use machine::setup::{GiveBackError, ScriptMachine, Setup, SetupReply};
 pub use machine::shared::SharedMachine;
 pub use machine::{Machine, run};
 pub use script::{DriveFault, drive};

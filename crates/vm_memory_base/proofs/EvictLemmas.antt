@@ -6,7 +6,7 @@ use Rattle.std.specs.List.{filter}
 use Rattle.vm_memory_base.specs.Address.{is_within, difference}
 use Rattle.vm_memory_base.specs.Change.{EndBelow, StartFrom, IsKept, IsWithinLimit, runs_below, runs_from, without_first}
 use Rattle.vm_memory_base.specs.Runs.{AddressRun, IsCanonical, value_at}
-use Rattle.vm_memory_base.specs.Table.{Mapping, same_mapping, Says, Table, says, TableEvent, Set, InvalidateAll, covers, says_after, says_after_all, has_any, first_set, excess, evicted, eviction, events, changed, changed_by, events_of, canonical_list, range_count}
+use Rattle.vm_memory_base.specs.Table.{Mapping, same_mapping, Says, Table, says, TableEvent, Set, InvalidateAll, covers, says_after, says_after_all, has_any, first_set, excess, evicted, eviction, evictions, events, changed, changed_by, events_of, canonical_list, range_count}
 use Rattle.vm_memory_base.specs.declared.iotlb.Permissions.{Permissions}
 use Rattle.vm_memory_base.proofs.ChangeLemmas.{StartFrom-weaker, tail_starts, kept_stays, nothing_said}
 use Rattle.vm_memory_base.proofs.StartLemmas.{below-none, from-all}
@@ -275,6 +275,11 @@ pub says_then : (call : TableEvent) (old new : Table) → new ≡ changed call o
     → says new x ≡ says_after_all (events call old) x (says old x)
 says_then call old new e x l = ap (λ (t : Table). says t x) e ∙ says_changed call old x l
 
+nothing_over : (limit : Option ℕ) (rs : List (AddressRun Mapping)) → IsWithinLimit limit rs
+    → excess limit (length rs) ≡ 0
+nothing_over None rs w = refl
+nothing_over (Some n) rs w = omega arith
+
 -- a table that a call changes at no address is as it was
 pub table_stays : (call : TableEvent) (table : Table) → IsKept table.ranges → IsWithinLimit table.limit table.ranges
     → ((x : ℕ) (old : Option Mapping) → says_after call x old ≡ old) → table ≡ changed call table
@@ -289,11 +294,6 @@ table_stays call table k within same =
     λ ys e. subst (λ (zs : List (AddressRun Mapping)).
     without_first (has_any (first_set call)) (excess table.limit (length zs)) zs ≡ rs) (sym e) (rw none refl) in
     ap with_ranges (sym (changed_ranges call table ∙ left (called call table) (sym is)))
-  where
-    nothing_over : (limit : Option ℕ) (rs : List (AddressRun Mapping)) → IsWithinLimit limit rs
-        → excess limit (length rs) ≡ 0
-    nothing_over None rs w = refl
-    nothing_over (Some n) rs w = omega arith
 
 without_none : {K : Type 0} (spares : AddressRun K → Bool) (n : ℕ) → without_first spares n [] ≡ []
 without_none spares zero = refl
@@ -372,6 +372,38 @@ shorter spares (suc n) (r ∷ rs) =
 pub no_longer : (x : Option ℕ) (n : ℕ) (rs new : List (AddressRun Mapping)) → new ≡ without_first (has_any x) n rs
     → length new ≤ length rs
 no_longer x n rs new e = let l = ap length e in let s = shorter (has_any x) n rs in omega arith
+
+-- what goes, and what is left
+gone_and_left : (x : Option ℕ) (n : ℕ) (rs : List (AddressRun Mapping))
+    → length (without_first (has_any x) n rs) + length (take n (filter (λ r. not (has_any x r)) rs)) ≡ length rs
+gone_and_left x zero rs = omega arith
+gone_and_left x (suc n) [] = omega arith
+gone_and_left x (suc n) (r ∷ rs) =
+    elim (cases_Bool (has_any x r)) [
+      | inl t ↦ let rest = gone_and_left x (suc n) rs in rw t (omega arith)
+      | inr t ↦ let rest = gone_and_left x n rs in rw t (omega arith)
+    ]
+
+-- how many a call evicted: the runs that it left, less those that stayed
+pub evicted_count : (call : TableEvent) (t : Table) (set new : List (AddressRun Mapping)) → set ≡ called call t
+    → new ≡ without_first (has_any (first_set call)) (excess t.limit (length set)) set
+    → length set - length new ≡ evictions call t
+evicted_count call t set new is e =
+    let x = first_set call in
+    let all = gone_and_left x (excess t.limit (length set)) set in
+    let left = ap length e in
+    let same : length (evicted call t.limit set) ≡ evictions call t =
+    ap (λ (ys : List (AddressRun Mapping)). length (evicted call t.limit ys)) is in
+    omega arith
+
+-- a call that says nothing evicts nothing
+pub evicts_nothing : (call : TableEvent) (t : Table) → IsKept t.ranges → IsWithinLimit t.limit t.ranges
+    → ((x : ℕ) (old : Option Mapping) → says_after call x old ≡ old) → evictions call t ≡ 0
+evicts_nothing call t k within same =
+    let rs = t.ranges in
+    let is : rs ≡ called call t = kept_stays rs (λ x. says_after call x (says t x)) k (λ x. same x (says t x)) in
+    let none : excess t.limit (length rs) ≡ 0 = nothing_over t.limit rs within in
+    sym (ap (λ (ys : List (AddressRun Mapping)). length (evicted call t.limit ys)) is) ∙ rw none refl
 
 -- a call that was done, and what it then evicted
 pub call_done : (call : TableEvent) (t : Table) (set new : List (AddressRun Mapping)) → set ≡ called call t

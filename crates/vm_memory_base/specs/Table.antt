@@ -103,6 +103,10 @@ abbrev pub events : TableEvent → Table → List TableEvent
 events call table =
     call ∷ map eviction (evicted call table.limit (canonical_list (λ x. says_after call x (says table x))))
 
+-- how many ranges a call has a table evict
+abbrev pub evictions : TableEvent → Table → ℕ
+evictions call table = length (evicted call table.limit (canonical_list (λ x. says_after call x (says table x))))
+
 -- a kept table after a call: the canonical list of what is said once it evicted what was too much
 abbrev pub changed : TableEvent → Table → Table
 changed call table =

@@ -9,7 +9,9 @@ mod site;
 mod table;
 
 use crate::address::GuestAddress;
-pub use lookup::{IotlbFails, IotlbIterator, IovaRangeList, LookupError, MappedRange};
+pub use lookup::{
+    IotlbFails, IotlbIterator, IovaRangeList, LookupError, MappedRange, MappedRangeList,
+};
 use std::fmt;
 use std::ops::{BitAnd, BitOr, Range};
 pub use table::Iotlb;

@@ -31,7 +31,7 @@ pub use io::{
 };
 pub use iotlb::{
     IommuError, Iotlb, IotlbFails, IotlbIterator, IovaRange, IovaRangeList, LookupError,
-    MappedRange, Permissions, Reason,
+    MappedRange, MappedRangeList, Permissions, Reason,
 };
 pub use laws::events::event_law;
 pub use lends::Lends;

@@ -1,8 +1,9 @@
 //! Sessions and back ends' connections for C: opens one, calls it, and closes it.
 #![tactic(auto)]
 
-ghost use Rattle.std.specs.Prelude.{◌≡◌, None, IsSome};
-ghost use Rattle.vm_memory_c.specs.Calls.{CallsAt, MissesAt, Opens};
+ghost use Rattle.std.specs.Prelude.{◌≡◌, None, IsSome, option_map};
+ghost use Rattle.vm_memory_c.specs.Calls.{CallsAt, GivesBackAt, LendsAt, MissesAt, Opens};
+ghost use Rattle.vm_session.specs.Retries.{without_memories};
 
 mod backend;
 mod handle;
@@ -13,6 +14,7 @@ use handle::Handle;
 use loose::Loose;
 use std::alloc::Global;
 use std::mem;
+use vm_memory_guest::HostPlace;
 use vm_session::{Answer, Call, Miss, Session};
 
 /// Opens a session, and puts its handle into `session`, which has to be closed or new. Returns 0, or 3 if the
@@ -48,6 +50,51 @@ pub extern "C" fn vmm_call(
     let handle = mem::replace(session, Handle::closed(alloc));
     let mut open = handle.loosen().into_box();
     open.call_telling(call, input, output, answer, miss);
+    *session = Handle::of(Loose::of(open));
+}
+
+/// Makes a block of the bytes that lie at a place, as they are, tracked in pages of `page` bytes that are all clean. They
+/// are the block's alone until it is given back or the session is closed, or if it is refused the caller's again.
+#[unsafe(no_mangle)]
+pub extern "C" fn vmm_lend(
+    alloc: Global,
+    session: &mut Handle,
+    place: HostPlace,
+    page: usize,
+    answer: &mut Answer,
+)
+    requires { IsSome session.old.state }
+    ensures { LendsAt session.old.state place.bytes page answer.new session.new.state }
+{
+    let handle = mem::replace(session, Handle::closed(alloc));
+    let mut open = handle.loosen().into_box();
+    *answer = open.block_at(place, page);
+    *session = Handle::of(Loose::of(open));
+}
+
+/// Gives a block of an open session back: it has no bytes any more, and its number stays. Those of a place are the
+/// caller's again. Returns the code of the answer: if it is not 0, nothing changed.
+#[unsafe(no_mangle)]
+pub extern "C" fn vmm_give_back(alloc: Global, session: &mut Handle, block: usize) -> u32
+    requires { IsSome session.old.state }
+    ensures { GivesBackAt session.old.state block result session.new.state }
+{
+    let handle = mem::replace(session, Handle::closed(alloc));
+    let mut open = handle.loosen().into_box();
+    let answer = open.give_back(block);
+    *session = Handle::of(Loose::of(open));
+    answer.code
+}
+
+/// Has an open session forget all regions, layouts and memories.
+#[unsafe(no_mangle)]
+pub extern "C" fn vmm_forget_regions(alloc: Global, session: &mut Handle)
+    requires { IsSome session.old.state }
+    ensures { session.new.state ≡ option_map without_memories session.old.state }
+{
+    let handle = mem::replace(session, Handle::closed(alloc));
+    let mut open = handle.loosen().into_box();
+    open.forget_regions();
     *session = Handle::of(Loose::of(open));
 }
 

@@ -1,8 +1,8 @@
 -- Memory behind an IOMMU: what a host holds of it, and its accesses.
-use Rattle.std.proofs.Common.{◌≡◌, ℕ, Bool, true, List, [], ◌∷◌, ◌++◌, map, slice_get, Option, Some, IsSome, refl, sym, ap, subst, inl, inr, ◌⊎◌, ◌∙◌}
+use Rattle.std.proofs.Common.{◌≡◌, ℕ, ◌<◌, length, Bool, true, List, [], ◌∷◌, ◌++◌, map, slice_get, Option, Some, IsSome, refl, sym, ap, subst, inl, inr, ◌⊎◌, ◌∙◌}
 use Rattle.vm_memory_base.proofs.TableLaws.{is_allowed-each, same_mapping_tests_equality}
 use Rattle.vm_memory_base.specs.Lookup.{Translates, RefusesTranslation}
-use Rattle.vm_memory_base.specs.Table.{Table, says}
+use Rattle.vm_memory_base.specs.Table.{Table, pieces, says}
 use Rattle.vm_memory_base.specs.declared.iotlb.IommuError.{IommuError}
 use Rattle.vm_memory_base.specs.declared.iotlb.Permissions.{Permissions}
 use Rattle.vm_memory_base.specs.declared.iotlb.lookup.MappedRange.{MappedRange}
@@ -13,7 +13,7 @@ use Rattle.vm_memory_guest.specs.Host.{Shape, Name, Space, Holds}
 use Rattle.vm_memory_guest.specs.Memory.{Route, Through, behind_if, says_of, route, route_behind}
 use Rattle.vm_memory_guest.specs.Pieces.{marking, walk_of_pieces}
 use Rattle.vm_memory_guest.specs.Region.{Region}
-use Rattle.vm_memory_guest.specs.Walk.{reach_of, GivesAccess, RefusesAccess, WantsMemory}
+use Rattle.vm_memory_guest.specs.Walk.{reach_of, GivesAccess, IsSplit, RefusesAccess, WantsMemory}
 use Rattle.vm_memory_guest.specs.declared.region.error.GuestMemoryError.{GuestMemoryError}
 use Rattle.vm_memory_guest.proofs.HoldsLemmas.{Holds-left, Holds-right}
 use Rattle.vm_memory_guest.proofs.PieceLemmas.{pieces-access}
@@ -37,6 +37,10 @@ module _ {R : Type 0} (region : R → Region) (rs : List R) (table space : ℕ) 
       ap (λ (b : Bool). route_behind (behind_if b (record { table = table; space = space })) tables) is_on
       ∙ ap (λ (o : Option Table). Through (says_of o) space) there
 
+  split-on : 1 < length (pieces (says t) a n) → IsSplit (route (behind (map region rs) table space on) tables) a n
+  unfolding IsSplit
+  split-on more = rw route-on more
+
   pub gives-on : (found : List MappedRange) → Translates (says t) a n access found
       → (walk : Reach AccessFault) → walk ≡ marking space a (walk_of_pieces (map region rs) found)
       → GivesAccess (behind (map region rs) table space on) tables a n access walk
@@ -55,7 +59,7 @@ module _ {R : Type 0} (region : R → Region) (rs : List R) (table space : ℕ) 
     is ∙ ap of_translation want,
     (
       subst (λ (b : Bool). IsSome (behind_if b (record { table = table; space = space }))) (sym is_on) refl,
-      some,
+      split-on some,
       ap (λ (w : Route). allowed w a n access) route-on ∙ may,
     ),
   )

@@ -1,5 +1,5 @@
 //! Guest memory behind an IOMMU.
-ghost use Rattle.std.specs.Prelude.{◌≡◌, ◌⊎◌, ◌<◌, ◌∷◌, ◌++◌, [], ℕ, IfOk, MatchResult, map};
+ghost use Rattle.std.specs.Prelude.{◌≡◌, ◌⊎◌, ◌<◌, ◌∷◌, ◌++◌, [], ℕ, IfOk, IfSome, MatchResult, map};
 ghost use Rattle.vm_memory_base.specs.Lookup.{Translates, RefusesTranslation};
 ghost use Rattle.vm_memory_base.specs.Table.{says};
 ghost use Rattle.vm_memory_guest.specs.Host as names;
@@ -8,7 +8,9 @@ ghost use Rattle.vm_memory_device.specs.Iommu.{behind, of_translation};
 use std::alloc::{AllocError, Global};
 use std::marker::Model;
 use std::sync::Arc;
-use vm_memory_base::{Bitmap, GuestAddress, IommuError, Iotlb, MappedRange, Permissions};
+use vm_memory_base::{
+    Bitmap, GuestAddress, IommuError, Iotlb, MappedRange, MappedRangeList, Permissions,
+};
 use vm_memory_guest::laws::host::names_are_held_one_by_one;
 use vm_memory_guest::{
     GuestMemory, GuestMemoryBackend, GuestMemoryError, GuestMemoryResult, HostMemory, HostShape,
@@ -18,7 +20,8 @@ use vm_memory_guest::{
 /// An IOMMU: it translates I/O addresses. Its table lies in the host, which lends it.
 ///
 /// ```text
-/// for piece in iommu.translate(alloc, host.table(iommu.table()), addr, 8, Permissions::Read)? {
+/// let pieces = iommu.translate(alloc, host.table(iommu.table()), addr, 8, Permissions::Read)?;
+/// for piece in pieces.as_slice() {
 ///     count += piece.length;
 /// }
 /// ```
@@ -33,7 +36,7 @@ pub trait Iommu: Named + Drop {
     /// Translates `length` addresses from `iova` on for an access, to pieces in order: those of a look-up in the table.
     /// `CannotResolve`, with the whole range, if the table does not allow it: `MissingMapping` if an address is not
     /// mapped or the end is not an address, and `AccessNotAllowed` otherwise. `Memory` if the table allows the access,
-    /// of one address or more, but the allocation of the pieces fails. There are no other errors.
+    /// which has two pieces or more, but their allocation fails. There are no other errors.
     fn translate(
         &self,
         alloc: Global,
@@ -41,10 +44,25 @@ pub trait Iommu: Named + Drop {
         iova: GuestAddress,
         length: usize,
         access: Permissions,
-    ) -> Result<Vec<MappedRange>, IommuError>
+    ) -> Result<MappedRangeList, IommuError>
         ensures { MatchResult result
-            (λ found. Translates (says table.now) iova.0 length access found.items)
+            (λ found. Translates (says table.now) iova.0 length access found)
             (RefusesTranslation (says table.now) iova.0 length access) };
+
+    /// The piece of a translation that leads to one, if it is found at once. It allocates nothing, and `None` says nothing
+    /// of the translation.
+    #[inline]
+    fn translate_one(
+        &self,
+        table: &Iotlb,
+        iova: GuestAddress,
+        length: usize,
+        access: Permissions,
+    ) -> Option<MappedRange>
+        ensures { IfSome result (λ piece. Translates (says table.now) iova.0 length access (piece ∷ [])) }
+    {
+        table.resolve_one(iova, length, access)
+    }
 
     /// It names its table.
     ghost names_table: { (iommu : Self) → Self.names iommu ≡ names.Tlb (number iommu) ∷ [] };
@@ -100,7 +118,7 @@ impl Iommu for TableIommu {
         iova: GuestAddress,
         length: usize,
         access: Permissions,
-    ) -> Result<Vec<MappedRange>, IommuError> {
+    ) -> Result<MappedRangeList, IommuError> {
         table.resolve(iova, length, access)
     }
 
@@ -262,7 +280,7 @@ impl<M: GuestMemoryBackend, I: Iommu> GuestMemory for IommuMemory<M, I> {
     ghost names_memory = { λ m. names-parts (map M.R.region (M.regions m.backend)) m.space
         (M.names_regions m.backend) (I.names_table m.iommu) };
 
-    #[inline]
+    #[inline(always)]
     fn get_slices<B: Bitmap>(
         &self,
         host: &HostMemory<B>,
@@ -275,6 +293,10 @@ impl<M: GuestMemoryBackend, I: Iommu> GuestMemory for IommuMemory<M, I> {
             return GuestMemory::get_slices(&self.backend, host, addr, count, access);
         }
         let table = host.table(self.iommu.table());
+        if let Some(piece) = self.iommu.translate_one(table, addr, count, access) {
+            let pieces = MappedRangeList::one(self.alloc, piece);
+            return Ok(IommuMemorySliceIterator::of_pieces(&self.backend, pieces, addr, self.space));
+        }
         match self.iommu.translate(self.alloc, table, addr, count, access) {
             Ok(pieces) => Ok(IommuMemorySliceIterator::of_pieces(
                 &self.backend,

@@ -1,5 +1,8 @@
 pub mod AccessLaws
 pub mod HoldsLemmas
+pub mod BackLemmas
+mod Lodging
+pub mod BlockBytesLemmas
 pub mod HostLemmas
 pub mod DirtLaws
 pub mod EffectLaws
@@ -25,6 +28,7 @@ pub mod QueryLemmas
 pub mod TryLemmas
 pub mod WholeRanges
 pub mod AccessLemmas
+pub mod FirstWindow
 pub mod OrderLemmas
 pub mod DealtLaws
 pub mod FilledLaws

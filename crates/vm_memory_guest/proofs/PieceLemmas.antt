@@ -6,20 +6,31 @@ use Rattle.std.proofs.lemmas.List.{map-append}
 use Rattle.std.proofs.lemmas.List.Sums.{sum_by-cons}
 use Rattle.vm_memory_base.specs.Address.{step}
 use Rattle.vm_memory_base.specs.Runs.{AddressRun, TestsEquality, runs, with_address, with_value}
-use Rattle.vm_memory_base.specs.Table.{Mapping, Says, same_mapping, target, piece_of, pieces, grants, is_allowed}
+use Rattle.vm_memory_base.specs.Table.{Mapping, Range, Says, same_mapping, target, piece_of, pieces, grants, is_allowed}
 use Rattle.vm_memory_base.specs.Lookup.{mapped_ranges}
 use Rattle.vm_memory_base.specs.declared.bitmap.BitmapId.TheVariants.{Space}
 use Rattle.vm_memory_base.specs.declared.iotlb.Permissions.{Permissions}
+use Rattle.vm_memory_base.specs.declared.iotlb.Permissions.TheVariants.{No}
+use Rattle.vm_memory_base.proofs.LookupLemmas.{no_pieces}
 use Rattle.vm_memory_guest.specs.Access.{Access, AccessFault, Reached, Meets, Reaches, Stops, meets_at, meets, onto, or_fault, path, first_fault, same_mappings, is_cut, Stretch, lengthened, stretches, window_of, windows, refusal, access_of}
 use Rattle.vm_memory_guest.specs.Answer.{Reach}
-use Rattle.vm_memory_guest.specs.Memory.{Direct, Through, translated}
+use Rattle.vm_memory_guest.specs.Memory.{Route, Direct, Through, said_on, translated}
 use Rattle.vm_memory_guest.specs.Pieces.{unless_stopped, followed_by, walk_of_pieces, marking_from, marking}
 use Rattle.vm_memory_guest.specs.Region.{Region, Lies, Backed, Unbacked, Unmapped, cell, same_region}
-use Rattle.vm_memory_guest.specs.Walk.{reach_of, walk_of}
+use Rattle.vm_memory_guest.specs.Walk.{IsSplit, reach_of, walk_of}
 use Rattle.vm_memory_guest.specs.Window.{Window, span}
 use Rattle.vm_memory_guest.proofs.AccessLaws.{AllowedWhereGranted}
 use Rattle.vm_memory_guest.proofs.PathWalk.{stretch, onward, walked, walk_agree, lengthened-first, stretches-cut, IsCutFrom}
 use Rattle.vm_memory_guest.proofs.PathLaws.{length-path, path-all, path-ends, span-windows, meets-arrives}
+
+-- a translation that leads to two pieces is one of some addresses
+pub split-some : (route : Route) (a n : ℕ) → IsSplit route a n → 0 < n
+unfolding IsSplit
+split-some route a zero more =
+    let none = no_pieces (said_on route) a No 0 refl in
+    let few : 1 < 0 = subst (λ (ps : List Range). 1 < length ps) none.1 more in
+    absurd (omega (arith, few))
+split-some route a (suc n) more = omega arith
 
 shifted : (i d : ℕ) → i + suc d ≡ i + 1 + d
 shifted i d = omega arith

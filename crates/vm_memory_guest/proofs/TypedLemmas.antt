@@ -1,6 +1,6 @@
 -- Values that are moved into blocks and out of them.
 use Rattle.std.proofs.Common.{◌≡◌, ℕ, ◌+◌, ◌-◌, ◌<◌, ◌≤◌, List, [], ◌∷◌, ◌++◌, map, length, take, drop, replicate, Ok, refl, sym, ap, ◌∙◌, subst, arith, append_assoc, drop-drop, length-drop, length-take-le, Vec}
-use Rattle.std.specs.Vec.{with_item, with_items}
+use Rattle.std.specs.Vec.{with_item}
 use Rattle.std.specs.declared.alloc.Global.{Global}
 use Rattle.vm_memory_base.specs.declared.io.VolatileMemoryError.TheVariants.{PartialBuffer}
 use Rattle.vm_memory_base.specs.Table.{Table}
@@ -8,18 +8,20 @@ use Rattle.vm_memory_guest.specs.Answer.{window_reach}
 use Rattle.vm_memory_guest.specs.Transfer.{all_of, ended}
 use Rattle.vm_memory_guest.specs.Typed.{answered}
 use Rattle.vm_memory_guest.specs.Host.{Cell, Host, Shape, block_at, bytes_at, cells_from, written}
+use Rattle.vm_memory_guest.specs.BlockBytes.{bytes_of, with_bytes}
+use Rattle.vm_memory_guest.specs.declared.host.block_bytes.BlockBytes.{BlockBytes}
 use Rattle.vm_memory_guest.specs.Inside.{IsSound, blocks_of}
 use Rattle.vm_memory_guest.specs.Window.{Window, MarksWindow, Writes, cells, cells_of, span}
 use Rattle.vm_memory_guest.proofs.MarkLaws.{Writes-one}
 use Rattle.vm_memory_guest.proofs.WrittenLaws.{bytes_at-block, put-block, written-take, lengths-written, length-cells_from}
 
 -- a block of which a part is replaced by as many bytes
-block-put : (blocks : Vec (Vec ℕ Global) Global) (block offset len : ℕ) (all : Vec ℕ Global) (old bytes : List ℕ)
-    → block < length (blocks_of blocks) → all.items ≡ block_at (blocks_of blocks) block → old ≡ all.items
+block-put : (blocks : Vec BlockBytes Global) (block offset len : ℕ) (all : BlockBytes) (old bytes : List ℕ)
+    → block < length (blocks_of blocks) → (bytes_of all) ≡ block_at (blocks_of blocks) block → old ≡ (bytes_of all)
     → length bytes ≡ len
     → offset + len ≤ length (block_at (blocks_of blocks) block)
     → blocks_of (with_item blocks block
-    (with_items all (take offset old ++ (bytes ++ drop (offset + len - offset) (drop offset old)))))
+    (with_bytes all (take offset old ++ (bytes ++ drop (offset + len - offset) (drop offset old)))))
     ≡ written (cells_from block offset len) bytes (blocks_of blocks)
 block-put blocks block offset len all old bytes there is same long within =
     let whole = block_at (blocks_of blocks) block in
@@ -35,7 +37,7 @@ block-put blocks block offset len all old bytes there is same long within =
     ∙ ap (λ (n : ℕ). written (cells_from block offset n) bytes (blocks_of blocks)) long)
 
 -- a part of a block that is lent to change: its bytes, how many, and what the blocks are once it was changed
-module _ (blocks : Vec (Vec ℕ Global) Global) (block offset len : ℕ) (all : Vec ℕ Global) (old : List ℕ) where
+module _ (blocks : Vec BlockBytes Global) (block offset len : ℕ) (all : BlockBytes) (old : List ℕ) where
   abbrev there_lent : List ℕ
   there_lent = take (offset + len - offset) (drop offset old)
 
@@ -44,10 +46,10 @@ module _ (blocks : Vec (Vec ℕ Global) Global) (block offset len : ℕ) (all : 
     pub long : length there_lent ≡ len
     pub put : (bytes : List ℕ) → length bytes ≡ length there_lent
         → blocks_of (with_item blocks block
-        (with_items all (take offset old ++ (bytes ++ drop (offset + len - offset) (drop offset old)))))
+        (with_bytes all (take offset old ++ (bytes ++ drop (offset + len - offset) (drop offset old)))))
         ≡ written (cells_from block offset len) bytes (blocks_of blocks)
 
-  pub place : block < length (blocks_of blocks) → all.items ≡ block_at (blocks_of blocks) block → old ≡ all.items
+  pub place : block < length (blocks_of blocks) → (bytes_of all) ≡ block_at (blocks_of blocks) block → old ≡ (bytes_of all)
       → offset + len ≤ length (block_at (blocks_of blocks) block) → Place
   place there is same within =
       let whole : length old ≡ length (block_at (blocks_of blocks) block) = ap length (same ∙ is) in

@@ -1,13 +1,14 @@
 -- Bytes that are written to cells, and bytes that are read from them.
-use Rattle.std.proofs.Common.{◌≡◌, ℕ, zero, suc, ◌+◌, ◌<◌, ◌≤◌, ◌≢◌, List, [], ◌∷◌, ◌++◌, map, length, get_or, set, take, drop, refl, sym, ap, ap₂, ◌∙◌, inl, inr, add-zero, append_assoc, append-nil, arith, length-set, length-append, length-drop, length-take-le, set-set, get_or-set_same, get_or-set_other, take_at, drop_at, drop-drop, Vec}
+use Rattle.std.proofs.Common.{◌≡◌, ℕ, zero, suc, ◌+◌, ◌<◌, ◌≤◌, ◌≢◌, List, [], ◌∷◌, ◌++◌, map, length, get_or, set, take, drop, refl, sym, ap, ap₂, ◌∙◌, inl, inr, add-zero, append_assoc, append-nil, arith, length-set, length-append, length-drop, length-take-le, set-set, get_or-set_same, get_or-set_other, take_at, drop_at, drop-drop}
 use Rattle.std.proofs.lemmas.Bool.{cases_eq}
-use Rattle.std.proofs.lemmas.List.{map-append, map-set, length-map, set-get_or, take_more_set, drop-set-lt, drop_more, take-append-drop, with_items_is}
+use Rattle.std.proofs.lemmas.List.{map-append, map-set, length-map, set-get_or, take_more_set, drop-set-lt, drop_more, take-append-drop}
 use Rattle.std.proofs.lemmas.List.Concat.{flat_map-append}
 use Rattle.std.proofs.lemmas.List.Sums.{sum_by-cons, sum_by-append}
 use Rattle.std.proofs.lemmas.List.Elements.{All-head, All-tail, All-weaker}
 use Rattle.std.specs.List.{All, AllPairs, Contains}
-use Rattle.std.specs.Vec.{with_items}
-use Rattle.std.specs.declared.alloc.Global.{Global}
+use Rattle.vm_memory_guest.specs.BlockBytes.{bytes_of, with_bytes}
+use Rattle.vm_memory_guest.specs.declared.host.block_bytes.BlockBytes.{BlockBytes}
+use Rattle.vm_memory_guest.proofs.BlockBytesLemmas.{with_bytes_is}
 use Rattle.vm_memory_guest.specs.Host.{Cell, cells_from, block_at, byte_at, bytes_at, with_byte, written}
 use Rattle.vm_memory_guest.specs.Window.{span, cells_of, cells, Window}
 use Rattle.vm_memory_guest.specs.Answer.{filled_buffer}
@@ -63,26 +64,25 @@ written-block b o (x ∷ xs) blocks h k =
     written-block b (o + 1) xs next h' k' ∙ rw (same, pasted o x xs block l, set-set)
 
 -- a block of vectors of bytes that got bytes in place of as many of its own
-pub put-block : (blocks : List (Vec ℕ Global)) (b o : ℕ) (all : Vec ℕ Global) (bytes new : List ℕ)
-    → let bs = map (λ (v : Vec ℕ Global). v.items) blocks in
-    b < length bs → all.items ≡ block_at bs b → o + length bytes ≤ length (block_at bs b)
+pub put-block : (blocks : List BlockBytes) (b o : ℕ) (all : BlockBytes) (bytes new : List ℕ)
+    → let bs = map bytes_of blocks in
+    b < length bs → (bytes_of all) ≡ block_at bs b → o + length bytes ≤ length (block_at bs b)
     → new ≡ take o (block_at bs b) ++ bytes ++ drop (o + length bytes) (block_at bs b)
-    → map (λ (v : Vec ℕ Global). v.items) (set blocks b (with_items all new))
+    → map bytes_of (set blocks b (with_bytes all new))
     ≡ written (cells_from b o (length bytes)) bytes bs
 put-block blocks b o all bytes new there is within put =
-    let bs = map (λ (v : Vec ℕ Global). v.items) blocks in
+    let bs = map bytes_of blocks in
     let whole = block_at bs b in
-    let kept : length new ≡ all.len =
+    let kept : length new ≡ length (bytes_of all) =
     let long = ap length put in
     let parts = length-append (take o whole ++ bytes) (drop (o + length bytes) whole) in
     let front = length-append (take o whole) bytes in
     let before = length-take-le o whole (omega arith) in
     let rest = length-drop (o + length bytes) whole in
     let same = ap length is in
-    let room = all.ok.0 in
     omega arith in
-    map-set (λ (v : Vec ℕ Global). v.items) blocks b (with_items all new)
-    ∙ (ap (set bs b) (with_items_is all new kept ∙ put) ∙ sym (written-block b o bytes bs there within))
+    map-set bytes_of blocks b (with_bytes all new)
+    ∙ (ap (set bs b) (with_bytes_is all new kept ∙ put) ∙ sym (written-block b o bytes bs there within))
 
 -- a stretch of n cells has n cells
 pub length-cells_from : (b o n : ℕ) → length (cells_from b o n) ≡ n

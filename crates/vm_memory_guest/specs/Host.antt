@@ -1,5 +1,5 @@
 -- What a host holds: blocks of bytes, each with a bitmap, spaces and tables, each kind by number from 0.
-use Rattle.std.specs.Prelude.{ℕ, zero, suc, ◌+◌, ◌<◌, ◌≤◌, List, [], ◌∷◌, ◌++◌, length, map, None, replicate, slice_set, slice_index, slice_index_or}
+use Rattle.std.specs.Prelude.{ℕ, zero, suc, ◌+◌, ◌<◌, ◌≤◌, nat_lt, Bool, List, [], ◌∷◌, ◌++◌, length, map, None, replicate, slice_set, slice_index, slice_index_or}
 use Rattle.vm_memory_base.specs.Table.{Table}
 
 -- the bytes of each block, the bitmap of each block, the bitmap of each space, and each table
@@ -20,6 +20,20 @@ abbrev pub with_block : {B : Type 0} → Host B → ℕ → B → Host B
 with_block host size bitmap = record host {
   blocks = host.blocks ++ replicate size 0 ∷ [];
   bitmaps = host.bitmaps ++ bitmap ∷ [];
+}
+
+-- the host with one more block, of these bytes
+abbrev pub with_bytes_block : {B : Type 0} → Host B → List ℕ → B → Host B
+with_bytes_block host bytes bitmap = record host {
+  blocks = host.blocks ++ bytes ∷ [];
+  bitmaps = host.bitmaps ++ bitmap ∷ [];
+}
+
+-- the host without the bytes of a block, whose number stays, and with this bitmap in place of the block's
+abbrev pub without_block : {B : Type 0} → Host B → ℕ → B → Host B
+without_block host block bitmap = record host {
+  blocks = slice_set host.blocks block [];
+  bitmaps = slice_set host.bitmaps block bitmap;
 }
 
 -- the host with one more space
@@ -44,6 +58,10 @@ shape_of host = record {
   spaces = length host.spaces;
   tables = length host.tables;
 }
+
+-- whether a block has bytes: each that is there and was not given back has
+abbrev pub has_bytes : Shape → ℕ → Bool
+has_bytes shape block = nat_lt 0 (slice_index_or shape.blocks block 0)
 
 -- what a value can name in a host
 pub data Name : Type 0 where

@@ -1,5 +1,6 @@
 pub mod Access
 pub mod Answer
+pub mod BlockBytes
 pub mod Collection
 pub mod Copy
 pub mod Dirt

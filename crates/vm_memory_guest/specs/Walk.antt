@@ -1,11 +1,11 @@
 -- Walks: the windows of an access, one after the other, and then the error of what stops it.
-use Rattle.std.specs.Prelude.{◌≡◌, ◌<◌, ℕ, true, false, List, [], ◌∷◌, ◌++◌, map, Option, Some, None, Result, Ok, Err}
-use Rattle.vm_memory_base.specs.Table.{Table}
+use Rattle.std.specs.Prelude.{◌≡◌, ◌<◌, ℕ, true, false, List, [], ◌∷◌, ◌++◌, length, map, Option, Some, None, Result, Ok, Err}
+use Rattle.vm_memory_base.specs.Table.{Table, pieces}
 use Rattle.vm_memory_base.specs.declared.iotlb.Permissions.{Permissions}
 use Rattle.vm_memory_guest.specs.Access.{AccessFault, Access, windows, path, first_fault, meets, access_of, allowed, refusal}
 use Rattle.vm_memory_guest.specs.Answer.{Reach}
 use Rattle.vm_memory_guest.specs.Error.{error_of}
-use Rattle.vm_memory_guest.specs.Memory.{Memory, IsOn, Direct, route}
+use Rattle.vm_memory_guest.specs.Memory.{Memory, Route, IsOn, Direct, said_on, route}
 use Rattle.vm_memory_guest.specs.Region.{Region}
 use Rattle.vm_memory_guest.specs.Window.{Window}
 use Rattle.vm_memory_guest.specs.declared.region.error.GuestMemoryError.{GuestMemoryError}
@@ -54,10 +54,15 @@ abbrev pub RefusesAccess : Memory → List Table → ℕ → ℕ → Permissions
 RefusesAccess memory tables a n access e =
     (allowed (route memory tables) a n access ≡ false) × (e ≡ error_of (refusal (route memory tables) a n))
 
--- an access of n bytes takes the pieces of a translation: there are bytes, the memory has an IOMMU that is on, and it
--- allows the access
+-- a translation of n addresses from a on leads to two pieces or more
+unfoldable pub IsSplit : Route → ℕ → ℕ → Type 0
+IsSplit route a n = 1 < length (pieces (said_on route) a n)
+
+-- an access of n bytes takes a list of pieces: the memory has an IOMMU that is on, which leads to two pieces or more and
+-- allows the access. One that lies in one mapping takes none
 abbrev pub NeedsPieces : Memory → List Table → ℕ → ℕ → Permissions → Type 0
-NeedsPieces memory tables a n access = IsOn memory × (0 < n) × (allowed (route memory tables) a n access ≡ true)
+NeedsPieces memory tables a n access =
+    IsOn memory × IsSplit (route memory tables) a n × (allowed (route memory tables) a n access ≡ true)
 
 -- the allocation of these pieces failed
 abbrev pub WantsMemory : Memory → List Table → ℕ → ℕ → Permissions → GuestMemoryError → Type 0

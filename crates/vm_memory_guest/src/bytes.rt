@@ -62,8 +62,8 @@ pub trait Bytes<A>: Named {
 
     /// Writes the beginning of the buffer that fits, and returns how many bytes that is. If no byte fits, the error
     /// says why. For an empty buffer it returns 0, except that a region without host bytes refuses it. Behind an IOMMU
-    /// that is on, an access of a byte or more that it allows allocates. If that fails, the error is `Memory`, and
-    /// nothing changes.
+    /// that is on, an access that it allows by two pieces or more allocates for them. If that fails, the error is
+    /// `Memory`, and nothing changes.
     fn write<B: Bitmap>(
         &self,
         host: &mut HostMemory<B>,

@@ -24,7 +24,7 @@ use crate::host::{HostMemory, Named, SpaceId};
 use crate::region::error::{GuestMemoryError, GuestMemoryResult};
 use crate::volatile_memory::slice::VolatileSlice;
 use std::marker::Model;
-use vm_memory_base::{Bitmap, GuestAddress, MappedRange, Permissions};
+use vm_memory_base::{Bitmap, GuestAddress, MappedRangeList, Permissions};
 
 /// The windows of an access, translated or not, and then the error that stopped it. After its end or an error
 /// it stays ended.
@@ -49,14 +49,15 @@ impl<'a, M: GuestMemoryBackend> Model for IommuMemorySliceIterator<'a, M> {
 impl<'a, M: GuestMemoryBackend> IommuMemorySliceIterator<'a, M> {
     /// The windows of pieces of physical addresses, one piece after the other, up to the first fault. They mark
     /// the space, from the address `iova` on: after the greatest address comes 0.
+    #[inline(always)]
     pub fn of_pieces(
         backend: &'a M,
-        pieces: Vec<MappedRange>,
+        pieces: MappedRangeList,
         iova: GuestAddress,
         space: SpaceId,
     ) -> IommuMemorySliceIterator<'a, M>
         ensures { let regions = map M.R.region (M.regions backend.now) in
-            result ≡ marking space.0 iova.0 (walk_of_pieces regions pieces.items) }
+            result ≡ marking space.0 iova.0 (walk_of_pieces regions pieces) }
     {
         let mut behind = PiecesBehind::new(backend, pieces, iova, space);
         if let Some(walk) = behind.next_walk() {
@@ -115,7 +116,7 @@ pub trait GuestMemory: Named {
 
     /// The windows of `count` bytes from an address on, and then the error of the first that is not there. An
     /// access that the translation does not allow is refused at once with `IommuError`, even if its end passes
-    /// 2^64 - 1. `Memory` comes only if an IOMMU is on and allows the access, and never for no bytes.
+    /// 2^64 - 1. `Memory` comes only if an IOMMU is on and allows the access, which it leads to two pieces or more.
     fn get_slices<B: Bitmap>(
         &self,
         host: &HostMemory<B>,

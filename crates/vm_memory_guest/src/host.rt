@@ -1,16 +1,20 @@
 //! Host memory: every block, bitmap, space and table, which each access is lent.
-ghost use Rattle.std.specs.Prelude.{◌≡◌, ◌+◌, ◌*◌, ◌^◌, ◌<◌, ◌≤◌, ◌↔◌, ◌⊎◌, [], ◌∷◌, ◌++◌, ℕ, List, length, slice_get, nat_lt, All, IsTrue, Some, IfOk, OnOk, OnErr, IsErrOf};
+ghost use Rattle.std.specs.Prelude.{◌≡◌, ◌+◌, ◌*◌, ◌^◌, ◌<◌, ◌≤◌, ◌↔◌, ◌⊎◌, [], ◌∷◌, ◌++◌, ℕ, List, length, slice_get, slice_set, nat_lt, All, IsTrue, Some, IfOk, OnOk, OnErr, IfErr, IsErrOf};
 ghost use Rattle.vm_memory_guest.specs.Host as names;
-ghost use Rattle.vm_memory_guest.specs.Host.{Host, Shape, with_block, with_space, with_table, with_given_table, with_table_at, shape_of, Name, IsHeld, Holds, block_at};
+ghost use Rattle.vm_memory_guest.specs.Host.{Host, Shape, with_block, with_bytes_block, with_space, with_table, with_given_table, with_table_at, without_block, shape_of, Name, IsHeld, Holds, block_at};
+ghost use Rattle.vm_memory_guest.specs.BlockBytes.{bytes_of};
 ghost use Rattle.vm_memory_guest.specs.Inside.{blocks_of};
 
 pub mod address;
 mod block;
+pub mod block_bytes;
 mod transfer;
 mod windows;
 
+use block_bytes::BlockBytes;
 use std::alloc::{AllocError, Global};
 use std::marker::Model;
+use std::mem;
 use thiserror::Error;
 use vm_memory_base::{BitmapId, Iotlb, NewBitmap};
 
@@ -84,7 +88,14 @@ impl HostShape {
         Ok(())
     }
 
-    /// The length of a block in bytes, if there is one of this number.
+    fn empty_block(&mut self, block: BlockId)
+        requires { block.0 < length self.old.blocks }
+        ensures { self.new ≡ record self.old { blocks = slice_set self.old.blocks block.0 0 } }
+    {
+        self.blocks[block.0] = 0;
+    }
+
+    /// The length of a block in bytes, if there is one of this number: 0 if it was given back.
     pub fn block_len(&self, block: BlockId) -> Option<usize>
         ensures { result ≡ slice_get self.now.blocks block.0 }
     {
@@ -137,11 +148,11 @@ pub trait Named {
 }
 
 /// Host memory: all bytes, bitmaps, spaces and tables. Each kind is numbered from 0. A number always names the same
-/// thing, and no block changes its length.
+/// thing, and a block keeps its length until it is given back.
 #[derive(Drop)]
 pub struct HostMemory<B> {
     alloc: Global,
-    blocks: Vec<Vec<u8>>,
+    blocks: Vec<BlockBytes>,
     bitmaps: Vec<B>,
     spaces: Vec<B>,
     tables: Vec<Iotlb>,
@@ -182,11 +193,11 @@ impl<B> HostMemory<B> {
         }
     }
 
-    /// What the host holds. Each block has 1 to 2^63 - 1 bytes, and a bitmap.
+    /// What the host holds. Each block has a bitmap, and 1 to 2^63 - 1 bytes, or none if it was given back.
     pub fn shape(&self) -> &HostShape
         ensures value { result.now ≡ shape_of self.now }
         ensures tracked { length self.now.bitmaps ≡ length self.now.blocks }
-        ensures sized { All (λ len. (0 < len) × (len < 2 ^ 63)) (shape_of self.now).blocks }
+        ensures sized { All (λ len. len < 2 ^ 63) (shape_of self.now).blocks }
     {
         &self.shape
     }
@@ -206,11 +217,10 @@ impl<B> HostMemory<B> {
         named.held_by(self.shape())
     }
 
-    /// The length of a block that the host holds, in bytes: 1 to 2^63 - 1.
+    /// The length of a block that the host holds, in bytes: 1 to 2^63 - 1, or 0 if it was given back.
     pub fn block_len(&self, block: BlockId) -> usize
         requires { Holds (shape_of self.now) (names.Block block.0 ∷ []) }
         ensures value { result ≡ length (block_at self.now.blocks block.0) }
-        ensures some { 0 < result }
         ensures bound { result < 2 ^ 63 }
     {
         self.blocks[block.0].len()
@@ -236,7 +246,6 @@ impl<B> HostMemory<B> {
             .map_err(|_| MmapRegionError::Memory)
     }
 
-    // The pushes come last and find room, so that a refusal leaves everything.
     fn add_block(&mut self, size: usize, bitmap: B) -> Result<BlockId, AllocError>
     where
         B: Drop,
@@ -247,13 +256,66 @@ impl<B> HostMemory<B> {
         ensures err { OnErr result (self.new ≡ self.old) }
     {
         let bytes = vec![in self.alloc; 0u8; size]?;
+        self.add_bytes(BlockBytes::Owned(bytes), bitmap)
+            .map_err(|_| AllocError)
+    }
+
+    /// Makes a block that has these bytes, as they are, tracked by a bitmap, and returns its number. If an allocation
+    /// fails, nothing changes, and the bytes come back.
+    pub fn new_block_of(&mut self, bytes: BlockBytes, bitmap: B) -> Result<BlockId, BlockBytes>
+    where
+        B: Drop,
+        requires some { 0 < length (bytes_of bytes) }
+        requires bound { length (bytes_of bytes) < 2 ^ 63 }
+        ensures number { IfOk result (λ block. block.0 ≡ length self.old.blocks) }
+        ensures ok { OnOk result (self.new ≡ with_bytes_block self.old (bytes_of bytes) bitmap) }
+        ensures err { OnErr result (self.new ≡ self.old) }
+        ensures back { IfErr result (λ back. back ≡ bytes) }
+        ensures kept { (names : List Name) → Holds (shape_of self.old) names
+            → Holds (shape_of self.new) names }
+    {
+        self.add_bytes(bytes, bitmap)
+    }
+
+    // There is room before anything is pushed, so that a refusal leaves everything.
+    fn add_bytes(&mut self, bytes: BlockBytes, bitmap: B) -> Result<BlockId, BlockBytes>
+    where
+        B: Drop,
+        requires some { 0 < length (bytes_of bytes) }
+        requires bound { length (bytes_of bytes) < 2 ^ 63 }
+        ensures number { IfOk result (λ block. block.0 ≡ length self.old.blocks) }
+        ensures ok { OnOk result (self.new ≡ with_bytes_block self.old (bytes_of bytes) bitmap) }
+        ensures err { OnErr result (self.new ≡ self.old) }
+        ensures back { IfErr result (λ back. back ≡ bytes) }
+    {
+        let size = bytes.len();
         let block = BlockId(self.blocks.len());
-        self.blocks.reserve(1)?;
-        self.bitmaps.reserve(1)?;
-        self.shape.push_block(size)?;
-        self.blocks.push(bytes)?;
-        self.bitmaps.push(bitmap)?;
+        if self.blocks.reserve(1).is_err() || self.bitmaps.reserve(1).is_err() {
+            return Err(bytes);
+        }
+        if self.shape.push_block(size).is_err() {
+            return Err(bytes);
+        }
+        self.blocks.push_reserved(bytes);
+        self.bitmaps.push_reserved(bitmap);
         Ok(block)
+    }
+
+    /// Gives back the bytes and the bitmap of a block, which the host has to hold. Its number stays, with no bytes and
+    /// this bitmap: the host no longer holds what names bytes of it.
+    pub fn give_back(&mut self, block: BlockId, bitmap: B) -> (BlockBytes, B)
+    where
+        B: Drop,
+        requires { Holds (shape_of self.old) (names.Block block.0 ∷ []) }
+        ensures bytes { bytes_of result.0 ≡ block_at self.old.blocks block.0 }
+        ensures bitmap { slice_get self.old.bitmaps block.0 ≡ Some result.1 }
+        ensures left { self.new ≡ without_block self.old block.0 bitmap }
+    {
+        let none = BlockBytes::Owned(Vec::new(self.alloc));
+        self.shape.empty_block(block);
+        let bytes = exchange(&mut self.blocks, block.0, none);
+        let bitmap = exchange(&mut self.bitmaps, block.0, bitmap);
+        (bytes, bitmap)
     }
 
     /// Makes a space whose pages `bitmap` tracks, and returns its number. `AllocError` if an allocation
@@ -318,6 +380,15 @@ impl<B> HostMemory<B> {
         self.shape.tables += 1;
         Ok(number)
     }
+}
+
+// Puts another element in place of one, and returns that one.
+fn exchange<T: Drop>(list: &mut Vec<T>, place: usize, one: T) -> T
+    requires { place < length list.old.items }
+    ensures list { list.new.items ≡ slice_set list.old.items place one }
+    ensures value { slice_get list.old.items place ≡ Some result }
+{
+    mem::replace(&mut list[place], one)
 }
 
 impl<B> HostMemory<B> {

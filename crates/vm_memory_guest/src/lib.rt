@@ -24,6 +24,7 @@ pub use guest_memory::iter::RegionIter;
 pub use guest_memory::stop_on_error::{GuestMemorySliceIterator, StopOnError};
 pub use guest_memory::{GuestMemory, IommuMemorySliceIterator};
 pub use host::address::HostAddress;
+pub use host::block_bytes::{BlockBytes, HostPlace};
 pub use host::{BlockId, HostMemory, HostShape, MmapRegionError, Named, SpaceId, TlbId};
 pub use mmap::{FromRangesError, GuestMemoryMmap, GuestRegionMmap, MmapRegion};
 pub use region::GuestMemoryRegion;

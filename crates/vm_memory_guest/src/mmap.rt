@@ -1,9 +1,9 @@
 //! Regions over whole blocks of a host.
 ghost use Rattle.std.specs.Prelude.{◌≡◌, ◌+◌, ◌^◌, ◌<◌, ◌≤◌, ◌↔◌, ◌⊎◌, List, [], ◌∷◌, ◌++◌, length};
-ghost use Rattle.std.specs.Prelude.{Some, None, IsSome, IfSome, IfOk, IfErr, OnOk, OnErr, IsErrOf};
+ghost use Rattle.std.specs.Prelude.{Some, None, is_some, IsSome, IfSome, IfOk, IfErr, OnOk, OnErr, IsErrOf};
 ghost use Rattle.std.specs.Prelude.{ℕ, MatchResult, map, flat_map, take, slice_get};
 ghost use Rattle.vm_memory_guest.specs.Host as names;
-ghost use Rattle.vm_memory_guest.specs.Host.{Name, shape_of, with_block, Holds, block_at};
+ghost use Rattle.vm_memory_guest.specs.Host.{Name, shape_of, with_block, Holds, block_at, has_bytes};
 ghost use Rattle.vm_memory_guest.specs.Collection.{regions_of};
 ghost use Rattle.vm_memory_guest.specs.Mmap.{mmap_region, whole_window};
 ghost use Rattle.vm_memory_guest.specs.Ranges.{range_error, range_refusal, range_region, range_regions};
@@ -73,16 +73,16 @@ impl MmapRegion {
         Ok(MmapRegion { block, size })
     }
 
-    /// The whole block of this number, which the host has to hold.
-    pub fn of_block<B>(host: &HostMemory<B>, block: BlockId) -> MmapRegion
-        requires { Holds (shape_of host.now) (names.Block block.0 ∷ []) }
-        ensures block { result.block ≡ block.0 }
-        ensures size { result.size ≡ length (block_at host.now.blocks block.0) }
-        ensures held { Holds (shape_of host.now) (names.Place result.block 0 result.size ∷ []) }
+    /// The whole block of this number, if there is one that was not given back.
+    pub fn of_block<B>(host: &HostMemory<B>, block: BlockId) -> Option<MmapRegion>
+        ensures there { is_some result ≡ has_bytes (shape_of host.now) block.0 }
+        ensures block { IfSome result (λ r. r.block ≡ block.0) }
+        ensures size { IfSome result (λ r. r.size ≡ length (block_at host.now.blocks block.0)) }
+        ensures held { IfSome result (λ r. Holds (shape_of host.now) (names.Place r.block 0 r.size ∷ [])) }
     {
-        MmapRegion {
-            block,
-            size: host.block_len(block),
+        match host.shape().block_len(block) {
+            Some(size) if size > 0 => Some(MmapRegion { block, size }),
+            _ => None,
         }
     }
 

@@ -58,6 +58,7 @@ no-queue kind.ResetQueue h = absurd (false≢true h)
 no-queue kind.QueueState h = absurd (false≢true h)
 no-queue kind.Forget h = absurd (false≢true h)
 no-queue kind.PackedQueue h = absurd (false≢true h)
+no-queue kind.ListSegments h = absurd (false≢true h)
 no-queue k h = refl
 
 -- what such a call is answered is what its session answers

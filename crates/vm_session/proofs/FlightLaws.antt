@@ -21,7 +21,7 @@ use Rattle.vm_session.specs.Queues.{AnswersQueue, Completes, CompletesIf, Forget
 use Rattle.vm_session.proofs.RetryLemmas.{readies_queues, told_as, told_done}
 use Rattle.vm_session.specs.Messages.{regions_in}
 use Rattle.vm_session.specs.Retries.{WholeSession, message_at}
-use Rattle.vm_session.specs.Run.{EndsFlight, EndsIf, Event, Exchange, HappenAll, Happens, calls, chain_at, ends_flight, writes}
+use Rattle.vm_session.specs.Run.{EndsFlight, EndsIf, Event, Exchange, HappenAll, Happens, calls, chain_at, ends_flight, forgets, gives_back, lends, writes}
 use Rattle.vm_session.specs.Session.{AnswersIf, AnswersOf, AnswersOther}
 use Rattle.vm_session.specs.SessionState.{DeviceQueue, SessionState, buffer_of, chain_of, descriptors_in}
 use Rattle.vm_session.specs.declared.call.Answer.{Answer}
@@ -103,6 +103,7 @@ module _ (call : Call) (head : ℕ) (chain : List Segment) where
   one_keeps kind.ResetQueue q out a q' out' h ends = absurd (ends refl (ap (λ (x : Answer). x.code) h.0))
   one_keeps kind.QueueState q out a q' out' h ends = same_keeps q q' head chain h.1
   one_keeps kind.Forget q out a q' out' h ends = forgets_keeps q a q' h.0 ends
+  one_keeps kind.ListSegments q out a q' out' h ends = same_keeps q q' head chain h.1
   one_keeps k q out a q' out' h ends = absurd h
 
   popped_keeps : (q : DeviceQueue) (buffer : PackedBuffer) (more : List Segment) (o : Option Answer) (a : Answer)
@@ -323,6 +324,10 @@ module _ (number head : ℕ) (chain : List Segment) where
       )) h.2.2
       (same_stays old.parts h.2.0 (readies_queues old.retry (regions_in (drop 32 e.input))
       (message_at old.parts.machine e.call e.input) old.parts h.2.0 h.2.1) here)
+  event_stays shared (lends bytes page a) old new h not = same_stays old.parts new.parts h.1
+  event_stays shared (gives_back block a) old new h not = same_stays old.parts new.parts h.1
+  event_stays shared forgets old new h not =
+      same_stays old.parts new.parts (ap (λ (s : WholeSession). s.parts.queues) h)
   event_stays shared (writes blocks) old new h not =
       same_stays old.parts new.parts (ap (λ (s : SessionState). s.queues) h.0.1)
 

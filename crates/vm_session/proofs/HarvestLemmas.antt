@@ -2,7 +2,8 @@
 use Rattle.std.proofs.Common.{arith, ◌≡◌, ◌∙◌, ◌*◌, ◌<◌, ◌≤◌, ℕ, List, Option, Some, None, length, refl, sym, ap, subst, inl, inr}
 use Rattle.vm_memory_base.specs.Pages.{PageSet, cleaned, dirty_pages}
 use Rattle.vm_memory_base.specs.declared.bitmap.BitmapId.{BitmapId}
-use Rattle.vm_memory_guest.specs.Window.{bitmap_of, with_bitmap}
+use Rattle.vm_memory_guest.specs.Window.{with_bitmap}
+use Rattle.vm_memory.specs.Commands.{bitmap_in}
 use Rattle.vm_memory.specs.Effect.{apply, if_there, Leaves, Replies}
 use Rattle.vm_memory.specs.Machine.{Step, outcome}
 use Rattle.vm_memory.specs.State.{State}
@@ -18,7 +19,7 @@ use Rattle.vm_session.proofs.ListLemmas.{pages_length}
 
 -- a harvest replies what a question for the dirty pages does
 harvest_replies : (old : State) (id : BitmapId) → (outcome old (Harvest id)).0 ≡ (outcome old (Dirty id)).0
-harvest_replies old id = go (bitmap_of old.host id)
+harvest_replies old id = go (bitmap_in old.host id)
   where
     go : (o : Option PageSet)
         → (apply old (if_there o (λ set. Leaves (Pages (dirty_pages set)) (with_bitmap old.host id (cleaned set))))).0

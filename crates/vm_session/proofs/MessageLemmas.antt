@@ -14,7 +14,7 @@ use Rattle.vm_memory.specs.Lend.{Lends, LendsIf}
 use Rattle.vm_memory.specs.Parts.{Parts, state_of}
 use Rattle.vm_memory.specs.declared.machine.refusal.Refusal as machine_refusals
 use Rattle.vm_memory.specs.declared.machine.refusal.Refusal.TheVariants as machine_refusal
-use Rattle.vhost_iotlb.specs.Changes.{Applies, Changes, Makes, MakesOfMalformed, call_of}
+use Rattle.vhost_iotlb.specs.Changes.{Applies, Changes, Makes, MakesOfMalformed, call_of, evicted_for}
 use Rattle.vhost_message.specs.declared.iotlb.IotlbMessage.{IotlbMessage}
 use Rattle.vhost_message.specs.declared.iotlb.IotlbMessage.TheVariants as message
 use Rattle.vhost_iotlb.specs.declared.table.Refusal.{Refusal}
@@ -71,7 +71,8 @@ module _ {R I B : Type 0} (region : R → Region) (number : I → ℕ) (pages : 
   abbrev pub MessageDoes : MessageWork → Memory → Host B → MessageWork → Host B → Type 0
   MessageDoes w m host w' host' = (r : Result (Unit {0}) Refusal) × (calls : List TableEvent)
       × Applies w.device.table.0 w.device.memory w.message r calls host host'
-      × (w'.answer ≡ answer_of_applied r)
+      × (w'.answer
+      ≡ answer_of_applied (evicted_for (call_of w.device.memory w.message) (slice_get host.tables w.device.table.0)) r)
 
   module _ (old new : Parts R I B) (w w' : MessageWork) where
     abbrev Done : Option Memory → Answer → Type 0

@@ -10,10 +10,11 @@ use Rattle.vm_memory_base.specs.declared.iotlb.Permissions.TheVariants as permis
 use Rattle.vm_memory_guest.specs.Access.{AccessFault, NoRegion, NoHostBytes, Refused}
 use Rattle.vm_memory_guest.specs.Dirt.{bytes_read}
 use Rattle.vm_memory_guest.specs.Error.{error_of}
-use Rattle.vm_memory_guest.specs.Memory.{Memory}
+use Rattle.vm_memory_guest.specs.Memory.{Memory, route}
 use Rattle.vm_memory_guest.specs.Transfer.{ended}
 use Rattle.vm_memory_guest.specs.declared.region.error.GuestMemoryError.{GuestMemoryError}
 use Rattle.vm_memory_guest.specs.declared.region.error.GuestMemoryError.TheVariants as errors
+use Rattle.vm_memory_guest.proofs.PieceLemmas.{split-some}
 use Rattle.vm_memory_device.specs.Reach.{reached_by}
 use Rattle.vm_memory_guest.specs.Walk.{NeedsPieces}
 use Rattle.vm_memory.specs.Calls.{ReadsInto, buffer_after}
@@ -38,7 +39,7 @@ use Rattle.vm_session.specs.declared.call.Answer.{Answer}
 translated : (m : Option Memory) (tables : List Table) (a n : ℕ) (access : Permissions)
     → IsSomeAnd m (λ x. NeedsPieces x tables a n access) → IsSome m × (0 < n)
 translated None tables a n access h = absurd h
-translated (Some m) tables a n access h = (refl, h.1)
+translated (Some m) tables a n access h = (refl, split-some (route m tables) a n h.1)
 
 counted_as : (result : Result ℕ Refusal) (buf : List ℕ) → IfOk result (λ count. count ≤ length buf)
     → answer_of (replied reply.Count result) ≡ answer_of (replied (λ count. reply.Bytes (take count buf)) result)
@@ -215,7 +216,7 @@ asked now addr access (Some m) (Err r) (inl e) = absurd (never r (ap (λ (p : Re
     never refusal.BadRange x = cc
     never refusal.Memory x = cc
     never (refusal.Fault f) x = cc
-asked now addr access (Some m) (Err r) (inr h) = absurd (lt_irrefl 0 (h.1.1))
+asked now addr access (Some m) (Err r) (inr h) = absurd (lt_irrefl 0 (split-some (route m now.host.tables) addr.0 0 h.1.1))
 
 pub check_asks : (now : State) (memory : ℕ) (addr : GuestAddress) (access : Permissions) (result : Result Bool Refusal)
     → Step now (command.CheckRange memory addr 0 access) (replied reply.Truth result) now

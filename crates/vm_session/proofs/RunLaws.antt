@@ -10,8 +10,8 @@ use Rattle.vm_session.specs.Kinds.{is_command, is_message, is_queue, is_work, ki
 use Rattle.vm_session.specs.Messages.{regions_in}
 use Rattle.vm_session.specs.Requests.{command_at}
 use Rattle.vm_session.specs.Retries.{Readies, WholeSession, is_sent, message_at}
-use Rattle.vm_session.specs.Run.{AreDeeds, Deed, Does, Event, Exchange, HappenAll, Happens, IsDeed, IsRefused, MayReady, all_ran, calls, made, marked, messaged, nothing, queued, ran, worked, writes, wrote}
-use Rattle.vm_session.specs.Session.{AnswersIf, AnswersKind, AnswersMade, AnswersOf, AnswersOther, AnswersSent, DoesIf, IsSetUp}
+use Rattle.vm_session.specs.Run.{AreDeeds, Deed, Does, Event, Exchange, HappenAll, Happens, IsDeed, IsRefused, MayReady, all_ran, calls, forgets, forgot, gave_back, gives_back, lends, lent, made, marked, messaged, nothing, queued, ran, worked, writes, wrote}
+use Rattle.vm_session.specs.Session.{AnswersIf, AnswersKind, AnswersMade, AnswersOf, AnswersOther, AnswersSent, DoesIf, IsLent, IsSetUp}
 use Rattle.vm_session.specs.Session.{Does as DoesAs}
 use Rattle.vm_session.specs.SessionState.{DeviceQueue, SessionState}
 use Rattle.vm_session.specs.declared.call.Answer.{Answer}
@@ -154,6 +154,14 @@ moves shared old new (calls e) h =
             (sym (ap (λ (s : WholeSession). s.parts) h.4)) m.1,
       ),
     )
+moves shared old new (lends bytes page a) h = at h.0
+  where
+    at : IsLent old.parts.machine bytes page a new.parts.machine
+        → (d : Deed) × IsDeed shared old.parts (lends bytes page a) d new.parts
+    at (inl k) = (lent k.0, (k.1, h.1, k.2))
+    at (inr k) = (nothing, (k.0, k.1, unchanged old.parts new.parts k.2 h.1))
+moves shared old new (gives_back block a) h = (gave_back h.0.0, (h.0.1, h.1, h.0.2))
+moves shared old new forgets h = (forgot, (refl, ap (λ (s : WholeSession). s.parts) h))
 moves shared old new (writes blocks) h = (wrote blocks, (refl, h.0))
 
 pub calls-run : (shared : List ℕ) (es : List Event) (old new : WholeSession) → HappenAll shared old es new
@@ -173,4 +181,7 @@ ran-run shared es (c ∷ cs) [] old new same h = absurd (omega (arith, same))
 ran-run shared [] (c ∷ cs) (r ∷ rs) old new same h = absurd h
 ran-run shared (calls e ∷ es) (c ∷ cs) (r ∷ rs) old new same h =
     (h.0.machine, h.1.2.3, ran-run shared es cs rs h.0 new (omega (arith, same)) h.2)
+ran-run shared (lends bytes page a ∷ es) (c ∷ cs) (r ∷ rs) old new same h = absurd h.1
+ran-run shared (gives_back block a ∷ es) (c ∷ cs) (r ∷ rs) old new same h = absurd h.1
+ran-run shared (forgets ∷ es) (c ∷ cs) (r ∷ rs) old new same h = absurd (cc)
 ran-run shared (writes blocks ∷ es) (c ∷ cs) (r ∷ rs) old new same h = absurd (cc)

@@ -1,5 +1,5 @@
 -- The answers that stand for the replies of a script.
-use Rattle.std.specs.Prelude.{ℕ, Bool, true, false, List, [], ◌++◌, length, flat_map}
+use Rattle.std.specs.Prelude.{ℕ, Bool, true, false, List, [], ◌++◌, length, flat_map, Result, Ok, Err}
 use Rattle.std.specs.Int.{w64, to_le_bytes}
 use Rattle.std.specs.declared.io.ErrorKind.{ErrorKind}
 use Rattle.std.specs.declared.io.ErrorKind.TheVariants.{Interrupted, WriteZero, UnexpectedEof}
@@ -15,6 +15,8 @@ use Rattle.vm_memory.specs.declared.machine.command.Fault as faults
 use Rattle.vm_memory.specs.declared.machine.command.Fault.TheVariants as fault
 use Rattle.vm_memory.specs.declared.machine.command.Reply as replies
 use Rattle.vm_memory.specs.declared.machine.command.Reply.TheVariants as reply
+use Rattle.vm_memory.specs.declared.machine.setup.GiveBackError.{GiveBackError}
+use Rattle.vm_memory.specs.declared.machine.setup.GiveBackError.TheVariants as give
 use Rattle.vm_memory.specs.declared.machine.setup.SetupReply as setups
 use Rattle.vm_memory.specs.declared.machine.setup.SetupReply.TheVariants as setup
 use Rattle.vm_session.specs.Codes.{coded, no_memory}
@@ -125,3 +127,10 @@ answer_of_setup setup.InvalidSize = coded 5
 answer_of_setup setup.InvalidRegion = coded 6
 answer_of_setup setup.NoSuch = coded 1
 answer_of_setup setup.Memory = no_memory
+
+-- the answer to a call that gives a block back
+abbrev pub answer_of_given_back : Result (Unit {0}) GiveBackError → Answer
+answer_of_given_back (Ok done) = coded 0
+answer_of_given_back (Err give.NoSuch) = coded 1
+answer_of_given_back (Err give.InUse) = coded 7
+answer_of_given_back (Err give.Memory) = no_memory

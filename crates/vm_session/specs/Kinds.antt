@@ -21,7 +21,8 @@ kinds = kind.Block ∷ kind.Space ∷ kind.Table ∷ kind.LimitedTable ∷ kind.
     ∷ kind.Queue ∷ kind.SetQueue ∷ kind.ResetQueue ∷ kind.QueueState ∷ kind.Forget
     ∷ kind.QueueIsValid ∷ kind.AvailIdx ∷ kind.UsedIdx ∷ kind.Pop ∷ kind.ReadChain ∷ kind.WriteChain ∷ kind.AddUsed
     ∷ kind.NeedsNotification ∷ kind.EnableNotification ∷ kind.DisableNotification
-    ∷ kind.BeginRequest ∷ kind.FinishRequest ∷ kind.IotlbMessage ∷ kind.CompleteChain ∷ kind.PackedQueue ∷ []
+    ∷ kind.BeginRequest ∷ kind.FinishRequest ∷ kind.IotlbMessage ∷ kind.CompleteChain ∷ kind.PackedQueue
+    ∷ kind.ListSegments ∷ []
 
 -- an access by its number
 abbrev pub access_at : ℕ → Option Permissions
@@ -35,6 +36,10 @@ access_at n =
 -- whether a disk that may be accessed so is only read
 abbrev pub read_only_at : ℕ → Option Bool
 read_only_at n = if n == 1 then Some true else if n == 3 then Some false else None
+
+-- a limit by its number, which is 0 for none
+abbrev pub limit_at : ℕ → Option ℕ
+limit_at n = if n == 0 then None else Some n
 
 -- a switch by its number
 abbrev pub switch_at : ℕ → Option Bool
@@ -71,6 +76,7 @@ is_queue kind.ResetQueue = true
 is_queue kind.QueueState = true
 is_queue kind.Forget = true
 is_queue kind.PackedQueue = true
+is_queue kind.ListSegments = true
 is_queue k = false
 
 -- whether it is one on a queue that there is
@@ -79,6 +85,7 @@ is_on_queue kind.SetQueue = true
 is_on_queue kind.ResetQueue = true
 is_on_queue kind.QueueState = true
 is_on_queue kind.Forget = true
+is_on_queue kind.ListSegments = true
 is_on_queue k = false
 
 abbrev pub is_work : Kind → Bool

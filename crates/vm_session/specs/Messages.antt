@@ -9,7 +9,7 @@ use Rattle.vm_memory_guest.specs.Host.{Host}
 use Rattle.vm_memory_guest.specs.Memory.{Memory}
 use Rattle.vm_memory.specs.Memories.{table_of}
 use Rattle.vm_memory.specs.State.{State}
-use Rattle.vhost_iotlb.specs.Changes.{Applies}
+use Rattle.vhost_iotlb.specs.Changes.{Applies, call_of, evicted_for}
 use Rattle.vhost_message.specs.Iotlb.{fields_in, message_in}
 use Rattle.vhost_message.specs.Regions.{guest_of}
 use Rattle.vhost_message.specs.declared.refusal.Malformed.{Malformed}
@@ -19,6 +19,7 @@ use Rattle.vhost_message.specs.declared.iotlb.IotlbMessage.TheVariants as messag
 use Rattle.vhost_iotlb.specs.declared.table.Refusal.{Refusal}
 use Rattle.vhost_iotlb.specs.declared.table.Refusal.TheVariants as refusal
 use Rattle.vhost_message.specs.declared.regions.MemoryRegion.{MemoryRegion}
+use Rattle.vm_session.specs.Answers.{valued}
 use Rattle.vm_session.specs.Codes.{bad_call, coded, no_memory}
 use Rattle.vm_session.specs.QueueCodes.{no_such}
 use Rattle.vm_session.specs.Requests.{address}
@@ -69,9 +70,10 @@ answer_of_refusal refusal.UserAddress = coded 61
 answer_of_refusal refusal.Memory = no_memory
 answer_of_refusal refusal.NoTable = no_such
 
-abbrev pub answer_of_applied : Result (Unit {0}) Refusal → Answer
-answer_of_applied (Ok u) = coded 0
-answer_of_applied (Err e) = answer_of_refusal e
+-- a message that was applied, with the number of ranges that the table evicted for it, or was refused
+abbrev pub answer_of_applied : ℕ → Result (Unit {0}) Refusal → Answer
+answer_of_applied evicted (Ok u) = valued evicted
+answer_of_applied evicted (Err e) = answer_of_refusal e
 
 -- ---- what is done
 
@@ -92,7 +94,9 @@ is_announced regions (message.AccessFail iova access) = false
 abbrev pub IsApplied : ℕ → List MemoryRegion → IotlbMessage → State → Answer → State → Type 0
 IsApplied table regions m old a new =
     (r : Result (Unit {0}) Refusal) × (calls : List TableEvent) × (host : Host PageSet)
-    × Applies table regions m r calls old.host host × (a ≡ answer_of_applied r) × (new ≡ record old { host = host })
+    × Applies table regions m r calls old.host host
+    × (a ≡ answer_of_applied (evicted_for (call_of regions m) (slice_get old.host.tables table)) r)
+    × (new ≡ record old { host = host })
 
 -- the table takes a message: it is malformed, or it is applied. The allocation for the rows of an UPDATE may fail, and
 -- then nothing changes

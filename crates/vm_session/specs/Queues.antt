@@ -1,5 +1,5 @@
 -- What calls on queues are answered, and what they leave.
-use Rattle.std.specs.Prelude.{◌≡◌, ◌⊎◌, ◌<◌, ◌+◌, ◌%◌, ◌^◌, ◌==◌, ◌&&◌, nat_lt, nat_le, if◌then◌else◌, ℕ, Bool, List, [], ◌∷◌, ◌++◌, length, take, drop, flat_map, replicate, slice_get, slice_set, Option, Some, None, option_map, is_some, MatchBool, MatchOption, true, false, Result, Ok, Err, ◌≤◌}
+use Rattle.std.specs.Prelude.{◌≡◌, ◌⊎◌, ◌<◌, ◌+◌, ◌*◌, ◌%◌, ◌^◌, ◌==◌, ◌&&◌, nat_lt, nat_le, if◌then◌else◌, ℕ, Bool, List, [], ◌∷◌, ◌++◌, length, take, drop, flat_map, replicate, slice_get, slice_set, Option, Some, None, option_map, is_some, MatchBool, MatchOption, true, false, Result, Ok, Err, ◌≤◌}
 use Rattle.std.specs.Int.{w64, to_le_bytes}
 use Rattle.vm_memory_base.specs.Pages.{PageSet, marked}
 use Rattle.vm_memory_guest.specs.Host.{Host}
@@ -21,16 +21,17 @@ use Rattle.virtio_queue.specs.declared.error.QueueError.TheVariants as errors
 use Rattle.virtio_queue.specs.declared.packed.state.PackedBuffer.{PackedBuffer}
 use Rattle.virtio_queue.specs.declared.packed.state.PackedState.{PackedState}
 use Rattle.virtio_queue.specs.declared.state.QueueState.{QueueState}
-use Rattle.virtio_blk.specs.Steps.{Begins, Finishes}
+use Rattle.virtio_blk.specs.Steps.{Begins, Finishes, breaks_limits}
 use Rattle.virtio_blk.specs.declared.request.Request.{Request}
 use Rattle.virtio_blk.specs.declared.request.Terms.{Terms}
 use Rattle.vm_memory.specs.State.{State}
 use Rattle.vm_memory.specs.declared.machine.command.Fault.TheVariants as fault
 use Rattle.vm_session.specs.Answers.{answer_of_fault, number_of_truth, valued}
 use Rattle.vm_session.specs.Codes.{bad_call, coded, no_memory, short_of}
-use Rattle.vm_session.specs.Kinds.{part_at, read_only_at, switch_at}
+use Rattle.vm_session.specs.Kinds.{limit_at, part_at, read_only_at, switch_at}
 use Rattle.vm_session.specs.QueueCodes.{answer_of_begun, answer_of_bytes, answer_of_done, answer_of_length, answer_of_number, answer_of_queue, answer_of_truth, in_flight, no_chain, no_such, not_in_flight, popped_as, too_many}
 use Rattle.vm_session.specs.SessionState.{DeviceQueue, SessionState, buffer_of, chain_of, descriptors_in}
+use Rattle.vm_session.specs.Words.{row_bytes}
 use Rattle.vm_session.specs.declared.call.Answer.{Answer}
 use Rattle.vm_session.specs.declared.call.Call.{Call}
 use Rattle.vm_session.specs.declared.call.Kind.{Kind}
@@ -202,6 +203,24 @@ abbrev pub Forgets : DeviceQueue → ℕ → Answer → DeviceQueue → Type 0
 Forgets old head a new = MatchOption (chain_of old head) ((a ≡ not_in_flight) × (new ≡ old))
     (λ chain. (a ≡ coded 0) × (new ≡ forgotten old head))
 
+-- a list of segments: of each its address, and how many bytes it has
+abbrev pub bytes_of_segments : List Segment → List ℕ
+bytes_of_segments segments = flat_map (λ s. row_bytes s.addr.0 s.len) segments
+
+-- the segments of a chain are listed, if the output has room for them. It is told how many there are, and how many of them
+-- are read
+abbrev pub ListsChain : List Segment → List ℕ → Answer → List ℕ → Type 0
+ListsChain chain out a out' = let needed = length chain * 16 in
+    ((length out < needed) × (a ≡ short_of needed) × (out' ≡ out))
+    ⊎ ((needed ≤ length out)
+    × (a ≡ record { code = 0; count = length chain; value = length (readable chain); address = 0 })
+    × (out' ≡ bytes_of_segments chain ++ drop needed out))
+
+-- so are those of a chain in flight
+abbrev pub ListsSegments : DeviceQueue → ℕ → List ℕ → Answer → List ℕ → Type 0
+ListsSegments q head out a out' = MatchOption (chain_of q head) ((a ≡ not_in_flight) × (out' ≡ out))
+    (λ chain. ListsChain chain out a out')
+
 -- what a chain's return leaves: it is no more in flight
 abbrev pub after_returned : DeviceQueue → ℕ → Result (Unit {0}) QueueError → DeviceQueue
 after_returned q head (Ok u) = record q {
@@ -243,15 +262,21 @@ module _ {B : Type 0} (m : Memory) (host : Host B) where
 
 -- what a request is held against
 abbrev pub terms_of : Call → Option Terms
-terms_of call = option_map (λ read_only. record { sectors = call.target; read_only = read_only; acked = call.value })
-    (read_only_at call.access)
+terms_of call = option_map (λ read_only. record {
+  sectors = call.target;
+  read_only = read_only;
+  acked = call.value;
+  seg_max = limit_at call.length;
+  size_max = limit_at call.other_length;
+}) (read_only_at call.access)
 
 -- what a chain in flight asks a block device for
 abbrev pub BeginsRequest : {B : Type 0} → Memory → Host B → DeviceQueue → ℕ → Option Terms → Answer → Type 0
 BeginsRequest m host q head None a = a ≡ bad_call
 BeginsRequest m host q head (Some terms) a = MatchOption (chain_of q head) (a ≡ not_in_flight)
     (λ chain. (r : Result Request GuestMemoryError)
-    × Begins m host terms (text (readable chain)) (text (writable chain)) r × (a ≡ answer_of_begun r))
+    × Begins m host terms (breaks_limits terms chain) (text (readable chain)) (text (writable chain)) r
+    × (a ≡ answer_of_begun r))
 
 module _ {B : Type 0} (marks : B → ℕ → ℕ → B → Type 0) (m : Memory) where
   -- the request of a chain in flight is finished, with a status, if N bytes were written before
@@ -371,6 +396,7 @@ OneQueue kind.SetQueue call q out a q' out' = SetsAnyPart (part_at call.second) 
 OneQueue kind.ResetQueue call q out a q' out' = (a ≡ coded 0) × (q' ≡ cleared q) × (out' ≡ out)
 OneQueue kind.QueueState call q out a q' out' = ListsState q.queue out a out' × (q' ≡ q)
 OneQueue kind.Forget call q out a q' out' = Forgets q call.third a q' × (out' ≡ out)
+OneQueue kind.ListSegments call q out a q' out' = ListsSegments q call.third out a out' × (q' ≡ q)
 OneQueue k call q out a q' out' = ⊥
 
 -- a call on a queue, if there is one of this number

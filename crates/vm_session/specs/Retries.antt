@@ -5,6 +5,7 @@ use Rattle.std.specs.Prelude.{◌≡◌, ◌==◌, ◌&&◌, ◌-◌, ◌++◌, 
 use Rattle.std.specs.Option.{option_and_then}
 use Rattle.vm_memory.specs.Machine.{Step}
 use Rattle.vm_memory.specs.Memories.{table_of}
+use Rattle.vm_memory.specs.Setup.{without_regions}
 use Rattle.vm_memory.specs.State.{State}
 use Rattle.vm_memory.specs.declared.machine.command.Command.TheVariants as command
 use Rattle.vm_memory.specs.declared.machine.command.Reply.{Reply}
@@ -14,8 +15,8 @@ use Rattle.vhost_message.specs.declared.regions.MemoryRegion.{MemoryRegion}
 use Rattle.vm_session.specs.Kinds.{is_message, is_table, kinds}
 use Rattle.vm_session.specs.Messages.{is_announced, message_of, regions_in}
 use Rattle.vm_session.specs.Misses.{memory_of}
-use Rattle.vm_session.specs.Session.{Answers}
-use Rattle.vm_session.specs.SessionState.{SessionState, no_session}
+use Rattle.vm_session.specs.Session.{Answers, IsGivenBack, IsLent}
+use Rattle.vm_session.specs.SessionState.{SessionState, no_session, with_machine}
 use Rattle.vm_session.specs.declared.call.Answer.{Answer}
 use Rattle.vm_session.specs.declared.call.Call.{Call}
 use Rattle.vm_session.specs.declared.call.Kind.{Kind}
@@ -196,3 +197,18 @@ abbrev pub AnswersCall : WholeSession → Call → List ℕ → List ℕ → Ans
 AnswersCall old call input out a out' new = (told : Answer) × (served : WholeSession)
     × IsServed old call input out told out' served
     × ((a, new.retry) ≡ noted served call (length input) told) × (new ≡ record served { retry = new.retry })
+
+-- what a session answers if these bytes are lent as a block, with pages of a size
+abbrev pub AnswersLent : WholeSession → List ℕ → ℕ → Answer → WholeSession → Type 0
+AnswersLent old bytes page a new = IsLent old.parts.machine bytes page a new.parts.machine
+    × (new.parts.queues ≡ old.parts.queues) × (new ≡ record old { parts = new.parts })
+
+-- what a session answers if a block is given back
+abbrev pub AnswersGivenBack : WholeSession → ℕ → Answer → WholeSession → Type 0
+AnswersGivenBack old block a new = IsGivenBack old.parts.machine block a new.parts.machine
+    × (new.parts.queues ≡ old.parts.queues) × (new ≡ record old { parts = new.parts })
+
+-- a session without regions, layouts and memories, which waits for no mapping
+abbrev pub without_memories : WholeSession → WholeSession
+without_memories old =
+    record old { parts = with_machine old.parts (without_regions old.parts.machine); retry = None }

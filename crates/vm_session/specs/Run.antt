@@ -1,21 +1,22 @@
 -- What happens to a session, one after another: calls, and steps of a guest that has blocks in common with it.
-use Rattle.std.specs.Prelude.{◌≡◌, ◌==◌, ◌⊎◌, ◌<◌, ℕ, Bool, true, false, List, [], ◌∷◌, All, Contains, IsTrue, Option, Some, None, drop, length, map, slice_get}
+use Rattle.std.specs.Prelude.{◌≡◌, ◌==◌, ◌⊎◌, ◌<◌, ℕ, Bool, true, false, List, [], ◌∷◌, All, Contains, IsTrue, Option, Some, None, Result, drop, length, map, slice_get}
 use Rattle.std.specs.Option.{option_and_then}
 use Rattle.vm_memory.specs.Machine.{Step}
 use Rattle.vm_memory_device.specs.declared.chain.Segment.{Segment}
-use Rattle.vm_memory.specs.Setup.{SetsUp}
+use Rattle.vm_memory.specs.Setup.{GivesBack, MakesBlockAt, SetsUp, without_regions}
 use Rattle.vm_memory.specs.State.{State}
 use Rattle.vm_memory.specs.declared.machine.command.Command as commands
 use Rattle.vm_memory.specs.declared.machine.command.Reply.{Reply}
+use Rattle.vm_memory.specs.declared.machine.setup.GiveBackError.{GiveBackError}
 use Rattle.vm_memory.specs.declared.machine.setup.Setup as setups
 use Rattle.vm_memory.specs.declared.machine.setup.SetupReply.{SetupReply}
-use Rattle.vm_session.specs.Answers.{answer_of, answer_of_setup}
+use Rattle.vm_session.specs.Answers.{answer_of, answer_of_given_back, answer_of_setup}
 use Rattle.vm_session.specs.Codes.{bad_call, no_memory, short_of}
 use Rattle.vm_session.specs.Kinds.{is_command, is_message, is_queue, is_work, kinds, takes_list}
 use Rattle.vm_session.specs.Messages.{AnswersMessage, regions_in}
 use Rattle.vm_session.specs.Queues.{AnswersQueue, OnBoth}
 use Rattle.vm_session.specs.Requests.{IsSetup, command_at, is_without_size}
-use Rattle.vm_session.specs.Retries.{AnswersCall, Readies, WholeSession, message_at}
+use Rattle.vm_session.specs.Retries.{AnswersCall, AnswersGivenBack, AnswersLent, Readies, WholeSession, message_at, without_memories}
 use Rattle.vm_session.specs.Session.{HasRoom, Marks, output_after, room_for}
 use Rattle.vm_session.specs.SessionState.{SessionState, chain_of, with_machine}
 use Rattle.vm_session.specs.declared.call.Answer.{Answer}
@@ -32,9 +33,13 @@ pub record Exchange : Type 0 where
   pub answer : Answer
   pub after : List ℕ
 
--- a call, or a step of the guest, which leaves the blocks with these bytes
+-- a call, or bytes that are lent as a block with pages of a size, or a block that is given back, and the answer; or the
+-- regions, layouts and memories are forgotten; or a step of the guest, which leaves the blocks with these bytes
 pub data Event : Type 0 where
   calls : Exchange → Event
+  lends : List ℕ → ℕ → Answer → Event
+  gives_back : ℕ → Answer → Event
+  forgets : Event
   writes : List (List ℕ) → Event
 
 -- the blocks of a state, after the guest wrote
@@ -56,6 +61,9 @@ WritesTo shared old blocks new = GuestWrites shared old.machine.host.blocks bloc
 -- an event leads from a session to a session
 abbrev pub Happens : List ℕ → WholeSession → Event → WholeSession → Type 0
 Happens shared old (calls e) new = AnswersCall old e.call e.input e.before e.answer e.after new
+Happens shared old (lends bytes page a) new = AnswersLent old bytes page a new
+Happens shared old (gives_back block a) new = AnswersGivenBack old block a new
+Happens shared old forgets new = new ≡ without_memories old
 Happens shared old (writes blocks) new =
     WritesTo shared old.parts blocks new.parts × (new ≡ record old { parts = new.parts })
 
@@ -64,11 +72,15 @@ abbrev pub HappenAll : List ℕ → WholeSession → List Event → WholeSession
 HappenAll shared old [] new = new ≡ old
 HappenAll shared old (e ∷ es) new = (mid : WholeSession) × Happens shared old e mid × HappenAll shared mid es new
 
--- a step of the model: nothing, something is made, a command runs, pages are marked, a table takes a message, a queue is
--- made or changed, a device works with a queue and a memory, or the guest writes
+-- a step of the model: nothing, something is made, a block is lent or given back, what names blocks is forgotten, a
+-- command runs, pages are marked, a table takes a message, a queue is made or changed, a device works with a queue and a
+-- memory, or the guest writes
 pub data Deed : Type 0 where
   nothing : Deed
   made : setups.Setup → SetupReply → Deed
+  lent : SetupReply → Deed
+  gave_back : Result (Unit {0}) GiveBackError → Deed
+  forgot : Deed
   ran : commands.Command → Reply → Deed
   marked : Reply → Deed
   messaged : Deed
@@ -105,6 +117,9 @@ Does old e nothing new = IsRefused old e (slice_get kinds e.call.kind) × (e.aft
 Does old e (made s r) new = (kind : Kind) × (slice_get kinds e.call.kind ≡ Some kind) × IsSetup kind e.call s
     × SetsUp old.machine s r new.machine × (new.queues ≡ old.queues) × (e.answer ≡ answer_of_setup r)
     × (e.after ≡ e.before)
+Does old e (lent r) new = ⊥
+Does old e (gave_back r) new = ⊥
+Does old e forgot new = ⊥
 Does old e (ran c r) new = (kind : Kind) × (slice_get kinds e.call.kind ≡ Some kind)
     × (command_at kind e.call e.input ≡ Some c) × Step old.machine c r new.machine × (new.queues ≡ old.queues)
     × (e.answer ≡ answer_of r) × (e.after ≡ output_after old.machine c r e.before) × HasRoom old.machine c r e.before
@@ -125,10 +140,26 @@ Does old e (wrote blocks) new = ⊥
 abbrev pub IsToldAs : Answer → Answer → Type 0
 IsToldAs told a = (a ≡ told) ⊎ ((told.code ≡ 42) × (a ≡ record told { code = 53 }))
 
+-- bytes are lent as a block, or the size of its pages is 0
+abbrev pub IsLentAs : SessionState → List ℕ → ℕ → Answer → Deed → SessionState → Type 0
+IsLentAs old bytes page a (lent r) new = MakesBlockAt old.machine bytes page r new.machine
+    × (new.queues ≡ old.queues) × (a ≡ answer_of_setup r)
+IsLentAs old bytes page a nothing new = (a ≡ bad_call) × (page ≡ 0) × (new ≡ old)
+IsLentAs old bytes page a d new = ⊥
+
+-- a block is given back
+abbrev pub IsGivenBackAs : SessionState → ℕ → Answer → Deed → SessionState → Type 0
+IsGivenBackAs old block a (gave_back r) new = GivesBack old.machine block r new.machine
+    × (new.queues ≡ old.queues) × (a ≡ answer_of_given_back r)
+IsGivenBackAs old block a d new = ⊥
+
 -- an event is this step of the model
 abbrev pub IsDeed : List ℕ → SessionState → Event → Deed → SessionState → Type 0
 IsDeed shared old (calls e) d new =
     (told : Answer) × IsToldAs told e.answer × Does old (record e { answer = told }) d new
+IsDeed shared old (lends bytes page a) d new = IsLentAs old bytes page a d new
+IsDeed shared old (gives_back block a) d new = IsGivenBackAs old block a d new
+IsDeed shared old forgets d new = (d ≡ forgot) × (new ≡ with_machine old (without_regions old.machine))
 IsDeed shared old (writes blocks) d new = (d ≡ wrote blocks) × WritesTo shared old blocks new
 
 -- events are these steps, one after another
@@ -166,4 +197,7 @@ EndsIf (Some k) third head = IsTrue (ends_flight k third head)
 abbrev pub EndsFlight : ℕ → ℕ → Event → Type 0
 EndsFlight number head (calls e) = (e.answer.code ≡ 0) × (e.call.first ≡ number)
     × EndsIf (slice_get kinds e.call.kind) e.call.third head
+EndsFlight number head (lends bytes page a) = ⊥
+EndsFlight number head (gives_back block a) = ⊥
+EndsFlight number head forgets = ⊥
 EndsFlight number head (writes blocks) = ⊥

@@ -1,10 +1,10 @@
 -- What a session answers to calls, and what it leaves.
-use Rattle.std.specs.Prelude.{◌≡◌, ◌⊎◌, ◌<◌, ◌≤◌, ◌++◌, ℕ, Bool, true, false, IsTrue, List, length, take, drop, Option, Some, None, slice_get}
+use Rattle.std.specs.Prelude.{◌≡◌, ◌⊎◌, ◌<◌, ◌≤◌, ◌++◌, ℕ, Bool, true, false, IsTrue, List, length, take, drop, Option, Some, None, Result, slice_get}
 use Rattle.vm_memory.specs.Calls.{WritesOf, buffer_after}
 use Rattle.vm_memory.specs.Effect.{apply, leaves}
 use Rattle.vm_memory.specs.Machine.{Step, outcome}
 use Rattle.vm_memory.specs.Marks.{marks_range, marks_reached}
-use Rattle.vm_memory.specs.Setup.{SetsUp}
+use Rattle.vm_memory.specs.Setup.{GivesBack, MakesBlockAt, SetsUp}
 use Rattle.vm_memory.specs.State.{State}
 use Rattle.vm_memory.specs.declared.machine.command.BlockRange.{BlockRange}
 use Rattle.vm_memory.specs.declared.machine.command.Command as commands
@@ -12,9 +12,10 @@ use Rattle.vm_memory.specs.declared.machine.command.Command.TheVariants as comma
 use Rattle.vm_memory.specs.declared.machine.command.Reply as replies
 use Rattle.vm_memory.specs.declared.machine.command.Reply.TheVariants as reply
 use Rattle.vm_memory.specs.declared.machine.command.Width.{Width}
+use Rattle.vm_memory.specs.declared.machine.setup.GiveBackError.{GiveBackError}
 use Rattle.vm_memory.specs.declared.machine.setup.Setup as setups
 use Rattle.vm_memory.specs.declared.machine.setup.SetupReply.{SetupReply}
-use Rattle.vm_session.specs.Answers.{answer_of, answer_of_setup, bytes_of}
+use Rattle.vm_session.specs.Answers.{answer_of, answer_of_given_back, answer_of_setup, bytes_of}
 use Rattle.vm_session.specs.Codes.{bad_call, no_memory, short_of}
 use Rattle.vm_session.specs.Kinds.{is_message, is_queue, is_work, kinds, marks, sets_up, takes_list}
 use Rattle.vm_session.specs.Messages.{AnswersMessage}
@@ -107,6 +108,17 @@ abbrev pub IsSetUp : State → Kind → Call → Answer → State → Type 0
 IsSetUp old kind call a new =
     ((s : setups.Setup) × (r : SetupReply) × IsSetup kind call s × SetsUp old s r new × (a ≡ answer_of_setup r))
     ⊎ ((a ≡ bad_call) × IsTrue (is_without_size kind call) × (new ≡ old))
+
+-- what is answered if these bytes are lent as a block, with pages of a size
+abbrev pub IsLent : State → List ℕ → ℕ → Answer → State → Type 0
+IsLent old bytes page a new =
+    ((r : SetupReply) × MakesBlockAt old bytes page r new × (a ≡ answer_of_setup r))
+    ⊎ ((a ≡ bad_call) × (page ≡ 0) × (new ≡ old))
+
+-- what is answered if a block is given back
+abbrev pub IsGivenBack : State → ℕ → Answer → State → Type 0
+IsGivenBack old block a new =
+    (r : Result (Unit {0}) GiveBackError) × GivesBack old block r new × (a ≡ answer_of_given_back r)
 
 -- a call of a kind marks pages, with this reply
 abbrev pub Marks : Kind → State → Call → replies.Reply → State → Type 0

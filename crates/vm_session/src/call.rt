@@ -1,6 +1,6 @@
 //! Calls and answers as plain numbers, as they cross to C.
 ghost use Rattle.std.specs.Prelude.{◌≡◌, IfSome, IsTrue, Some, slice_get};
-ghost use Rattle.vm_session.specs.Kinds.{access_at, is_access, is_message, is_queue, is_table, is_work, kinds, marks, part_at, read_only_at, sets_up, switch_at, width_at};
+ghost use Rattle.vm_session.specs.Kinds.{access_at, is_access, is_message, is_queue, is_table, is_work, kinds, limit_at, marks, part_at, read_only_at, sets_up, switch_at, width_at};
 
 use vm_memory::Width;
 use vm_memory_base::Permissions;
@@ -168,7 +168,9 @@ pub enum Kind {
     /// Asks the driver not to notify the device.
     DisableNotification,
     /// What the chain in flight of the head `third` asks a block device for, whose disk has `target` sectors of 512 bytes
-    /// and is only read (`access` 1) or written, too (3), and whose driver accepted the features `value`.
+    /// and is only read (`access` 1) or written, too (3), and whose driver accepted the features `value`. `length` is the
+    /// most data segments, of which a chain has two fewer than segments, and `other_length` the most bytes of a segment, if
+    /// the driver keeps such limits, and 0 if it does not.
     ///
     /// The answer's `value` is 0 for a read, 1 for a write, 2 for a write that has to be stable before it is finished, 4
     /// for a flush, 8 for the device's name, 16 for a request that is refused, and 17 for one with no byte for its status.
@@ -187,6 +189,10 @@ pub enum Kind {
     CompleteChain,
     /// Makes a packed queue of at most `length` entries, as `Queue` makes a split one. The calls on a queue are for both.
     PackedQueue,
+    /// The segments of the chain in flight of the head `third` of the queue `first`, as a list of two numbers for each: its
+    /// address, and how many bytes it has. The answer's `count` is how many there are, and `value` how many of them are
+    /// read, which come first, as in every chain.
+    ListSegments,
 }
 
 /// A part of a queue that a transport sets as the driver asks.
@@ -250,6 +256,7 @@ impl Kind {
                 | Kind::QueueState
                 | Kind::Forget
                 | Kind::PackedQueue
+                | Kind::ListSegments
         )
     }
 
@@ -293,7 +300,7 @@ impl Kind {
     }
 }
 
-const KINDS: [Kind; 55] = [
+const KINDS: [Kind; 56] = [
     Kind::Block,
     Kind::Space,
     Kind::Table,
@@ -349,6 +356,7 @@ const KINDS: [Kind; 55] = [
     Kind::IotlbMessage,
     Kind::CompleteChain,
     Kind::PackedQueue,
+    Kind::ListSegments,
 ];
 
 // The kind of a number, if it is one.
@@ -444,6 +452,16 @@ pub(crate) fn read_only_of(number: u32) -> Option<bool>
         1 => Some(true),
         3 => Some(false),
         _ => None,
+    }
+}
+
+// A limit by its number, which is 0 for none.
+pub(crate) fn limit_of(number: usize) -> Option<usize>
+    ensures { result ≡ limit_at number }
+{
+    match number {
+        0 => None,
+        most => Some(most),
     }
 }
 

@@ -21,6 +21,9 @@ pub const INVALID_SIZE: u32 = 5;
 /// A region ends past the greatest address.
 pub const INVALID_REGION: u32 = 6;
 
+/// The machine has regions, layouts or memories, which may name the block.
+pub const IN_USE: u32 = 7;
+
 /// The call has no meaning: its kind, its width, its access or its switch is invalid, a page or a limit is 0, or the
 /// input is not a list of the call.
 pub const BAD_CALL: u32 = 16;

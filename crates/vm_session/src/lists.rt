@@ -1,9 +1,11 @@
-//! The calls whose replies are lists: dirty pages, and where addresses of a table lead.
+//! The calls whose replies are lists: dirty pages, where addresses of a table lead, and the segments of a chain.
 ghost use Rattle.std.specs.Prelude.{◌≡◌, ◌*◌, Some, length};
+ghost use Rattle.vm_memory_device.specs.Chain.{readable};
 ghost use Rattle.vm_memory.specs.ScriptMachine.{state_made};
 ghost use Rattle.vm_memory.specs.declared.machine.command.Command.TheVariants as command;
 ghost use Rattle.vm_memory.specs.declared.machine.command.Reply.TheVariants as reply;
 ghost use Rattle.vm_session.specs.Lists.{ListsIf};
+ghost use Rattle.vm_session.specs.Queues.{ListsChain};
 ghost use Rattle.vm_session.specs.Requests.{address};
 ghost use Rattle.vm_session.specs.Session.{Does};
 
@@ -14,6 +16,7 @@ use crate::words::{put_rows, put_words};
 use std::alloc::Global;
 use vm_memory::ScriptMachine;
 use vm_memory_base::{BitmapId, GuestAddress, IotlbFails, MappedRange, Permissions};
+use vm_memory_device::Segment;
 
 // The dirty pages of a bitmap.
 pub(crate) fn dirty(
@@ -124,6 +127,30 @@ fn list_fails(fails: &IotlbFails, output: &mut [u8]) -> Answer
         code: code::FAILS,
         count: misses.len(),
         value: access_fails.len() as u64,
+        address: 0,
+    }
+}
+
+// How many of these segments the device reads.
+fn readable_count(segments: &[Segment]) -> usize
+    ensures { result ≡ length (readable segments.now) }
+{
+    segments.iter().filter(|segment| !segment.writable).count()
+}
+
+// Lists the segments of a chain, if there is room for them.
+pub(crate) fn list_segments(segments: &[Segment], output: &mut [u8]) -> Answer
+    ensures { ListsChain segments.now output.old result output.new }
+{
+    let needed = segments.len() * 16;
+    if output.len() < needed {
+        return Answer::short(needed);
+    }
+    put_rows(segments, output);
+    Answer {
+        code: code::DONE,
+        count: segments.len(),
+        value: readable_count(segments) as u64,
         address: 0,
     }
 }

@@ -1,10 +1,10 @@
 //! Messages of a front end on the I/O table of a memory.
-ghost use Rattle.std.specs.Prelude.{◌≡◌, ◌⊎◌, ◌≤◌, true, false, length, take, drop, IfOk, IsSome, IsTrue, is_some, List, MatchOption, Result, slice_get};
+ghost use Rattle.std.specs.Prelude.{◌≡◌, ◌⊎◌, ◌≤◌, ℕ, true, false, length, take, drop, IfOk, IsSome, IsTrue, is_some, List, MatchOption, Result, slice_get};
 ghost use Rattle.std.specs.Int.{w64, from_le_bytes};
 ghost use Rattle.vm_memory_base.specs.Table.{TableEvent};
 ghost use Rattle.vm_memory.specs.Parts.{state_of};
 ghost use Rattle.vm_memory.specs.ScriptMachine.{state_made};
-ghost use Rattle.vhost_iotlb.specs.Changes.{Applies};
+ghost use Rattle.vhost_iotlb.specs.Changes.{Applies, call_of, done_of, evicted_for};
 ghost use Rattle.vhost_message.specs.Regions.{guest_of};
 ghost use Rattle.vhost_iotlb.specs.declared.table.Refusal as refusals;
 ghost use Rattle.vm_session.specs.Codes.{no_memory};
@@ -85,17 +85,17 @@ fn code_of_malformed(malformed: Malformed) -> u32
     }
 }
 
-// The answer to a message that was applied, or was not.
-fn applied(outcome: Result<(), Refusal>) -> Answer
-    ensures { result ≡ answer_of_applied outcome }
+// The answer to a message that was applied, with the number of ranges that the table evicted, or was not.
+fn applied(outcome: Result<usize, Refusal>) -> Answer
+    ensures { (evicted : ℕ) → IfOk outcome (λ n. n ≡ evicted) → result ≡ answer_of_applied evicted (done_of outcome) }
 {
-    Answer::of_code(match outcome {
-        Ok(()) => code::DONE,
-        Err(Refusal::Malformed(malformed)) => code_of_malformed(malformed),
-        Err(Refusal::UserAddress) => code::MESSAGE_USER_ADDRESS,
-        Err(Refusal::Memory) => code::MEMORY,
-        Err(Refusal::NoTable) => code::NO_SUCH,
-    })
+    match outcome {
+        Ok(count) => Answer::of_value(count as u64),
+        Err(Refusal::Malformed(malformed)) => Answer::of_code(code_of_malformed(malformed)),
+        Err(Refusal::UserAddress) => Answer::of_code(code::MESSAGE_USER_ADDRESS),
+        Err(Refusal::Memory) => Answer::of_code(code::MEMORY),
+        Err(Refusal::NoTable) => Answer::of_code(code::NO_SUCH),
+    }
 }
 
 // Whether some row has so many bytes of the front end's memory from an address on. It allocates nothing.
@@ -142,10 +142,11 @@ struct MessageWork {
 impl<B: Bitmap> Work<B> for MessageWork {
     ghost does = { λ w m host after host'. (r : Result (Unit {0}) refusals.Refusal) × (calls : List TableEvent)
         × Applies w.device.table.0 w.device.memory w.message r calls host host'
-        × (after.answer ≡ answer_of_applied r) };
+        × (after.answer
+        ≡ answer_of_applied (evicted_for (call_of w.device.memory w.message) (slice_get host.tables w.device.table.0)) r) };
 
     fn work<M: GuestMemory>(&mut self, _mem: &M, host: &mut HostMemory<B>) {
-        self.answer = applied(self.device.apply(host, &self.message));
+        self.answer = applied(self.device.apply_counted(host, &self.message));
     }
 }
 

@@ -2,12 +2,13 @@
 ghost use Rattle.std.specs.Prelude.{◌≡◌, ◌≤◌, true, List, ℕ, IsSome, IsTrue, length, slice_get};
 ghost use Rattle.std.specs.Option.{option_and_then};
 ghost use Rattle.vm_memory.specs.Memories.{table_of};
+ghost use Rattle.vm_memory.specs.Setup.{without_regions};
 ghost use Rattle.vm_session.specs.Kinds.{is_access, is_on_queue, is_queue, is_work, keeps_queue, kinds, sets_up};
 ghost use Rattle.vm_session.specs.Misses.{Misses, MissesFor, access_of, memory_of, notified};
 ghost use Rattle.vm_session.specs.Queues.{AnswersQueue, OnBoth, OneQueue};
 ghost use Rattle.vm_session.specs.Retries.{Clears, is_sent, message_at, table_at};
-ghost use Rattle.vm_session.specs.Session.{Answers, AnswersKind, Served};
-ghost use Rattle.vm_session.specs.SessionState.{no_session};
+ghost use Rattle.vm_session.specs.Session.{Answers, AnswersKind, IsGivenBack, IsLent, Served};
+ghost use Rattle.vm_session.specs.SessionState.{no_session, with_machine};
 
 use crate::answer::refuse;
 use crate::call::{Answer, Call, Kind, Miss, kind_of, part_of, width_of};
@@ -20,13 +21,14 @@ use crate::messages::{message_in, take_message};
 use crate::miss::look_up;
 use crate::queue::{SessionQueue, make_packed_queue, make_queue};
 use crate::requests::{add_used, complete_chain, needs_notification, pop, read_chain, write_chain};
-use crate::setup::set_up;
+use crate::setup::{give_back, lend_block, set_up};
 use crate::work::work_on;
 use std::alloc::Global;
 use std::marker::Model;
 use vhost_message::IotlbMessage;
 use vm_memory::ScriptMachine;
 use vm_memory_base::Permissions;
+use vm_memory_guest::HostPlace;
 
 /// A machine, with what is made for it at any time, and queues.
 #[derive(Drop)]
@@ -184,6 +186,31 @@ impl SessionParts {
                 }
             }
         }
+    }
+
+    // Makes a block of the bytes that lie at a place.
+    #[inline(never)]
+    pub(crate) fn block_at(&mut self, place: HostPlace, page_size: usize) -> Answer
+        ensures lent { IsLent self.old.machine place.bytes page_size result self.new.machine }
+        ensures queues { self.new.queues ≡ self.old.queues }
+    {
+        lend_block(&mut self.machine, place, page_size)
+    }
+
+    // Gives a block back.
+    #[inline(never)]
+    pub(crate) fn give_back(&mut self, block: usize) -> Answer
+        ensures given { IsGivenBack self.old.machine block result self.new.machine }
+        ensures queues { self.new.queues ≡ self.old.queues }
+    {
+        give_back(&mut self.machine, block)
+    }
+
+    // Forgets all regions, layouts and memories.
+    pub(crate) fn forget_regions(&mut self)
+        ensures { self.new ≡ with_machine self.old (without_regions self.old.machine) }
+    {
+        self.machine.forget_regions();
     }
 
     // Serves a call on queues alone.
@@ -402,7 +429,8 @@ impl SessionParts {
             | Kind::FinishRequest
             | Kind::IotlbMessage
             | Kind::CompleteChain
-            | Kind::PackedQueue => *answer = Answer::of_code(code::BAD_CALL),
+            | Kind::PackedQueue
+            | Kind::ListSegments => *answer = Answer::of_code(code::BAD_CALL),
         }
     }
 
@@ -463,6 +491,7 @@ fn on_queue(queue: &mut SessionQueue, kind: Kind, call: &Call, output: &mut [u8]
         }
         Kind::QueueState => queue.list_state(output),
         Kind::Forget => queue.forget(call.third),
+        Kind::ListSegments => queue.list_segments(call.third, output),
         _ => unreachable!(),
     }
 }

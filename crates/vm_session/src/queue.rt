@@ -1,13 +1,14 @@
 //! Queues of a session, and their chains in flight.
 ghost use Rattle.std.specs.Prelude.{◌≡◌, ◌==◌, ◌+◌, ◌^◌, ◌<◌, ◌≤◌, true, false, IfOk, replicate, length, Some, None, is_some, option_copied};
 ghost use Rattle.vm_memory_guest.specs.Host.{shape_of, Holds};
-ghost use Rattle.vm_session.specs.Queues.{AsksNotToNotify, AsksToNotify, BeginsRequest, FinishesRequest, Forgets, KeepsQueue, ListsState, MakesQueue, NeedsNotification, Pops, ReadsChain, Returns, SetsAnyPart, TellsAvail, TellsUsed, TellsValid, WritesChain, cleared, forgotten, is_past, refusal_of_chain, with_chain, with_none};
+ghost use Rattle.vm_session.specs.Queues.{AsksNotToNotify, AsksToNotify, BeginsRequest, FinishesRequest, Forgets, KeepsQueue, ListsSegments, ListsState, MakesQueue, NeedsNotification, Pops, ReadsChain, Returns, SetsAnyPart, TellsAvail, TellsUsed, TellsValid, WritesChain, cleared, forgotten, is_past, refusal_of_chain, with_chain, with_none};
 ghost use Rattle.vm_session.specs.Misses.{next_word};
 ghost use Rattle.vm_session.specs.SessionState.{buffer_of, chain_of, descriptors_in};
 
 use crate::answer::refuse;
 use crate::call::{Answer, Call, QueuePart};
 use crate::code;
+use crate::lists::list_segments;
 use crate::packed_answer::{any_part_set, put_any_state};
 use crate::queue_answer::{
     asked, begun, bytes_moved, length_told, number_told, popped, queue_done, queue_refused,
@@ -284,6 +285,16 @@ impl SessionQueue {
         }
         self.take(head);
         Answer::of_code(code::DONE)
+    }
+
+    // The segments of a chain in flight, as a list of numbers.
+    pub(crate) fn list_segments(&self, head: usize, output: &mut [u8]) -> Answer
+        ensures { ListsSegments self.now head output.old result output.new }
+    {
+        match self.chain(head) {
+            Some(chain) => list_segments(chain.segments(), output),
+            None => Answer::of_code(code::NOT_IN_FLIGHT),
+        }
     }
 
     // Reads the readable bytes of a chain in flight from an offset on.

@@ -4,7 +4,7 @@ ghost use Rattle.vm_session.specs.Kinds.{is_table, kinds};
 ghost use Rattle.vm_session.specs.declared.call.Kind.TheVariants as kind;
 ghost use Rattle.vm_session.specs.Messages.{regions_in};
 ghost use Rattle.vm_session.specs.Misses.{MissesIf};
-ghost use Rattle.vm_session.specs.Retries.{AnswersCall, IsServed, Readies, bound_of, new_session, noted};
+ghost use Rattle.vm_session.specs.Retries.{AnswersCall, AnswersGivenBack, AnswersLent, IsServed, Readies, bound_of, new_session, noted, without_memories};
 
 use crate::call::{Answer, Call, Kind, Miss, access_kind, kind_of, work_kind};
 use crate::code;
@@ -15,6 +15,7 @@ use crate::setup::{limit_made, no_room};
 use std::alloc::Global;
 use std::marker::Model;
 use vhost_message::IotlbMessage;
+use vm_memory_guest::HostPlace;
 
 /// A machine, with what is made for it at any time, and queues.
 ///
@@ -54,8 +55,9 @@ impl Session {
     /// changed.
     ///
     /// A call that is refused with `IOMMU_MISSING` is made again after the mapping came by a call of the kind
-    /// `IotlbMessage`. The session remembers it, so that it is done or refused with `IOTLB_TOO_SMALL` in the end:
-    /// docs/BINDINGS.md, "A device's I/O table".
+    /// `IotlbMessage`. The session remembers it, so that it is done or refused with `IOTLB_TOO_SMALL` in the end,
+    /// unless another call misses in between: behind a table with a limit, two calls that take turns may replace each
+    /// other's mappings for ever. docs/BINDINGS.md, "A device's I/O table", has the rule.
     pub fn call(&mut self, call: &Call, input: &[u8], output: &mut [u8]) -> Answer
         ensures { AnswersCall self.old call.now input.now output.old result output.new self.new }
     {
@@ -94,6 +96,33 @@ impl Session {
         if answer.may_be_untranslated() || self.retry.is_some() {
             self.note_telling(call, input.len(), answer, miss);
         }
+    }
+
+    /// Makes a block of the bytes that lie at a place, as they are, tracked in pages of `page_size` that are all clean, and
+    /// answers its number. If it is refused, `BAD_CALL` for a page of 0 or `MEMORY`, nothing changed, and the place is
+    /// forgotten.
+    pub fn block_at(&mut self, place: HostPlace, page_size: usize) -> Answer
+        ensures { AnswersLent self.old place.bytes page_size result self.new }
+    {
+        self.parts.block_at(place, page_size)
+    }
+
+    /// Gives a block back: the session forgets its bytes and its bitmap. Its number stays, and each later call that names it
+    /// is refused with `NO_SUCH`. A block whose bytes lie at a place of the caller's is the caller's again. It is refused
+    /// with `NO_SUCH`, with `IN_USE` unless `forget_regions` came after the last region, layout or memory, or with `MEMORY`,
+    /// and nothing changed then.
+    pub fn give_back(&mut self, block: usize) -> Answer
+        ensures { AnswersGivenBack self.old block result self.new }
+    {
+        self.parts.give_back(block)
+    }
+
+    /// Forgets all regions, layouts and memories, whose numbers begin at 0 again. Everything else stays.
+    pub fn forget_regions(&mut self)
+        ensures { self.new ≡ without_memories self.old }
+    {
+        self.parts.forget_regions();
+        self.retry = None;
     }
 
     // Has the parts answer a call.

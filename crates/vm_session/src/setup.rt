@@ -6,14 +6,14 @@ ghost use Rattle.vm_session.specs.Answers.{answer_of_setup};
 ghost use Rattle.vm_session.specs.Kinds.{is_table, sets_up};
 ghost use Rattle.vm_session.specs.Requests.{IsSetup, is_without_size};
 ghost use Rattle.vm_session.specs.Retries.{limit_made};
-ghost use Rattle.vm_session.specs.Session.{IsSetUp};
+ghost use Rattle.vm_session.specs.Session.{IsGivenBack, IsLent, IsSetUp};
 
 use crate::call::{Answer, Call, Kind};
 use crate::code;
 use std::num::NonZeroUsize;
-use vm_memory::{ScriptMachine, Setup, SetupReply};
+use vm_memory::{GiveBackError, ScriptMachine, Setup, SetupReply};
 use vm_memory_base::GuestAddress;
-use vm_memory_guest::{BlockId, TlbId};
+use vm_memory_guest::{BlockId, HostPlace, TlbId};
 
 // Makes what a setup call asks for, or changes nothing and says why.
 pub(crate) fn set_up(machine: &mut ScriptMachine, kind: Kind, call: &Call) -> Answer
@@ -23,6 +23,28 @@ pub(crate) fn set_up(machine: &mut ScriptMachine, kind: Kind, call: &Call) -> An
     match setup_of(kind, call) {
         Some(setup) => told(machine.make(setup)),
         None => Answer::of_code(code::BAD_CALL),
+    }
+}
+
+// Makes a block of the bytes that lie at a place, or changes nothing and says why.
+pub(crate) fn lend_block(machine: &mut ScriptMachine, place: HostPlace, page_size: usize) -> Answer
+    ensures { IsLent (state_made machine.old) place.bytes page_size result (state_made machine.new) }
+{
+    match NonZeroUsize::new(page_size) {
+        Some(page_size) => told(machine.make_block_at(place, page_size)),
+        None => Answer::of_code(code::BAD_CALL),
+    }
+}
+
+// Gives a block back, or changes nothing and says why.
+pub(crate) fn give_back(machine: &mut ScriptMachine, block: usize) -> Answer
+    ensures { IsGivenBack (state_made machine.old) block result (state_made machine.new) }
+{
+    match machine.give_back(BlockId(block)) {
+        Ok(()) => Answer::of_code(code::DONE),
+        Err(GiveBackError::NoSuch) => Answer::of_code(code::NO_SUCH),
+        Err(GiveBackError::InUse) => Answer::of_code(code::IN_USE),
+        Err(GiveBackError::Memory) => Answer::of_code(code::MEMORY),
     }
 }
 

@@ -5,6 +5,7 @@ ghost use Rattle.vm_session.specs.Words.{numbers_in, row_bytes};
 
 use std::alloc::{AllocError, Global};
 use vm_memory_base::{IovaRange, MappedRange};
+use vm_memory_device::Segment;
 
 // Puts a number at a place.
 fn put_word(output: &mut [u8], at: usize, word: u64)
@@ -65,6 +66,20 @@ impl Row for IovaRange {
 
     fn length(&self) -> u64 {
         self.length as u64
+    }
+}
+
+impl Row for Segment {
+    ghost base = { λ s. s.addr.0 };
+
+    ghost length = { λ s. s.len };
+
+    fn base(&self) -> u64 {
+        self.addr.0
+    }
+
+    fn length(&self) -> u64 {
+        u64::from(self.len)
     }
 }
 

@@ -6,7 +6,7 @@ ghost use Rattle.vm_memory.specs.Parts.{state_of};
 ghost use Rattle.vm_session.specs.Queues.{BeginsRequest, FinishesIf, Works, WorksOn, terms_of};
 
 use crate::answer::refuse;
-use crate::call::{Answer, Call, Kind, read_only_of};
+use crate::call::{Answer, Call, Kind, limit_of, read_only_of};
 use crate::code;
 use crate::queue::SessionQueue;
 use virtio_blk::Terms;
@@ -42,6 +42,8 @@ fn begin_if<M: GuestMemory, B: Bitmap>(
         sectors: call.target,
         read_only,
         acked: call.value,
+        seg_max: limit_of(call.length),
+        size_max: limit_of(call.other_length),
     };
     queue.begin(mem, host, call.third, terms)
 }

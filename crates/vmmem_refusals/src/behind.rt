@@ -23,6 +23,9 @@ const PLACE: GuestAddress = GuestAddress(0x5010);
 
 const MOVED: usize = 0x20;
 
+// Where a value lies, over the same bound: within one mapping no access allocates.
+const VALUE: GuestAddress = GuestAddress(0x501c);
+
 /// A host of one block, a memory of it behind an IOMMU, a chain, and what was made and moved.
 #[derive(Drop)]
 pub struct Behind {
@@ -54,10 +57,7 @@ fn map_halves<B>(host: &mut HostMemory<B>) -> Result<(), Fail> {
 
 // The block at address 0.
 fn layout_of<B>(alloc: Global, host: &HostMemory<B>) -> Result<GuestMemoryMmap, Fail> {
-    if host.shape().block_len(BlockId(0)).is_none() {
-        return Err(Fail::new("the host has no such block"));
-    }
-    let mapping = MmapRegion::of_block(host, BlockId(0));
+    let mapping = MmapRegion::of_block(host, BlockId(0)).ok_or("the host has no such block")?;
     let region = GuestRegionMmap::new(mapping, GuestAddress(0)).ok_or("the region does not fit")?;
     let regions = Vec::from_slice(alloc, &[region])?;
     Ok(GuestMemoryMmap::from_regions(alloc, regions)?)
@@ -128,7 +128,7 @@ fn read_value<M: GuestMemory, B: Bitmap>(
     if !host.holds(memory) {
         return Answer::Other;
     }
-    match memory.read_obj(host, PLACE) {
+    match memory.read_obj(host, VALUE) {
         Ok(read) => {
             *value = read;
             Answer::Done
@@ -141,7 +141,7 @@ fn write_value<M: GuestMemory, B: Bitmap>(memory: &M, host: &mut HostMemory<B>) 
     if !host.holds(memory) {
         return Answer::Other;
     }
-    let answer = memory.write_obj(host, 0x1122_3344_5566_7788u64, GuestAddress(0x501c));
+    let answer = memory.write_obj(host, 0x1122_3344_5566_7788u64, VALUE);
     count_answer(answer.map(|_| 0), 0)
 }
 
@@ -204,10 +204,10 @@ fn send_all<M: GuestMemory, B: Bitmap>(
 }
 
 fn send_window<B: Bitmap>(host: &HostMemory<B>, sends_all: bool, sink: &mut Vec<u8>) -> Answer {
-    if host.shape().block_len(BlockId(0)).is_none() {
+    let Some(block) = MmapRegion::of_block(host, BlockId(0)) else {
         return Answer::Other;
-    }
-    let window = MmapRegion::of_block(host, BlockId(0)).as_volatile_slice();
+    };
+    let window = block.as_volatile_slice();
     if !host.holds(&window) {
         return Answer::Other;
     }

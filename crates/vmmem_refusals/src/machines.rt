@@ -45,10 +45,7 @@ fn regions_at(
     ensures { IfOk result (λ regions.
         HoldsRegions ⟦<GuestRegionMmap as GuestMemoryRegion>⟧.region host.now (regions_of regions)) }
 {
-    if host.shape().block_len(block).is_none() {
-        return Err(Fail::new("the host has no such block"));
-    }
-    let mapping = MmapRegion::of_block(host, block);
+    let mapping = MmapRegion::of_block(host, block).ok_or("the host has no such block")?;
     let first = GuestRegionMmap::new(mapping, GuestAddress(0)).ok_or("the region does not fit")?;
     let second = GuestRegionMmap::new(mapping, GuestAddress(0x1000)).ok_or(
         "the region does not fit",
@@ -347,10 +344,8 @@ pub fn push_host<B: Bitmap + Debug>(text: &mut String, host: &HostMemory<B>) -> 
 }
 
 fn push_block<B: Bitmap>(text: &mut String, host: &HostMemory<B>) -> Result<(), Fail> {
-    if host.shape().block_len(BlockId(0)).is_none() {
-        return Err(Fail::new("the host has no such block"));
-    }
-    let window = MmapRegion::of_block(host, BlockId(0)).as_volatile_slice();
+    let block = MmapRegion::of_block(host, BlockId(0)).ok_or("the host has no such block")?;
+    let window = block.as_volatile_slice();
     if !host.holds(&window) {
         return Err(Fail::new("the host does not hold the block"));
     }

@@ -8,7 +8,8 @@ use std::sync::atomic::Ordering;
 use std::test::Fail;
 use test_text::expect_text;
 use vm_memory_base::{
-    AtomicBitmap, Bitmap, BitmapId, ExclusiveBitmap, GuestAddress, MappedRange, NewBitmap,
+    AtomicBitmap, Bitmap, BitmapId, ExclusiveBitmap, GuestAddress, MappedRange, MappedRangeList,
+    NewBitmap,
 };
 use vm_memory_guest::{
     BlockId, Bytes, GuestMemoryBackend, GuestMemoryMmap, GuestRegionMmap, HostMemory,
@@ -88,7 +89,7 @@ fn store_mapped<M: GuestMemoryBackend, B: Bitmap>(
     base: u64,
 ) -> Result<String, Fail> {
     let (at, base) = (GuestAddress(iova), GuestAddress(base));
-    let pieces = vec![in alloc; MappedRange { base, length: 4 }]?;
+    let pieces = MappedRangeList::from_vec(vec![in alloc; MappedRange { base, length: 4 }]?);
     let mut text = String::new(alloc);
     for window in IommuMemorySliceIterator::of_pieces(memory, pieces, at, SpaceId(0)) {
         let window = window?;
@@ -113,7 +114,7 @@ fn written<M: GuestMemoryBackend, B: Bitmap>(
         At(addr, count) => write_bytes(alloc, host, memory, GuestAddress(addr), count),
         Mapped(iova, base, length, offset) => {
             let (at, base) = (GuestAddress(iova), GuestAddress(base));
-            let pieces = vec![in alloc; MappedRange { base, length }]?;
+            let pieces = MappedRangeList::from_vec(vec![in alloc; MappedRange { base, length }]?);
             let mut text = String::new(alloc);
             for window in IommuMemorySliceIterator::of_pieces(memory, pieces, at, SpaceId(0)) {
                 let window = window?;
@@ -277,10 +278,7 @@ fn expect_rows<B: Bitmap + Drop>(
     let mut host: HostMemory<B> = HostMemory::new(alloc);
     host.new_block_with(0x3000, block)?;
     host.new_space(space)?;
-    if host.shape().block_len(BlockId(0)).is_none() {
-        return Err(Fail::new("the host has no such block"));
-    }
-    let mapping = MmapRegion::of_block(&host, BlockId(0));
+    let mapping = MmapRegion::of_block(&host, BlockId(0)).ok_or("the host has no such block")?;
     let region = GuestRegionMmap::new(mapping, GuestAddress(0)).ok_or("the region does not fit")?;
     let regions = vec![in alloc; Arc::new(alloc, region)?]?;
     let memory = GuestMemoryMmap::from_arc_regions(regions)?;

@@ -1,12 +1,13 @@
 //! Chains: what a ring gives from a slot on.
-ghost use Rattle.std.specs.Prelude.{◌≡◌, ◌⊎◌, ◌-◌, ◌*◌, ◌<◌, ◌≤◌, ◌^◌, Ok, IfOk, IsTrue, MatchResult};
+ghost use Rattle.std.specs.Prelude.{◌≡◌, ◌⊎◌, ◌-◌, ◌*◌, ◌<◌, ◌≤◌, ◌^◌, Ok, [], None, Some, Result, IfOk, IsTrue};
 ghost use Rattle.vm_memory_base.specs.declared.iotlb.Permissions.TheVariants.{Read};
 ghost use Rattle.vm_memory_guest.specs.Host.{shape_of, Holds};
-ghost use Rattle.virtio_queue.specs.ChainInside.{Adds};
-ghost use Rattle.virtio_queue.specs.Fields.{Answers, MayWant, Refuses};
-ghost use Rattle.virtio_queue.specs.PackedInside.{Lists};
+ghost use Rattle.virtio_queue.specs.Fields.{Answers, MayWant};
+ghost use Rattle.virtio_queue.specs.Looks.{Follows};
 ghost use Rattle.virtio_queue.specs.Packed.{are_positions, slots_out};
-ghost use Rattle.virtio_queue.specs.PackedRing.{MayWantLast, MayWantListed, MayWantRows, MayWantSegments, MayWantTable, last_segments, listed, next_chain, packed_at, room, rows, table_segments};
+ghost use Rattle.virtio_queue.specs.PackedPopping.{chain_known, last_behind, listing, rows_behind, with_known};
+ghost use Rattle.virtio_queue.specs.PackedRing.{packed_at};
+ghost use Rattle.virtio_queue.specs.Rings.{and_then};
 
 use super::descriptor::PackedDescriptor;
 use super::position::{slot_after, slots_out};
@@ -14,6 +15,7 @@ use super::state::{PackedBuffer, PackedState};
 use crate::chain::indirect_len;
 use crate::error::QueueError;
 use crate::fields::descriptor_at;
+use crate::looks::Looks;
 use std::alloc::Global;
 use vm_memory_base::Bitmap;
 use vm_memory_device::{Chain, Segment};
@@ -34,26 +36,46 @@ pub(super) fn packed_at<M: GuestMemory, B: Bitmap>(
     Ok(PackedDescriptor::of_split(descriptor_at(mem, host, ring, slot)?))
 }
 
+// A descriptor, with the flags that were found before it.
+#[inline(always)]
+fn with_flags(flags: u16, descriptor: PackedDescriptor) -> PackedDescriptor
+    ensures { result ≡ with_known (Some flags) descriptor }
+{
+    PackedDescriptor {
+        flags,
+        ..descriptor
+    }
+}
+
 // Adds the segments of the descriptors from a slot on that another follows, at most so many. It answers the last one of
-// the chain, and how many they are.
-fn list<M: GuestMemory, B: Bitmap>(
-    mem: &M,
-    host: &HostMemory<B>,
+// the chain, and how many they are. The flags of the first one are known.
+fn list<L: Looks>(
+    looks: &mut L,
     state: &PackedState,
     room: u16,
+    flags: u16,
     segments: &mut Vec<Segment>,
 ) -> Result<(PackedDescriptor, u16), QueueError>
-    requires held { Holds (shape_of host.now) (M.names mem.now) }
     requires slot { state.now.next_avail.slot < state.now.size }
-    ensures lists { let m = M.memory mem.now in let ring = state.now.desc_ring in
-        let first = state.now.next_avail.slot in
-        Lists ((0 < room) × MayWantListed m host.now ring first)
-        (listed (packed_at m host.now ring) state.now.size room first) segments.old.items result segments.new.items }
+    ensures lists { let q = state.now in Follows L.looks
+        (listing q.desc_ring q.size room segments.old.items 0 q.next_avail.slot (Some flags)) looks.old
+        (and_then result (λ p. Ok (record { segments = segments.new.items; last = p.0; slots = p.1 }))) looks.new }
     ensures within { IfOk result (λ p. (0 < p.1) × (p.1 ≤ room)) }
 {
-    let mut slot = state.next_avail.slot;
-    for count in 0..room {
-        let descriptor = packed_at(mem, host, state.desc_ring, slot)?;
+    if room == 0 {
+        return Err(QueueError::DescriptorLoop);
+    }
+    let begin = looks.row(state.desc_ring, state.next_avail.slot)?;
+    let first = with_flags(flags, PackedDescriptor::of_split(begin));
+    if first.is_last() {
+        return Ok((first, 1));
+    }
+    if segments.push(first.segment()).is_err() {
+        return Err(QueueError::Memory);
+    }
+    let mut slot = slot_after(state.size, state.next_avail.slot);
+    for count in 1..room {
+        let descriptor = PackedDescriptor::of_split(looks.row(state.desc_ring, slot)?);
         if descriptor.is_last() {
             return Ok((descriptor, count + 1));
         }
@@ -66,19 +88,17 @@ fn list<M: GuestMemory, B: Bitmap>(
 }
 
 // Adds the segments of so many descriptors of an indirect table.
-fn add_rows<M: GuestMemory, B: Bitmap>(
-    mem: &M,
-    host: &HostMemory<B>,
+fn add_rows<L: Looks>(
+    looks: &mut L,
     table: u64,
     len: u16,
     segments: &mut Vec<Segment>,
 ) -> Result<(), QueueError>
-    requires { Holds (shape_of host.now) (M.names mem.now) }
-    ensures { let m = M.memory mem.now in Adds (MayWantRows m host.now table)
-        (rows (packed_at m host.now table) len 0) segments.old.items result segments.new.items }
+    ensures { Follows L.looks (rows_behind table len segments.old.items 0) looks.old
+        (and_then result (λ _. Ok segments.new.items)) looks.new }
 {
     for index in 0..len {
-        let descriptor = packed_at(mem, host, table, index)?;
+        let descriptor = PackedDescriptor::of_split(looks.row(table, index)?);
         if segments.push(descriptor.segment()).is_err() {
             return Err(QueueError::Memory);
         }
@@ -87,19 +107,17 @@ fn add_rows<M: GuestMemory, B: Bitmap>(
 }
 
 // Adds the segments of the last descriptor of a chain: its own, or those of its table.
-fn add_last<M: GuestMemory, B: Bitmap>(
-    mem: &M,
-    host: &HostMemory<B>,
+fn add_last<L: Looks>(
+    looks: &mut L,
     last: &PackedDescriptor,
     segments: &mut Vec<Segment>,
 ) -> Result<(), QueueError>
-    requires { Holds (shape_of host.now) (M.names mem.now) }
-    ensures { let m = M.memory mem.now in Adds (MayWantLast m host.now last.now)
-        (last_segments m host.now last.now) segments.old.items result segments.new.items }
+    ensures { Follows L.looks (last_behind segments.old.items last.now) looks.old
+        (and_then result (λ _. Ok segments.new.items)) looks.new }
 {
     if last.is_indirect() {
         let len = indirect_len(&last.plain())?;
-        return add_rows(mem, host, last.addr, len, segments);
+        return add_rows(looks, last.addr, len, segments);
     }
     if segments.push(last.segment()).is_err() {
         return Err(QueueError::Memory);
@@ -107,25 +125,23 @@ fn add_last<M: GuestMemory, B: Bitmap>(
     Ok(())
 }
 
-// The chain that begins where the device pops next, and what it is returned by.
-pub(super) fn next_chain<M: GuestMemory, B: Bitmap>(
+// The chain that begins where the device pops next, whose flags are known, and what it is returned by.
+pub(super) fn next_chain<L: Looks>(
     alloc: Global,
-    mem: &M,
-    host: &HostMemory<B>,
+    looks: &mut L,
     state: &PackedState,
+    flags: u16,
 ) -> Result<(PackedBuffer, Chain), QueueError>
-    requires held { Holds (shape_of host.now) (M.names mem.now) }
     requires fits { state.now.size ≤ 2 ^ 15 }
     requires positions { let q = state.now in IsTrue (are_positions q.size q.next_avail q.next_used) }
-    ensures chain { let m = M.memory mem.now in
-        Answers (MayWantSegments m host.now state.now) (next_chain m host.now state.now) result }
+    ensures chain { Follows L.looks (chain_known state.now flags) looks.old result looks.new }
     ensures slots { let q = state.now in IfOk result (λ p. (0 < p.0.slots)
         × (p.0.slots ≤ q.size - slots_out q.size q.next_avail q.next_used)) }
 {
     let mut segments = Vec::new(alloc);
     let room = state.size - slots_out(state.size, state.next_avail, state.next_used);
-    let (last, slots) = list(mem, host, state, room, &mut segments)?;
-    add_last(mem, host, &last, &mut segments)?;
+    let (last, slots) = list(looks, state, room, flags, &mut segments)?;
+    add_last(looks, &last, &mut segments)?;
     match Chain::new(segments) {
         Ok(chain) => Ok((PackedBuffer { id: last.id, slots }, chain)),
         Err(fault) => Err(QueueError::InvalidChain(fault)),

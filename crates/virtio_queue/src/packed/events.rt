@@ -2,15 +2,18 @@
 ghost use Rattle.std.specs.Prelude.{◌≡◌, ◌*◌, ◌<◌, ◌≤◌, ◌^◌, false, true, Ok, IfOk, OnOk};
 ghost use Rattle.vm_memory_guest.specs.Host.{shape_of, Holds};
 ghost use Rattle.vm_memory_guest.specs.Window.{window_names};
+ghost use Rattle.virtio_queue.specs.Asking.{packed_needing, packed_wanting};
 ghost use Rattle.virtio_queue.specs.Fields.{Answers, is_word, stored_at};
-ghost use Rattle.virtio_queue.specs.PackedEvents.{Disables, EnablesIfReady, MayWantEvent, MayWantKick, MayWantNeeds, Offers, Waits, after_asked, count_of, is_passed, kick_flags, kick_places, needs_notification, wants_by_offset, wants_notification};
+ghost use Rattle.virtio_queue.specs.Looks.{Follows};
+ghost use Rattle.virtio_queue.specs.PackedEvents.{Disables, EnablesIfReady, MayWantKick, MayWantNeeds, Offers, Waits, after_asked, count_of, is_passed, kick_flags, kick_places, needs_notification};
 
 use super::PackedQueue;
 use super::descriptor::is_available;
 use super::position::RingPosition;
 use super::state::PackedState;
 use crate::error::QueueError;
-use crate::fields::{load_in, load_word, store_in, store_word, window_at};
+use crate::fields::{load_in, store_in, store_word, window_at};
+use crate::looks::{Lent, Looks};
 use crate::queue::BarrierWord;
 use vm_memory_base::{Bitmap, Permissions};
 use vm_memory_guest::laws::effects::{other_bytes_stay, writes_keep_shapes, written_is_read_back};
@@ -59,26 +62,23 @@ fn is_passed(size: u16, count: u32, next: RingPosition, event: RingPosition) -> 
 }
 
 // Whether the driver wants to know of the last slots, if it is known how many are new.
-fn wants_notification<M: GuestMemory, B: Bitmap>(
-    mem: &M,
-    host: &HostMemory<B>,
+fn wants_notification<L: Looks>(
+    looks: &mut L,
     state: &PackedState,
     added: Option<u32>,
     barrier: &BarrierWord,
 ) -> Result<bool, QueueError>
-    requires held { Holds (shape_of host.now) (M.names mem.now) }
     requires fits { state.now.size ≤ 2 ^ 15 }
     requires slot { state.now.next_used.slot < state.now.size }
-    ensures { let m = M.memory mem.now in
-        Answers (MayWantEvent m host.now state.now added) (wants_notification m host.now state.now added) result }
+    ensures { Follows L.looks (packed_wanting state.now added) looks.old result looks.new }
 {
     let Some(count) = added else {
         return Ok(true);
     };
-    let flags = load_word(mem, host, state.driver_area, 2)? % 4;
+    let flags = looks.word(state.driver_area, 2)? % 4;
     if state.event_idx_enabled && flags == VRING_PACKED_EVENT_FLAG_DESC {
         barrier.full_barrier();
-        let event = RingPosition::from_bits(load_word(mem, host, state.driver_area, 0)?);
+        let event = RingPosition::from_bits(looks.word(state.driver_area, 0)?);
         return Ok(is_passed(state.size, count, state.next_used, event));
     }
     Ok(flags != VRING_PACKED_EVENT_FLAG_DISABLE)
@@ -133,11 +133,22 @@ impl PackedQueue {
             Answers (MayWantNeeds m host.now self.old) (needs_notification m host.now self.old) result }
         ensures asked { self.new ≡ after_asked self.old result }
     {
+        let mut lent = Lent { mem, host };
+        self.needs_notification_from(&mut lent)
+    }
+
+    /// As `needs_notification`, from memory that a driver may write meanwhile. Whatever it writes: this looks at the
+    /// driver's flags, and then, if these say so, at its offset, each once.
+    #[inline]
+    pub fn needs_notification_from<L: Looks>(&mut self, looks: &mut L) -> Result<bool, QueueError>
+        ensures looks { Follows L.looks (packed_needing self.old) looks.old result looks.new }
+        ensures asked { self.new ≡ after_asked self.old result }
+    {
         if !self.state.ready {
             return Err(QueueError::QueueNotReady);
         }
         self.barrier.full_barrier();
-        let needs = wants_notification(mem, host, &self.state, self.added, &self.barrier)?;
+        let needs = wants_notification(looks, &self.state, self.added, &self.barrier)?;
         self.added = Some(0);
         Ok(needs)
     }

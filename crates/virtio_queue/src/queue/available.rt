@@ -1,53 +1,42 @@
 //! What the driver publishes: the available ring, and the chains of its heads.
-ghost use Rattle.std.specs.Prelude.{◌≡◌, ◌<◌, None, Ok};
+ghost use Rattle.std.specs.Prelude.{◌≡◌, ◌<◌, true, None, Ok};
 ghost use Rattle.vm_memory_guest.specs.Host.{shape_of, Holds};
-ghost use Rattle.virtio_queue.specs.Available.{MayWantChain, MayWantHead, MayWantIdx, after_pop, avail_idx, next_head, popped};
+ghost use Rattle.virtio_queue.specs.Asking.{index_of};
+ghost use Rattle.virtio_queue.specs.Available.{MayWantChain, MayWantIdx, after_pop, avail_idx, popped};
 ghost use Rattle.virtio_queue.specs.Fields.{Answers};
+ghost use Rattle.virtio_queue.specs.Looks.{Follows, word};
+ghost use Rattle.virtio_queue.specs.Popping.{next_head, popping};
 ghost use Rattle.virtio_queue.specs.State.{with_state};
 
 use super::Queue;
 use super::barrier::BarrierWord;
 use crate::chain::chain_at;
 use crate::error::QueueError;
-use crate::fields::load_word;
+use crate::looks::{Lent, Looks};
 use crate::state::QueueState;
 use std::alloc::Global;
 use vm_memory_base::Bitmap;
 use vm_memory_device::Chain;
 use vm_memory_guest::{GuestMemory, HostMemory};
 
-// The driver's index.
-#[inline]
-pub(super) fn avail_idx<M: GuestMemory, B: Bitmap>(
-    mem: &M,
-    host: &HostMemory<B>,
+// The head that is popped next, if the driver has published one.
+#[inline(always)]
+fn next_head<L: Looks>(
+    looks: &mut L,
     state: &QueueState,
-) -> Result<u16, QueueError>
-    requires { Holds (shape_of host.now) (M.names mem.now) }
-    ensures { let m = M.memory mem.now in
-        Answers (MayWantIdx m host.now state.now) (avail_idx m host.now state.now) result }
+    barrier: &BarrierWord,
+) -> Result<Option<u16>, QueueError>
+    requires some { 0 < state.now.size }
+    ensures head { Follows L.looks (next_head state.now) looks.old result looks.new }
+    ensures none { let q = state.now in result ≡ Ok None
+        → (q.ready ≡ true) × L.looks looks.old (word q.avail_ring 2) (Ok q.next_avail) looks.new }
 {
     if !state.ready {
         return Err(QueueError::QueueNotReady);
     }
-    load_word(mem, host, state.avail_ring, 2)
-}
-
-// The head that is popped next, if the driver has published one.
-#[inline]
-fn next_head<M: GuestMemory, B: Bitmap>(
-    mem: &M,
-    host: &HostMemory<B>,
-    state: &QueueState,
-    barrier: &BarrierWord,
-) -> Result<Option<u16>, QueueError>
-    requires held { Holds (shape_of host.now) (M.names mem.now) }
-    requires some { 0 < state.now.size }
-    ensures head { let m = M.memory mem.now in
-        Answers (MayWantHead m host.now state.now) (next_head m host.now state.now) result }
-    ensures none { result ≡ Ok None → avail_idx (M.memory mem.now) host.now state.now ≡ Ok state.now.next_avail }
-{
-    let ahead = avail_idx(mem, host, state)?.wrapping_sub(state.next_avail);
+    let ahead = looks
+        .word(state.avail_ring, 2)?
+        .wrapping_sub(state.next_avail);
     if ahead == 0 {
         return Ok(None);
     }
@@ -56,7 +45,7 @@ fn next_head<M: GuestMemory, B: Bitmap>(
     }
     let slot = state.next_avail % state.size;
     barrier.full_barrier();
-    let head = load_word(mem, host, state.avail_ring, 4 + 2 * u64::from(slot))?;
+    let head = looks.word(state.avail_ring, 4 + 2 * u64::from(slot))?;
     Ok(Some(head))
 }
 
@@ -71,7 +60,20 @@ impl Queue {
         ensures { let m = M.memory mem.now in let q = self.now.state in
             Answers (MayWantIdx m host.now q) (avail_idx m host.now q) result }
     {
-        avail_idx(mem, host, &self.state)
+        let mut lent = Lent { mem, host };
+        self.avail_idx_from(&mut lent)
+    }
+
+    /// As `avail_idx`, from memory that a driver may write meanwhile.
+    #[inline]
+    pub fn avail_idx_from<L: Looks>(&self, looks: &mut L) -> Result<u16, QueueError>
+        ensures { let q = self.now.state in
+            Follows L.looks (index_of q.ready q.avail_ring) looks.old result looks.new }
+    {
+        if !self.state.ready {
+            return Err(QueueError::QueueNotReady);
+        }
+        looks.word(self.state.avail_ring, 2)
     }
 
     /// The next chain that the driver has published, with its head, or `None` if there is none. Its place moves on
@@ -92,10 +94,28 @@ impl Queue {
             result ≡ Ok None → avail_idx (M.memory mem.now) host.now q ≡ Ok q.next_avail }
         ensures moved { self.new ≡ with_state self.old (after_pop self.old.state result) }
     {
-        let Some(head) = next_head(mem, host, &self.state, &self.barrier)? else {
+        let mut lent = Lent { mem, host };
+        self.pop_from(alloc, &mut lent)
+    }
+
+    /// As `pop_descriptor_chain`, from memory that a driver may write meanwhile. Whatever it writes: this looks at the
+    /// driver's index, at the slot of the next head, and then at each descriptor of the chain, in this order and each
+    /// once, and what it returns is what these looks found.
+    #[inline(always)]
+    pub fn pop_from<L: Looks>(
+        &mut self,
+        alloc: Global,
+        looks: &mut L,
+    ) -> Result<Option<(u16, Chain)>, QueueError>
+        ensures looks { Follows L.looks (popping self.old.state) looks.old result looks.new }
+        ensures none { let q = self.old.state in result ≡ Ok None
+            → (q.ready ≡ true) × L.looks looks.old (word q.avail_ring 2) (Ok q.next_avail) looks.new }
+        ensures moved { self.new ≡ with_state self.old (after_pop self.old.state result) }
+    {
+        let Some(head) = next_head(looks, &self.state, &self.barrier)? else {
             return Ok(None);
         };
-        let chain = chain_at(alloc, mem, host, &self.state, head)?;
+        let chain = chain_at(alloc, looks, &self.state, head)?;
         self.state.next_avail = self.state.next_avail.wrapping_add(1);
         Ok(Some((head, chain)))
     }

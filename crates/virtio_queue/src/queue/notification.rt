@@ -2,12 +2,15 @@
 ghost use Rattle.std.specs.Prelude.{◌≡◌, ◌<◌, ◌^◌, false, true, Ok, IfOk, OnOk};
 ghost use Rattle.vm_memory_guest.specs.Host.{shape_of, Holds};
 ghost use Rattle.vm_memory_guest.specs.Window.{window_names};
+ghost use Rattle.virtio_queue.specs.Asking.{needing, wanting};
 ghost use Rattle.virtio_queue.specs.Fields.{Answers, is_word, stored_at};
-ghost use Rattle.virtio_queue.specs.Notification.{Disables, EnablesIfReady, MayWantEvent, MayWantKick, MayWantNeeds, Waits, after_asked, is_among, kick_offset, kick_places, kick_value, needs_notification, wants_notification};
+ghost use Rattle.virtio_queue.specs.Looks.{Follows};
+ghost use Rattle.virtio_queue.specs.Notification.{Disables, EnablesIfReady, MayWantKick, MayWantNeeds, Waits, after_asked, is_among, kick_offset, kick_places, kick_value, needs_notification};
 
 use super::Queue;
 use crate::error::QueueError;
-use crate::fields::{load_in, load_word, store_in, store_word, window_at};
+use crate::fields::{load_in, store_in, store_word, window_at};
+use crate::looks::{Lent, Looks};
 use crate::state::QueueState;
 use vm_memory_base::{Bitmap, Permissions};
 use vm_memory_guest::laws::effects::{writes_keep_shapes, written_is_read_back};
@@ -29,25 +32,22 @@ fn is_among(count: u32, next: u16, index: u16) -> bool
 }
 
 // Whether the driver wants to know of the last entries, if it is known how many are new.
-fn wants_notification<M: GuestMemory, B: Bitmap>(
-    mem: &M,
-    host: &HostMemory<B>,
+fn wants_notification<L: Looks>(
+    looks: &mut L,
     state: &QueueState,
     added: Option<u32>,
 ) -> Result<bool, QueueError>
-    requires { Holds (shape_of host.now) (M.names mem.now) }
-    ensures { let m = M.memory mem.now in
-        Answers (MayWantEvent m host.now state.now added) (wants_notification m host.now state.now added) result }
+    ensures { Follows L.looks (wanting state.now added) looks.old result looks.new }
 {
     let Some(count) = added else {
         return Ok(true);
     };
     if state.event_idx_enabled {
         let offset = 4 + 2 * u64::from(state.size);
-        let event = load_word(mem, host, state.avail_ring, offset)?;
+        let event = looks.word(state.avail_ring, offset)?;
         return Ok(is_among(count, state.next_used, event));
     }
-    let flags = load_word(mem, host, state.avail_ring, 0)?;
+    let flags = looks.word(state.avail_ring, 0)?;
     Ok(flags & VRING_AVAIL_F_NO_INTERRUPT == 0)
 }
 
@@ -115,11 +115,22 @@ impl Queue {
             Answers (MayWantNeeds m host.now self.old) (needs_notification m host.now self.old) result }
         ensures asked { self.new ≡ after_asked self.old result }
     {
+        let mut lent = Lent { mem, host };
+        self.needs_notification_from(&mut lent)
+    }
+
+    /// As `needs_notification`, from memory that a driver may write meanwhile. Whatever it writes: this looks once, at
+    /// the index that the driver waits for or at its flags.
+    #[inline]
+    pub fn needs_notification_from<L: Looks>(&mut self, looks: &mut L) -> Result<bool, QueueError>
+        ensures looks { Follows L.looks (needing self.old) looks.old result looks.new }
+        ensures asked { self.new ≡ after_asked self.old result }
+    {
         if !self.state.ready {
             return Err(QueueError::QueueNotReady);
         }
         self.barrier.full_barrier();
-        let needs = wants_notification(mem, host, &self.state, self.added)?;
+        let needs = wants_notification(looks, &self.state, self.added)?;
         self.added = Some(0);
         Ok(needs)
     }

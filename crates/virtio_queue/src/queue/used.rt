@@ -4,12 +4,15 @@ ghost use Rattle.vm_memory_base.specs.declared.iotlb.Permissions.TheVariants.{Wr
 ghost use Rattle.vm_memory_guest.specs.Host.{shape_of, Holds};
 ghost use Rattle.vm_memory_guest.specs.Walk.{NeedsPieces};
 ghost use Rattle.vm_memory_guest.specs.Window.{window_names};
+ghost use Rattle.virtio_queue.specs.Asking.{index_of};
 ghost use Rattle.virtio_queue.specs.Fields.{Answers, is_word, lies_whole};
+ghost use Rattle.virtio_queue.specs.Looks.{Follows};
 ghost use Rattle.virtio_queue.specs.Used.{AddsUsed, MayWantEntry, MayWantUsed, MayWantUsedIdx, MayWantValid, after_used, entry_fault, entry_place, one_more, used_idx, used_places, valid};
 
 use super::Queue;
 use crate::error::QueueError;
-use crate::fields::{lies_whole, load_word, place, store_in, window_at, write_pair};
+use crate::fields::{lies_whole, place, store_in, window_at, write_pair};
+use crate::looks::{Lent, Looks};
 use crate::state::QueueState;
 use vm_memory_base::{Bitmap, GuestAddress, Permissions};
 use vm_memory_guest::laws::effects::writes_keep_shapes;
@@ -125,10 +128,20 @@ impl Queue {
         ensures { let m = M.memory mem.now in let q = self.now.state in
             Answers (MayWantUsedIdx m host.now q) (used_idx m host.now q) result }
     {
+        let mut lent = Lent { mem, host };
+        self.used_idx_from(&mut lent)
+    }
+
+    /// As `used_idx`, from memory that a driver may write meanwhile.
+    #[inline]
+    pub fn used_idx_from<L: Looks>(&self, looks: &mut L) -> Result<u16, QueueError>
+        ensures { let q = self.now.state in
+            Follows L.looks (index_of q.ready q.used_ring) looks.old result looks.new }
+    {
         if !self.state.ready {
             return Err(QueueError::QueueNotReady);
         }
-        load_word(mem, host, self.state.used_ring, 2)
+        looks.word(self.state.used_ring, 2)
     }
 
     /// Returns the chain of this head, with the number of bytes written to it: the entry first, and then the index

@@ -1,7 +1,8 @@
 //! The command that copies between windows of blocks.
-ghost use Rattle.std.specs.Prelude.{◌≡◌, ◌+◌, ◌^◌, ◌<◌, ◌≤◌, length, if◌then◌else◌, Some, None, nat_lt, IfSome};
+ghost use Rattle.std.specs.Prelude.{◌≡◌, ◌+◌, ◌^◌, ◌<◌, ◌≤◌, length, if◌then◌else◌, Some, None, IfSome};
 ghost use Rattle.vm_memory_guest.specs.Dirt.{with_pages};
-ghost use Rattle.vm_memory_guest.specs.Host.{shape_of, Holds};
+ghost use Rattle.vm_memory_guest.specs.Host.{shape_of, Holds, has_bytes};
+ghost use Rattle.std.specs.Bool.{OnTrue};
 ghost use Rattle.vm_memory_guest.specs.Window.{window_names};
 ghost use Rattle.vm_memory.specs.Copy.{copies, ends_inside};
 ghost use Rattle.vm_memory.specs.Machine.{Step};
@@ -16,11 +17,11 @@ use vm_memory_base::ExactBitmap;
 use vm_memory_device::Iommu;
 use vm_memory_guest::laws::host::parts_of_a_block_are_held;
 use vm_memory_guest::laws::typed::copies_are_by_bytes;
-use vm_memory_guest::{BlockId, GuestMemoryRegion, HostMemory, VolatileSlice};
+use vm_memory_guest::{BlockId, GuestMemoryRegion, HostMemory, MmapRegion, VolatileSlice};
 
 impl<R: GuestMemoryRegion, I: Iommu, B: ExactBitmap> Machine<R, I, B> {
     /// Copies the first bytes of a range of a block to the front of another, up to the length of the shorter. `NoSuch`
-    /// if there is no such block, `BadRange` if a range passes its block.
+    /// if there is no such block or it was given back, `BadRange` if a range passes its block.
     pub fn copy(&mut self, from: BlockRange, to: BlockRange) -> Result<(), Refusal>
         ensures { let before = state_of R.region I.number B.pages self.old in
             Step before (command.Copy from to) (replied as_done result)
@@ -51,11 +52,12 @@ fn copy_in<B: ExactBitmap>(
     Ok(())
 }
 
-// Whether there is a block of this number.
+// Whether there is a block of this number that was not given back.
 pub(super) fn has_block<B>(host: &HostMemory<B>, block: usize) -> bool
-    ensures { result ≡ nat_lt block (length host.now.blocks) }
+    ensures value { result ≡ has_bytes (shape_of host.now) block }
+    ensures there { OnTrue result (block < length host.now.blocks) }
 {
-    host.shape().block_len(BlockId(block)).is_some()
+    MmapRegion::of_block(host, BlockId(block)).is_some()
 }
 
 // A window of a block, if it ends in its block.

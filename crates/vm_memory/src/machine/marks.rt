@@ -39,7 +39,7 @@ use vm_memory_guest::{
 impl<R: GuestMemoryRegion, I: Iommu, B: ExactBitmap> Machine<R, I, B> {
     /// Marks the pages of the bytes of a range of a block in the block's bitmap, as a write of these bytes would. It
     /// reads and writes no byte: it is for bytes that something else wrote, such as a virtual processor or a process.
-    /// `NoSuch` if there is no such block, `BadRange` if the range passes its block.
+    /// `NoSuch` if there is no such block or it was given back, `BadRange` if the range passes its block.
     pub fn mark_block(&mut self, range: BlockRange) -> Result<(), Refusal>
         ensures { let before = state_of R.region I.number B.pages self.old in
             (replied as_done result, state_of R.region I.number B.pages self.new)

@@ -1,17 +1,21 @@
 //! What can be made for a machine at any time: blocks, spaces and tables of its host, and regions and translators.
-ghost use Rattle.std.specs.Prelude.{◌≡◌, ◌++◌, ◌∷◌, [], OnOk, OnErr};
+ghost use Rattle.std.specs.Prelude.{◌≡◌, ◌==◌, ◌&&◌, ◌++◌, ◌∷◌, [], length, OnOk, OnErr};
 ghost use Rattle.vm_memory_guest.specs.Collection.{regions_of};
-ghost use Rattle.vm_memory.specs.Setup.{SetsUp};
+ghost use Rattle.std.specs.Int.NonZero.{non_zero_usize_get};
+ghost use Rattle.vm_memory.specs.Setup.{GivesBack, MakesBlockAt, SetsUp};
 ghost use Rattle.vm_memory.specs.ScriptMachine.{no_parts, state_made};
 
 use super::Machine;
+use super::copies::has_block;
 use std::alloc::{AllocError, Global};
 use std::num::NonZeroUsize;
 use std::sync::Arc;
+use thiserror::Error;
 use vm_memory_base::{ExclusiveBitmap, GuestAddress, Iotlb};
-use vm_memory_device::TableIommu;
+use vm_memory_device::{Iommu, TableIommu};
 use vm_memory_guest::{
-    BlockId, GuestRegionMmap, HostMemory, HostShape, MmapRegion, MmapRegionError, TlbId,
+    BlockBytes, BlockId, GuestMemoryRegion, GuestRegionMmap, HostMemory, HostPlace, HostShape,
+    MmapRegion, MmapRegionError, TlbId,
 };
 
 /// What can be made for a machine.
@@ -61,6 +65,20 @@ pub enum SetupReply {
     Memory,
 }
 
+/// Why a block could not be given back. Then nothing changed.
+#[derive(Clone, Copy, Debug, PartialEq, Eq, Error)]
+pub enum GiveBackError {
+    /// There is no such block, or it was given back before.
+    #[error("no such block")]
+    NoSuch,
+    /// The machine has regions, layouts or memories, which may name the block.
+    #[error("the machine has regions, layouts or memories")]
+    InUse,
+    /// An allocation failed.
+    #[error("out of memory")]
+    Memory,
+}
+
 /// The machine of scripts and of sessions.
 pub type ScriptMachine = Machine<GuestRegionMmap, TableIommu, ExclusiveBitmap>;
 
@@ -107,6 +125,22 @@ impl Machine<GuestRegionMmap, TableIommu, ExclusiveBitmap> {
         }
     }
 
+    /// Makes a block of the bytes that lie at a place, tracked in pages of `page_size` that are all clean. If an
+    /// allocation fails, nothing changes, and the place is forgotten.
+    pub fn make_block_at(&mut self, place: HostPlace, page_size: NonZeroUsize) -> SetupReply
+        ensures { MakesBlockAt (state_made self.old) place.bytes (non_zero_usize_get page_size) result
+            (state_made self.new) }
+    {
+        let bytes = BlockBytes::at(place);
+        let Ok(bitmap) = ExclusiveBitmap::new(self.alloc, bytes.len(), page_size) else {
+            return SetupReply::Memory;
+        };
+        match self.host.new_block_of(bytes, bitmap) {
+            Ok(block) => SetupReply::BlockMade(block.0),
+            Err(_) => SetupReply::Memory,
+        }
+    }
+
     fn make_space(&mut self, size: usize, page_size: NonZeroUsize) -> SetupReply
         ensures { SetsUp (state_made self.old) (Setup.Space size page_size) result (state_made self.new) }
     {
@@ -135,10 +169,9 @@ impl Machine<GuestRegionMmap, TableIommu, ExclusiveBitmap> {
     fn make_region(&mut self, block: BlockId, addr: GuestAddress) -> SetupReply
         ensures { SetsUp (state_made self.old) (Setup.Region block addr) result (state_made self.new) }
     {
-        if self.host.shape().block_len(block).is_none() {
+        let Some(mapping) = MmapRegion::of_block(&self.host, block) else {
             return SetupReply::NoSuch;
-        }
-        let mapping = MmapRegion::of_block(&self.host, block);
+        };
         let Some(region) = GuestRegionMmap::new(mapping, addr) else {
             return SetupReply::InvalidRegion;
         };
@@ -160,6 +193,47 @@ impl Machine<GuestRegionMmap, TableIommu, ExclusiveBitmap> {
             Ok(()) => SetupReply::TranslatorMade(number),
             Err(_) => SetupReply::Memory,
         }
+    }
+}
+
+impl Machine<GuestRegionMmap, TableIommu, ExclusiveBitmap> {
+    /// Gives a block back: the machine forgets its bytes and its bitmap. Its number stays, and each later call that names
+    /// it is refused with `NoSuch`. A block whose bytes lie at a place of the caller's is the caller's again.
+    ///
+    /// Nothing of the machine may name a block then: `forget_regions` comes first. What stays can be made again: regions
+    /// and memories of the other blocks have no bytes of their own.
+    pub fn give_back(&mut self, block: BlockId) -> Result<(), GiveBackError>
+        ensures { GivesBack (state_made self.old) block.0 result (state_made self.new) }
+    {
+        if !has_block(&self.host, block.0) {
+            return Err(GiveBackError::NoSuch);
+        }
+        if !self.names_no_block() {
+            return Err(GiveBackError::InUse);
+        }
+        let Ok(bitmap) = ExclusiveBitmap::new(self.alloc, 0, NonZeroUsize::MIN) else {
+            return Err(GiveBackError::Memory);
+        };
+        let _ = self.host.give_back(block, bitmap);
+        Ok(())
+    }
+}
+
+impl<R: GuestMemoryRegion, I: Iommu, B> Machine<R, I, B> {
+    /// Forgets all regions, layouts and memories, whose numbers begin at 0 again. Everything else stays.
+    pub fn forget_regions(&mut self)
+        ensures { self.new ≡ record self.old { regions = []; layouts = []; memories = [] } }
+    {
+        self.regions = Vec::new(self.alloc);
+        self.layouts = Vec::new(self.alloc);
+        self.memories = Vec::new(self.alloc);
+    }
+
+    // Whether nothing of the machine names a block.
+    fn names_no_block(&self) -> bool
+        ensures { result ≡ (length self.now.regions == 0 && length self.now.layouts == 0 && length self.now.memories == 0) }
+    {
+        self.regions.is_empty() && self.layouts.is_empty() && self.memories.is_empty()
     }
 }
 

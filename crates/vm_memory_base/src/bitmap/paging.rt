@@ -1,5 +1,6 @@
 //! The pages of a number of bytes.
 ghost use Rattle.std.specs.Prelude.{◌≡◌, ◌/◌, ◌^◌, ◌<◌, ◌≤◌};
+ghost use Rattle.std.specs.Option.{ForSome};
 ghost use Rattle.std.specs.NonZero.{non_zero_usize_get};
 ghost use Rattle.std.specs.Int.{div_ceil};
 ghost use Rattle.vm_memory_base.specs.Pages as page_set;
@@ -13,8 +14,11 @@ pub struct Paging {
     page_size: NonZeroUsize,
     // Kept, so that no mark has to divide for it.
     count: usize,
+    // The binary logarithm of a page size that is a power of two: a shift is quicker than a division.
+    shift: Option<u32>,
     ghost fits: { byte_size < 2 ^ 64 },
     ghost whole: { count ≡ div_ceil byte_size (non_zero_usize_get page_size) },
+    ghost shifts: { ForSome shift (λ k. (k < 64) × (2 ^ k ≡ non_zero_usize_get page_size)) },
 }
 
 impl Paging {
@@ -26,10 +30,12 @@ impl Paging {
         ensures page_size { page_size_of result ≡ non_zero_usize_get page_size }
     {
         let count = byte_size.div_ceil(page_size.get());
+        let shift = exact_log(page_size.get());
         Paging {
             byte_size,
             page_size,
             count,
+            shift,
         }
     }
 
@@ -62,7 +68,10 @@ impl Paging {
     pub fn page_of(&self, offset: usize) -> usize
         ensures { result ≡ offset / page_size_of self.now }
     {
-        offset / self.page_size.get()
+        match self.shift {
+            Some(shift) => offset >> shift,
+            None => offset / self.page_size.get(),
+        }
     }
 
     // The page of the first of `len` bytes from `start` on, and that of the last.
@@ -72,13 +81,10 @@ impl Paging {
         ensures first { result.0 ≡ start / page_size_of self.now }
         ensures last { result.1 ≡ page_set.last_byte start len / page_size_of self.now }
     {
-        let page_size = self.page_size.get();
-        let first = start / page_size;
-        // Most ranges lie in one page, and need no second division.
-        if len <= page_size - start % page_size {
-            return (first, first);
-        }
-        (first, start.saturating_add(len - 1) / page_size)
+        (
+            self.page_of(start),
+            self.page_of(start.saturating_add(len - 1)),
+        )
     }
 
     /// The pages of `len` bytes from `start` on, among those that there are: from one up to another, and none if
@@ -95,4 +101,16 @@ impl Paging {
         let count = self.count;
         (first, if last < count { last + 1 } else { count })
     }
+}
+
+// The binary logarithm of a number that is a power of two, and otherwise `None`.
+fn exact_log(number: usize) -> Option<u32>
+    requires { 0 < number }
+    ensures { ForSome result (λ k. (k < 64) × (2 ^ k ≡ number)) }
+{
+    let log = number.ilog2();
+    if 1 << log != number {
+        return None;
+    }
+    Some(log)
 }

@@ -1,5 +1,5 @@
 //! What a look-up gives: the pieces that it leads to, or what it misses and what fails.
-ghost use Rattle.std.specs.Prelude.{◌≡◌, ◌+◌, ◌-◌, ◌≤◌, ◌++◌, [], List, map, IfOk, OnOk};
+ghost use Rattle.std.specs.Prelude.{◌≡◌, ◌+◌, ◌-◌, ◌≤◌, ◌∷◌, ◌++◌, [], List, map, IfOk, OnOk};
 ghost use Rattle.std.specs.Iterator.{YieldsFirst, item_count};
 ghost use Rattle.std.specs.List.{filter};
 ghost use Rattle.vm_memory_base.specs.Change.{granted, gaps};
@@ -13,6 +13,7 @@ use super::{IovaRange, Permissions};
 use crate::address::GuestAddress;
 use std::alloc::{AllocError, Global};
 use std::marker::Model;
+use std::slice;
 use thiserror::Error;
 
 /// A range of addresses that I/O addresses lead to: `length` of them from `base` on.
@@ -20,6 +21,58 @@ use thiserror::Error;
 pub struct MappedRange {
     pub base: GuestAddress,
     pub length: usize,
+}
+
+/// The pieces of a translation, in the order of the I/O addresses. A single one takes no memory.
+#[derive(Debug, Drop)]
+pub struct MappedRangeList {
+    // The single piece, or otherwise all of them.
+    one: Option<MappedRange>,
+    many: Vec<MappedRange>,
+}
+
+impl Model for MappedRangeList {
+    ghost use Rattle.std.specs.Prelude.{List};
+    ghost use Rattle.vm_memory_base.specs.Lookup.{one_or};
+    ghost use Rattle.vm_memory_base.specs.declared.iotlb.lookup.MappedRange.{MappedRange};
+
+    ghost Value = { List MappedRange };
+
+    ghost view = { λ l. one_or l.one l.many.items };
+}
+
+impl MappedRangeList {
+    /// This piece alone. It allocates nothing.
+    #[inline(always)]
+    pub fn one(alloc: Global, piece: MappedRange) -> MappedRangeList
+        ensures { result ≡ piece ∷ [] }
+    {
+        MappedRangeList {
+            one: Some(piece),
+            many: Vec::new(alloc),
+        }
+    }
+
+    /// The pieces of a vector. It allocates nothing.
+    pub fn from_vec(pieces: Vec<MappedRange>) -> MappedRangeList
+        ensures { result ≡ pieces.items }
+    {
+        MappedRangeList {
+            one: None,
+            many: pieces,
+        }
+    }
+
+    /// Lends the pieces as a slice.
+    #[inline]
+    pub fn as_slice(&self) -> &[MappedRange]
+        ensures { result.now ≡ self.now }
+    {
+        match &self.one {
+            Some(piece) => slice::from_ref(piece),
+            None => self.many.as_slice(),
+        }
+    }
 }
 
 /// Ranges of I/O addresses, ascending.
@@ -112,6 +165,17 @@ impl<'a> IotlbIterator<'a> {
         ensures { result ≡ pieces_left at end runs.entry }
     {
         IotlbIterator { runs, at, end }
+    }
+
+    // The same pieces once more.
+    pub(super) fn again(&self) -> IotlbIterator<'a>
+        ensures { result ≡ self.now }
+    {
+        IotlbIterator {
+            runs: self.runs.again(),
+            at: self.at,
+            end: self.end,
+        }
     }
 }
 

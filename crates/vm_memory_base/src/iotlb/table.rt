@@ -1,18 +1,18 @@
 //! The table of an IOMMU.
-ghost use Rattle.std.specs.Prelude.{◌≡◌, if◌then◌else◌, ℕ, ◌+◌, ◌-◌, ◌^◌, ◌<◌, ◌≤◌, ◌⊎◌, ◌∷◌, [], true, false, Some, None, map, OnOk, IfOk, IfErr, IfSome, MatchResult};
+ghost use Rattle.std.specs.Prelude.{◌≡◌, if◌then◌else◌, ℕ, ◌+◌, ◌-◌, ◌^◌, ◌<◌, ◌≤◌, ◌⊎◌, ◌∷◌, [], length, true, false, Some, None, map, OnOk, IfOk, IfErr, IfSome, MatchResult};
 ghost use Rattle.std.specs.List.{filter};
 ghost use Rattle.vm_memory_base.specs.Change.{gaps, granted};
 ghost use Rattle.vm_memory_base.specs.Lookup.{Translates, RefusesTranslation, mapped_ranges};
 ghost use Rattle.vm_memory_base.specs.Runs.{cut_to};
 ghost use Rattle.vm_memory_base.specs.Table as table;
-ghost use Rattle.vm_memory_base.specs.Table.{target, Set, Invalidate, InvalidateAll, covers, says, says_after, says_after_all, events, canonical_list, changed, range_count, is_allowed, pieces, failures, same_mapping, range_of, forbids};
+ghost use Rattle.vm_memory_base.specs.Table.{target, Set, Invalidate, InvalidateAll, covers, says, says_after, says_after_all, events, canonical_list, changed, evictions, range_count, is_allowed, pieces, failures, same_mapping, range_of, forbids};
 ghost use Rattle.vm_memory_base.specs.Walk.{IsWalk, pieces_left};
 ghost use Rattle.vm_memory_base.specs.declared.iotlb.Permissions.TheVariants.{No};
 ghost use Rattle.vm_memory_base.specs.declared.iotlb.Reason.TheVariants.{MissingMapping, AccessNotAllowed};
 
 use super::lookup::{
-    IotlbFails, IotlbIterator, IovaRangeList, LookupError, MappedRange, access_fails, are_granted,
-    misses,
+    IotlbFails, IotlbIterator, IovaRangeList, LookupError, MappedRange, MappedRangeList,
+    access_fails, are_granted, misses,
 };
 use super::mapped_run::MappedRun;
 use super::run_map::{RunMap, Runs};
@@ -102,17 +102,43 @@ impl Iotlb {
         ensures none { length ≡ 0 → self.new ≡ self.old }
         ensures err { IfErr result (λ e. (e ≡ IommuError.Memory) × (0 < length) × (self.new ≡ self.old)) }
     {
+        self.set_mapping_counted(iova, map_to, length, perm)?;
+        Ok(())
+    }
+
+    /// Does what [`set_mapping`](Self::set_mapping) does, and returns how many ranges the table evicted.
+    pub fn set_mapping_counted(
+        &mut self,
+        iova: GuestAddress,
+        map_to: GuestAddress,
+        length: usize,
+        perm: Permissions,
+    ) -> Result<usize, IommuError>
+        requires { iova.0 + length < 2 ^ 64 }
+        ensures count { IfOk result (λ n. n ≡ evictions (Set iova.0 map_to.0 length perm) self.old) }
+        ensures ok { OnOk result (self.new ≡ changed (Set iova.0 map_to.0 length perm) self.old) }
+        ensures says { OnOk result ((x : ℕ) → x < 2 ^ 64
+            → says self.new x
+            ≡ says_after_all (events (Set iova.0 map_to.0 length perm) self.old) x (says self.old x)) }
+        ensures set { OnOk result ((x : ℕ) → covers (Set iova.0 map_to.0 length perm) x ≡ true
+            → says self.new x ≡ says_after (Set iova.0 map_to.0 length perm) x None) }
+        ensures limit { IfSome self.new.limit (λ n. range_count self.new ≤ n) }
+        ensures growth { range_count self.new ≤ range_count self.old + 2 }
+        ensures none { length ≡ 0 → self.new ≡ self.old }
+        ensures err { IfErr result (λ e. (e ≡ IommuError.Memory) × (0 < length) × (self.new ≡ self.old)) }
+    {
         let limit = self.limit;
         let ranges = &mut self.ranges;
         if length == 0 {
-            return Ok(());
+            return Ok(0);
         }
         let end = iova.0 + length as u64;
         let difference = map_to.0.wrapping_sub(iova.0);
         let run = MappedRun::new(iova.0, end, difference, perm);
         ranges.set_run(run).map_err(|_| IommuError::Memory)?;
+        let count = ranges.len();
         ranges.keep_within(limit, Some(iova.0));
-        Ok(())
+        Ok(count - ranges.len())
     }
 
     /// Unmaps `length` addresses from `iova` on. A length of 0 changes nothing and allocates
@@ -212,38 +238,54 @@ impl Iotlb {
         Err(refusal(self.ranges.alloc(), asked, iova.0, end, access))
     }
 
-    /// The pieces of a look-up, as a vector, or why the access is refused. It allocates the pieces, and nothing for a
-    /// length of 0 or for a refusal.
+    /// The pieces of a look-up, as a list, or why the access is refused. It allocates the pieces if there are two or more,
+    /// and otherwise nothing.
     ///
     /// `CannotResolve` if the table does not allow the access, with the whole range: `MissingMapping` if an
     /// address is not mapped or the end is not an address, otherwise `AccessNotAllowed`. `Memory` if the table allows
-    /// the access, but the allocation of the pieces fails.
+    /// the access and it has two pieces or more, but their allocation fails.
     pub fn resolve(
         &self,
         iova: GuestAddress,
         length: usize,
         access: Permissions,
-    ) -> Result<Vec<MappedRange>, IommuError>
+    ) -> Result<MappedRangeList, IommuError>
         ensures { MatchResult result
-            (λ found. Translates (says self.now) iova.0 length access found.items)
+            (λ found. Translates (says self.now) iova.0 length access found)
             (RefusesTranslation (says self.now) iova.0 length access) }
     {
-        if let Some((run, _)) = self.run_of(iova, length, access) {
-            let base = GuestAddress(run.target(iova.0));
-            return only(self.ranges.alloc(), MappedRange { base, length });
+        if let Some(piece) = self.resolve_one(iova, length, access) {
+            return Ok(MappedRangeList::one(self.ranges.alloc(), piece));
         }
         self.resolve_parts(iova, length, access)
     }
 
+    /// The piece of a look-up that leads to one, if it is found at once. It allocates nothing, and `None` says nothing of
+    /// the look-up.
+    #[inline]
+    pub fn resolve_one(
+        &self,
+        iova: GuestAddress,
+        length: usize,
+        access: Permissions,
+    ) -> Option<MappedRange>
+        ensures { IfSome result (λ piece. Translates (says self.now) iova.0 length access (piece ∷ [])) }
+    {
+        let (run, _) = self.run_of(iova, length, access)?;
+        let base = GuestAddress(run.target(iova.0));
+        Some(MappedRange { base, length })
+    }
+
     // The pieces of any range, run by run, or why there are none.
+    #[inline(never)]
     fn resolve_parts(
         &self,
         iova: GuestAddress,
         length: usize,
         access: Permissions,
-    ) -> Result<Vec<MappedRange>, IommuError>
+    ) -> Result<MappedRangeList, IommuError>
         ensures { MatchResult result
-            (λ found. Translates (says self.now) iova.0 length access found.items)
+            (λ found. Translates (says self.now) iova.0 length access found)
             (RefusesTranslation (says self.now) iova.0 length access) }
     {
         let iova_range = IovaRange { base: iova, length };
@@ -252,7 +294,8 @@ impl Iotlb {
             return Err(IommuError::CannotResolve { iova_range, reason });
         };
         if length == 0 {
-            return Ok(Vec::new(self.ranges.alloc()));
+            let none = Vec::new(self.ranges.alloc());
+            return Ok(MappedRangeList::from_vec(none));
         }
         let asked = self.ranges.asked(iova.0, end);
         if are_granted(asked.again(), iova.0, end, access) {
@@ -298,20 +341,20 @@ impl Iotlb {
     }
 }
 
-// A vector of the one piece.
-#[inline(always)]
-fn only(alloc: Global, piece: MappedRange) -> Result<Vec<MappedRange>, IommuError>
-    ensures { MatchResult result (λ found. found.items ≡ piece ∷ []) (λ e. e ≡ IommuError.Memory) }
+// All pieces. One alone takes no memory.
+fn all_of(alloc: Global, walk: IotlbIterator<'_>) -> Result<MappedRangeList, IommuError>
+    ensures { MatchResult result (λ found. found ≡ mapped_ranges walk.entry)
+        (λ e. (1 < length (mapped_ranges walk.entry)) × (e ≡ IommuError.Memory)) }
 {
-    Vec::from_slice(alloc, &[piece]).map_err(|_| IommuError::Memory)
-}
-
-// A vector of all pieces.
-fn all_of(alloc: Global, walk: IotlbIterator<'_>) -> Result<Vec<MappedRange>, IommuError>
-    ensures { MatchResult result (λ found. found.items ≡ mapped_ranges walk.entry) (λ e. e ≡ IommuError.Memory) }
-{
+    let mut ahead = walk.again();
+    let Some(first) = ahead.next() else {
+        return Ok(MappedRangeList::from_vec(Vec::new(alloc)));
+    };
+    if ahead.next().is_none() {
+        return Ok(MappedRangeList::one(alloc, first));
+    }
     match walk.collect(alloc) {
-        Ok(found) => Ok(found),
+        Ok(found) => Ok(MappedRangeList::from_vec(found)),
         Err(_) => Err(IommuError::Memory),
     }
 }

@@ -1,5 +1,5 @@
 //! Access to bytes of guest memory, by guest address.
-ghost use Rattle.std.specs.Prelude.{◌≡◌, ◌⊎◌, ◌-◌, ◌^◌, ◌<◌, ◌≤◌, min, length, IfOk, MatchResult, Ok, Err, option_map, ◌==◌, if◌then◌else◌};
+ghost use Rattle.std.specs.Prelude.{◌≡◌, ◌⊎◌, ◌-◌, ◌^◌, ◌<◌, ◌≤◌, ◌∷◌, min, length, IfOk, MatchResult, Ok, Err, option_map, ◌==◌, if◌then◌else◌};
 ghost use Rattle.std.specs.List.{AllByRecursion};
 ghost use Rattle.vm_memory_guest.specs.Access.{access_of, windows};
 ghost use Rattle.vm_memory_guest.specs.Host.{shape_of, Holds};
@@ -220,10 +220,11 @@ fn windows_of<'m, M: GuestMemory, B: Bitmap>(
     memory.get_slices(host, addr, count, access)
 }
 
-// Moves the buffer into the windows that a walk gives, one after the other, up to an error.
+// Moves the buffer into the windows that a walk gives, one after the other, up to an error. A buffer that the first
+// takes whole is moved at once, with what the compiler knows of its length.
 #[inline(always)]
 fn write_windows<M: GuestMemoryBackend, B: Bitmap>(
-    walk: IommuMemorySliceIterator<'_, M>,
+    mut walk: IommuMemorySliceIterator<'_, M>,
     host: &mut HostMemory<B>,
     buf: &[u8],
 ) -> GuestMemoryResult<usize>
@@ -233,7 +234,36 @@ fn write_windows<M: GuestMemoryBackend, B: Bitmap>(
         result ≡ ended (span walk.windows) (option_map error_of walk.fault) }
     ensures bytes { Writes B.marks walk.entry.windows buf.now host.old host.new }
 {
-    let mut total = 0;
+    match walk.next() {
+        None => Ok(0),
+        Some(Err(error)) => Err(error),
+        Some(Ok(window)) => {
+            let len = window.len();
+            if len == buf.len() && len > 0 {
+                host.write(&window, buf);
+                return Ok(len);
+            }
+            write_parts(window, walk, host, buf)
+        }
+    }
+}
+
+// Moves the buffer into a window, and what is left of it into those that a walk gives.
+#[inline(always)]
+fn write_parts<M: GuestMemoryBackend, B: Bitmap>(
+    first: VolatileSlice,
+    walk: IommuMemorySliceIterator<'_, M>,
+    host: &mut HostMemory<B>,
+    buf: &[u8],
+) -> GuestMemoryResult<usize>
+    requires held { AllByRecursion (λ w. Holds (shape_of host.old) (window_names w)) (first ∷ walk.windows) }
+    requires fits { span (first ∷ walk.windows) ≤ length buf.now }
+    ensures answer { let walk = walk.entry in
+        result ≡ ended (span (first ∷ walk.windows)) (option_map error_of walk.fault) }
+    ensures bytes { Writes B.marks (first ∷ walk.entry.windows) buf.now host.old host.new }
+{
+    let mut total = first.len();
+    host.write(&first, &buf[..total]);
     for item in walk {
         match item {
             Ok(window) => {
@@ -247,10 +277,11 @@ fn write_windows<M: GuestMemoryBackend, B: Bitmap>(
     Ok(total)
 }
 
-// Fills the buffer from the windows that a walk gives, one after the other, up to an error.
+// Fills the buffer from the windows that a walk gives, one after the other, up to an error. One that the first fills
+// whole is filled at once, as `write_windows` writes it.
 #[inline(always)]
 fn read_windows<M: GuestMemoryBackend, B: Bitmap>(
-    walk: IommuMemorySliceIterator<'_, M>,
+    mut walk: IommuMemorySliceIterator<'_, M>,
     host: &HostMemory<B>,
     buf: &mut [u8],
 ) -> GuestMemoryResult<usize>
@@ -260,7 +291,36 @@ fn read_windows<M: GuestMemoryBackend, B: Bitmap>(
         result ≡ ended (span walk.windows) (option_map error_of walk.fault) }
     ensures bytes { buf.new ≡ filled_buffer host.now.blocks (cells walk.entry.windows) buf.old }
 {
-    let mut total = 0;
+    match walk.next() {
+        None => Ok(0),
+        Some(Err(error)) => Err(error),
+        Some(Ok(window)) => {
+            let len = window.len();
+            if len == buf.len() && len > 0 {
+                buf.copy_from_slice(host.bytes(&window));
+                return Ok(len);
+            }
+            read_parts(window, walk, host, buf)
+        }
+    }
+}
+
+// Fills the buffer from a window, and then from those that a walk gives.
+#[inline(always)]
+fn read_parts<M: GuestMemoryBackend, B: Bitmap>(
+    first: VolatileSlice,
+    walk: IommuMemorySliceIterator<'_, M>,
+    host: &HostMemory<B>,
+    buf: &mut [u8],
+) -> GuestMemoryResult<usize>
+    requires held { AllByRecursion (λ w. Holds (shape_of host.now) (window_names w)) (first ∷ walk.windows) }
+    requires fits { span (first ∷ walk.windows) ≤ length buf.old }
+    ensures answer { let walk = walk.entry in
+        result ≡ ended (span (first ∷ walk.windows)) (option_map error_of walk.fault) }
+    ensures bytes { buf.new ≡ filled_buffer host.now.blocks (cells (first ∷ walk.entry.windows)) buf.old }
+{
+    let mut total = first.len();
+    buf[..total].copy_from_slice(host.bytes(&first));
     for item in walk {
         match item {
             Ok(window) => {
@@ -277,7 +337,7 @@ fn read_windows<M: GuestMemoryBackend, B: Bitmap>(
 // Moves the bytes of a value into the windows that a walk gives, as `write_windows` does.
 #[inline(always)]
 fn write_value<M: GuestMemoryBackend, V: ByteValued, B: Bitmap>(
-    walk: IommuMemorySliceIterator<'_, M>,
+    mut walk: IommuMemorySliceIterator<'_, M>,
     host: &mut HostMemory<B>,
     value: &V,
 ) -> GuestMemoryResult<usize>
@@ -288,7 +348,37 @@ fn write_value<M: GuestMemoryBackend, V: ByteValued, B: Bitmap>(
     ensures bytes { Writes B.marks walk.entry.windows (V.bytes value.now) host.old host.new }
 {
     value.known();
-    let mut total = 0;
+    match walk.next() {
+        None => Ok(0),
+        Some(Err(error)) => Err(error),
+        Some(Ok(window)) => {
+            let len = window.len();
+            if len == V::size() && len > 0 {
+                host.write_value(&window, value, 0);
+                return Ok(len);
+            }
+            write_value_parts(window, walk, host, value)
+        }
+    }
+}
+
+// Moves the bytes of a value into a window, and those that are left into the windows that a walk gives.
+#[inline(always)]
+fn write_value_parts<M: GuestMemoryBackend, V: ByteValued, B: Bitmap>(
+    first: VolatileSlice,
+    walk: IommuMemorySliceIterator<'_, M>,
+    host: &mut HostMemory<B>,
+    value: &V,
+) -> GuestMemoryResult<usize>
+    requires held { AllByRecursion (λ w. Holds (shape_of host.old) (window_names w)) (first ∷ walk.windows) }
+    requires fits { span (first ∷ walk.windows) ≤ min V.width (2 ^ 64 - 1) }
+    ensures answer { let walk = walk.entry in
+        result ≡ ended (span (first ∷ walk.windows)) (option_map error_of walk.fault) }
+    ensures bytes { Writes B.marks (first ∷ walk.entry.windows) (V.bytes value.now) host.old host.new }
+{
+    value.known();
+    let mut total = first.len();
+    host.write_value(&first, value, 0);
     for item in walk {
         match item {
             Ok(window) => {
@@ -304,6 +394,39 @@ fn write_value<M: GuestMemoryBackend, V: ByteValued, B: Bitmap>(
 // Fills the bytes of a value from the windows that a walk gives, as `read_windows` does.
 #[inline(always)]
 fn read_value<M: GuestMemoryBackend, V: ByteValued, B: Bitmap>(
+    mut walk: IommuMemorySliceIterator<'_, M>,
+    host: &HostMemory<B>,
+    value: &mut V,
+) -> GuestMemoryResult<usize>
+    requires held { AllByRecursion (λ w. Holds (shape_of host.now) (window_names w)) walk.windows }
+    requires fits { span walk.windows ≤ min V.width (2 ^ 64 - 1) }
+    ensures answer { let walk = walk.entry in
+        result ≡ ended (span walk.windows) (option_map error_of walk.fault) }
+    ensures bytes { let cells = cells walk.entry.windows in
+        V.bytes value.new ≡ filled_buffer host.now.blocks cells (V.bytes value.old) }
+{
+    let size = V::size();
+    // The bytes of a longer one would be moved one by one.
+    if size > 8 {
+        return read_long_value(walk, host, value);
+    }
+    match walk.next() {
+        None => Ok(0),
+        Some(Err(error)) => Err(error),
+        Some(Ok(window)) => {
+            let len = window.len();
+            if len == size && len > 0 {
+                value.set_bytes(0, host.bytes(&window));
+                return Ok(len);
+            }
+            read_value_parts(window, walk, host, value)
+        }
+    }
+}
+
+// Fills the bytes of a value from the windows that a walk gives, one after the other.
+#[inline(always)]
+fn read_long_value<M: GuestMemoryBackend, V: ByteValued, B: Bitmap>(
     walk: IommuMemorySliceIterator<'_, M>,
     host: &HostMemory<B>,
     value: &mut V,
@@ -316,6 +439,35 @@ fn read_value<M: GuestMemoryBackend, V: ByteValued, B: Bitmap>(
         V.bytes value.new ≡ filled_buffer host.now.blocks cells (V.bytes value.old) }
 {
     let mut total = 0;
+    for item in walk {
+        match item {
+            Ok(window) => {
+                value.set_bytes(total, host.bytes(&window));
+                total += window.len();
+            }
+            Err(error) => return ended(total, error),
+        }
+    }
+    Ok(total)
+}
+
+// Fills the bytes of a value from a window, and then from those that a walk gives.
+#[inline(always)]
+fn read_value_parts<M: GuestMemoryBackend, V: ByteValued, B: Bitmap>(
+    first: VolatileSlice,
+    walk: IommuMemorySliceIterator<'_, M>,
+    host: &HostMemory<B>,
+    value: &mut V,
+) -> GuestMemoryResult<usize>
+    requires held { AllByRecursion (λ w. Holds (shape_of host.now) (window_names w)) (first ∷ walk.windows) }
+    requires fits { span (first ∷ walk.windows) ≤ min V.width (2 ^ 64 - 1) }
+    ensures answer { let walk = walk.entry in
+        result ≡ ended (span (first ∷ walk.windows)) (option_map error_of walk.fault) }
+    ensures bytes { let cells = cells (first ∷ walk.entry.windows) in
+        V.bytes value.new ≡ filled_buffer host.now.blocks cells (V.bytes value.old) }
+{
+    let mut total = first.len();
+    value.set_bytes(0, host.bytes(&first));
     for item in walk {
         match item {
             Ok(window) => {

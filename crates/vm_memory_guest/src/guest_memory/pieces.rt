@@ -11,14 +11,14 @@ use crate::host::SpaceId;
 use crate::region::error::GuestMemoryResult;
 use crate::volatile_memory::slice::VolatileSlice;
 use std::marker::Model;
-use vm_memory_base::{Address, BitmapId, BitmapRef, GuestAddress, MappedRange};
+use vm_memory_base::{Address, BitmapId, BitmapRef, GuestAddress, MappedRangeList};
 
 // The pieces that a walk has left behind the one that it goes through, and the space that its windows mark,
 // from an address on.
 #[derive(Drop)]
 pub(super) struct PiecesBehind<'a, M: GuestMemoryBackend> {
     mem: &'a M,
-    pieces: Vec<MappedRange>,
+    pieces: MappedRangeList,
     next: usize,
     space: SpaceId,
     iova: GuestAddress,
@@ -32,7 +32,7 @@ impl<'a, M: GuestMemoryBackend> Model for PiecesBehind<'a, M> {
 
     ghost view = { λ p. record {
       regions = map M.R.region (M.regions p.mem.now);
-      pieces = drop p.next p.pieces.items;
+      pieces = drop p.next p.pieces;
       space = p.space.0;
       iova = p.iova.0;
     } };
@@ -40,15 +40,16 @@ impl<'a, M: GuestMemoryBackend> Model for PiecesBehind<'a, M> {
 
 impl<'a, M: GuestMemoryBackend> PiecesBehind<'a, M> {
     // What a walk through these pieces has before it.
+    #[inline(always)]
     pub(super) fn new(
         mem: &'a M,
-        pieces: Vec<MappedRange>,
+        pieces: MappedRangeList,
         iova: GuestAddress,
         space: SpaceId,
     ) -> PiecesBehind<'a, M>
         ensures { result ≡ record {
           regions = map M.R.region (M.regions mem.now);
-          pieces = pieces.items;
+          pieces = pieces;
           space = space.0;
           iova = iova.0;
         } }
@@ -63,7 +64,7 @@ impl<'a, M: GuestMemoryBackend> PiecesBehind<'a, M> {
     }
 
     // The walk through the next piece.
-    #[inline]
+    #[inline(always)]
     pub(super) fn next_walk(&mut self) -> Option<GuestMemoryBackendSliceIterator<'a, M>>
         ensures walk { let before = walk_of_pieces self.old.regions self.old.pieces in
             let after = walk_of_pieces self.new.regions self.new.pieces in
@@ -73,12 +74,13 @@ impl<'a, M: GuestMemoryBackend> PiecesBehind<'a, M> {
             (λ _. (self.new ≡ record self.old { pieces = self.new.pieces })
             × (length self.new.pieces < length self.old.pieces)) }
     {
-        let piece = *self.pieces.get(self.next)?;
+        let piece = *self.pieces.as_slice().get(self.next)?;
         self.next += 1;
         Some(self.mem.get_slices(piece.base, piece.length))
     }
 
     // A window that comes next marks the space, and what is left marks it from behind the window on.
+    #[inline(always)]
     fn marked(&mut self, window: VolatileSlice) -> VolatileSlice
         ensures window { result ≡ record window {
           bitmap = record { id = bitmaps.Space self.old.space; base = self.old.iova };
@@ -94,10 +96,11 @@ impl<'a, M: GuestMemoryBackend> PiecesBehind<'a, M> {
     }
 
     // Leaves out all that is left.
+    #[inline]
     fn end(&mut self)
         ensures { self.new ≡ record self.old { pieces = [] } }
     {
-        self.next = self.pieces.len();
+        self.next = self.pieces.as_slice().len();
     }
 }
 

@@ -6,12 +6,13 @@ ghost use Rattle.vm_memory_guest.specs.Inside.{blocks_of};
 ghost use Rattle.vm_memory_guest.specs.Typed.{size_of};
 
 use super::address::{HostAddress, Place};
+use super::block_bytes::BlockBytes;
 use vm_memory_base::ByteValued;
 
 // The bytes of a place.
 #[tactic(auto, using(crate::proofs::HostLemmas::block_lemmas))]
 #[inline]
-pub(super) fn part_of(blocks: &Vec<Vec<u8>>, at: Place) -> &[u8]
+pub(super) fn part_of(blocks: &Vec<BlockBytes>, at: Place) -> &[u8]
     requires there { at.block < length blocks.now.items }
     requires within { at.offset + at.len ≤ length (block_at (blocks_of blocks.now) at.block) }
     ensures { result.now ≡ bytes_at (blocks_of blocks.now) (cells_from at.block at.offset at.len) }
@@ -21,7 +22,7 @@ pub(super) fn part_of(blocks: &Vec<Vec<u8>>, at: Place) -> &[u8]
 
 // Moves bytes into a block at once.
 #[inline]
-pub(super) fn put_in(blocks: &mut Vec<Vec<u8>>, block: usize, offset: usize, bytes: &[u8])
+pub(super) fn put_in(blocks: &mut Vec<BlockBytes>, block: usize, offset: usize, bytes: &[u8])
     requires there { block < length blocks.old.items }
     requires within { offset + length bytes.now ≤ length (block_at (blocks_of blocks.old) block) }
     ensures { blocks_of blocks.new
@@ -34,7 +35,7 @@ pub(super) fn put_in(blocks: &mut Vec<Vec<u8>>, block: usize, offset: usize, byt
 // Moves bytes of a value, from byte `from` on, to a place: as many as it has.
 #[inline]
 pub(super) fn put_value_in<T: ByteValued>(
-    blocks: &mut Vec<Vec<u8>>,
+    blocks: &mut Vec<BlockBytes>,
     at: Place,
     value: &T,
     from: usize,
@@ -78,7 +79,7 @@ fn copy_inside(block: &mut [u8], from: usize, to: usize, len: usize)
 }
 
 // Copies bytes of a block over a place of the same or of another block: as many as it has.
-pub(super) fn copy_in(blocks: &mut Vec<Vec<u8>>, from: HostAddress, to: Place)
+pub(super) fn copy_in(blocks: &mut Vec<BlockBytes>, from: HostAddress, to: Place)
     requires source { from.block.0 < length blocks.old.items }
     requires target { to.block < length blocks.old.items }
     requires readable { from.offset + to.len ≤ length (block_at (blocks_of blocks.old) from.block.0) }
@@ -142,7 +143,7 @@ fn fill_place<T: ByteValued>(place: &mut [u8], values: &[T])
 }
 
 // Moves the bytes of values, one after the other, to a place of as many.
-pub(super) fn put_values_in<T: ByteValued>(blocks: &mut Vec<Vec<u8>>, at: Place, values: &[T])
+pub(super) fn put_values_in<T: ByteValued>(blocks: &mut Vec<BlockBytes>, at: Place, values: &[T])
     requires there { at.block < length blocks.old.items }
     requires within { at.offset + at.len ≤ length (block_at (blocks_of blocks.old) at.block) }
     requires size { at.len ≡ length values.now * size_of T.width }

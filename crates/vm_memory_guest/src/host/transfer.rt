@@ -8,6 +8,7 @@ ghost use Rattle.vm_memory_guest.specs.Window.{window_names, cells_of};
 
 use super::HostMemory;
 use super::address::Place;
+use super::block_bytes::BlockBytes;
 use crate::volatile_memory::slice::VolatileSlice;
 use vm_memory_base::{
     Bitmap, RETRIES, ReadExactFault, ReadVolatile, VolatileMemoryResult, is_interrupted,
@@ -15,7 +16,7 @@ use vm_memory_base::{
 
 // Lends a source the bytes of a place, for one try.
 fn read_in<S: ReadVolatile>(
-    blocks: &mut Vec<Vec<u8>>,
+    blocks: &mut Vec<BlockBytes>,
     at: Place,
     source: &mut S,
 ) -> VolatileMemoryResult<usize>
@@ -34,7 +35,7 @@ fn read_in<S: ReadVolatile>(
 
 // Lends a source the bytes of a place, which it fills by itself.
 fn fill_in<S: ReadVolatile>(
-    blocks: &mut Vec<Vec<u8>>,
+    blocks: &mut Vec<BlockBytes>,
     at: Place,
     source: &mut S,
 ) -> Result<(), ReadExactFault>

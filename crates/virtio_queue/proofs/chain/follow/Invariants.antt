@@ -1,13 +1,13 @@
-use Rattle.std.proofs.Common.{◌≡◌, ◌⊎◌, ◌<◌}
-use Rattle.virtio_queue.specs.Available.{IsKept, followed_in}
-use Rattle.virtio_queue.specs.Fields.{descriptor_at}
-use Rattle.virtio_queue.proofs.ChainLemmas.{Came}
+use Rattle.std.proofs.Common.{◌-◌, Result}
+use Rattle.virtio_queue.specs.Available.{Followed}
+use Rattle.virtio_queue.specs.Looks.{Follows}
+use Rattle.virtio_queue.specs.Popping.{following}
+use Rattle.virtio_queue.specs.declared.error.QueueError.{QueueError}
 use Rattle.virtio_queue.proofs.chain.follow.Given as goal
 
+-- what follows from here is what follows from the first descriptor
 abbrev pub invariant-loop-step : goal.invariant-loop-step
-invariant-loop-step g l =
-    let m = g.M.GuestMemory.memory l.fn.mem in record {
-      came : Came (descriptor_at m l.fn.host l.fn.table) l.fn.len (followed_in m l.fn.host l.fn.table l.fn.len l.fn.first)
-          l.fn.segments.items l.segments.items l._step l.index;
-      begun : (l.index ≡ l.fn.first) ⊎ ((l.fn.first < l.fn.len) × IsKept m l.fn.host l.fn.table l.fn.first);
-    }
+invariant-loop-step g l = let look = g.L.Looks.looks in
+    (result : Result Followed QueueError) (end : g.row.L.Denot)
+    → Follows look (following l.fn.table l.fn.len (l.fn.len - l._step) l.segments.items l.index) l.looks result end
+    → Follows look (following l.fn.table l.fn.len l.fn.len l.fn.segments.items l.fn.first) l.fn.looks result end

@@ -1,13 +1,13 @@
-use Rattle.std.proofs.Common.{◌≡◌, ◌⊎◌}
-use Rattle.virtio_queue.specs.PackedRing.{packed_at}
-use Rattle.virtio_queue.proofs.PackedChainLemmas.{Rowed}
-use Rattle.virtio_queue.specs.declared.packed.descriptor.PackedDescriptor.{PackedDescriptor}
-use Rattle.std.proofs.Common.{Ok}
+use Rattle.std.proofs.Common.{◌-◌, List, Result}
+use Rattle.vm_memory_device.specs.declared.chain.Segment.{Segment}
+use Rattle.virtio_queue.specs.Looks.{Follows}
+use Rattle.virtio_queue.specs.PackedPopping.{rows_behind}
+use Rattle.virtio_queue.specs.declared.error.QueueError.{QueueError}
 use Rattle.virtio_queue.proofs.packed.chain.add_rows.Given as goal
 
+-- the rows from here on are those from the first one on
 abbrev pub invariant-loop-index : goal.invariant-loop-index
-invariant-loop-index g l =
-    let m = g.M.GuestMemory.memory l.fn.mem in record {
-      rowed : Rowed (packed_at m l.fn.host l.fn.table) l.fn.len l.fn.segments.items l.segments.items l.index;
-      begun : (l.index ≡ 0) ⊎ ((d : PackedDescriptor) × (packed_at m l.fn.host l.fn.table 0 ≡ Ok d));
-    }
+invariant-loop-index g l = let look = g.L.Looks.looks in
+    (result : Result (List Segment) QueueError) (end : g.row.L.Denot)
+    → Follows look (rows_behind l.fn.table (l.fn.len - l.index) l.segments.items l.index) l.looks result end
+    → Follows look (rows_behind l.fn.table l.fn.len l.fn.segments.items 0) l.fn.looks result end

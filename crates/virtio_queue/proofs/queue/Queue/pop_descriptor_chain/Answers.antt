@@ -1,18 +1,18 @@
-use Rattle.std.proofs.Common.{Some}
-use Rattle.std.proofs.lemmas.Result.{err_from_is_err_and}
-use Rattle.virtio_queue.specs.Available.{MayWantHead, next_head}
-use Rattle.virtio_queue.proofs.ChainLemmas.{pop_refused}
-use Rattle.virtio_queue.proofs.RingLemmas.{answer_is}
+use Rattle.virtio_queue.specs.Popping.{popping}
+use Rattle.virtio_queue.proofs.StillLemmas.{none_held, pops_held, still}
 use Rattle.virtio_queue.proofs.queue.Queue.pop_descriptor_chain.Goals as goal
 
-pub returns-in_err-chain-clause-popped : goal.returns-in_err-chain-clause-popped
-returns-in_err-chain-clause-popped g c =
+pub returns-clause-popped : goal.returns-clause-popped
+returns-clause-popped g c =
     let m = g.M.GuestMemory.memory c.args.mem.now in
     let host = c.args.host.now in
-    let q = c.self.inside.state in
-    let r = c.from_residual-in_err-chain in
-    let p = err_from_is_err_and r.result r.ensures.1 in
-    let found = answer_is (MayWantHead m host q) (next_head m host q) (Some c.in-Some.head)
-    (rw c.in-Some.is at c.in_ok-head.ensures.head) in
-    rw (p.1, p.2) (rw (← c.self.view_is)
-    (pop_refused m host q c.in-Some.head c.in_err-chain.field-0.0 found c.in_err-chain.ensures))
+    let q = c.args.self.now.state in
+    pops_held m host q c.pop_from.result
+    (still m host _ _ (λ p found new looked. looked) (popping q) c.pop_from.new.looks c.pop_from.result
+    c.pop_from.ensures.looks)
+
+pub returns-clause-none : goal.returns-clause-none
+returns-clause-none g c is =
+    let m = g.M.GuestMemory.memory c.args.mem.now in
+    let (ready, looked) = c.pop_from.ensures.none is in
+    none_held m c.args.host.now c.args.self.now.state ready looked.0

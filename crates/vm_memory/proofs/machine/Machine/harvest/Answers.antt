@@ -13,9 +13,9 @@ returns-clause-answer g c =
     elim c.match-taken.branch [
       | in-Ok w ↦
           rw (w.result-is, w.pages-is, ← c.self.view_is)
-          (harvest_is_step region g.I.Iommu.number pages parts c.args.bitmap bitmap there w.in-Ok.dirty.items
+          (harvest_is_step region g.I.Iommu.number pages parts c.args.bitmap bitmap c.if-not-has_bitmap.ensures.found there w.in-Ok.dirty.items
           c.harvest-taken.new.self w.in-Ok.ensures.dirty w.in-Ok.ensures.clean)
       | in-Err w ↦
           rw (w.result-is, w.in-Err.ensures.refused.0, ← c.self.view_is)
-          (refusal_is_step region g.I.Iommu.number pages parts c.args.bitmap bitmap there w.in-Err.ensures.refused.1)
+          (refusal_is_step region g.I.Iommu.number pages parts c.args.bitmap bitmap c.if-not-has_bitmap.ensures.found there w.in-Err.ensures.refused.1)
     ]

@@ -17,8 +17,8 @@ returns-clause-copied g c =
     let to = c.args.to in
     let first = found (ends_inside old from) c.in-Some-Some.from (range_window from) c.in-Some-Some.ensures.value in
     let second = found (ends_inside old to) c.in-Some-Some.to (range_window to) c.in-Some-Some.ensures'.value in
-    let there : has_block old from ≡ true = rw (← c.has_block.ensures) c.if-not-has_block.false in
-    let other : has_block old to ≡ true = rw (← c.has_block-else-not-has_block.ensures) c.if-not-has_block-2.false in
+    let there : has_block old from ≡ true = rw (← c.has_block.ensures.value) c.if-not-has_block.false in
+    let other : has_block old to ≡ true = rw (← c.has_block-else-not-has_block.ensures.value) c.if-not-has_block-2.false in
     let bytes : Copies marks (range_window from) (range_window to) old new =
     subst (λ (v : Window). Copies marks v (range_window to) old new) first.1
     (subst (λ (v : Window). Copies marks c.in-Some-Some.from v old new) second.1

@@ -49,11 +49,11 @@ mark_pieces-requires-clause-fits g c =
     let region = g.R.GuestMemoryRegion.region in
     let m = c.args.memory.now in
     let at = (goal.at.mark_pieces-requires-clause-fits g c).After-table-table in
-    rw (c.get_backend-layout.ensures, c.as_slice.ensures.value)
+    rw (c.get_backend-layout.ensures, c.as_slice.ensures)
     (on-fits region m.backend (g.I.Iommu.number m.iommu) m.space m.on
     (each_is_region region g.met.R.GuestMemoryRegion.fits m.backend)
     (with_pages g.B.ExactBitmap.pages c.args.host.now) c.args.addr.0 c.args.count (is_on g at)
-    c.table-table.result.now (there g at) c.in-Ok.pieces.items c.in-Ok.ensures (omega arith))
+    c.table-table.result.now (there g at) c.in-Ok.pieces c.in-Ok.ensures (omega arith))
 
 pub returns-in-Ok-clause-marked : goal.returns-in-Ok-clause-marked
 returns-in-Ok-clause-marked g c =
@@ -61,12 +61,12 @@ returns-in-Ok-clause-marked g c =
     let pages = g.B.ExactBitmap.pages in
     let m = c.args.memory.now in
     let at = (goal.at.returns-in-Ok-clause-marked g c).After-table-table in
-    let answer = rw (c.get_backend-layout.ensures, c.as_slice.ensures.value) at c.mark_pieces.ensures.answer in
-    let dirt = rw (c.get_backend-layout.ensures, c.as_slice.ensures.value) at c.mark_pieces.ensures.dirt in
+    let answer = rw (c.get_backend-layout.ensures, c.as_slice.ensures) at c.mark_pieces.ensures.answer in
+    let dirt = rw (c.get_backend-layout.ensures, c.as_slice.ensures) at c.mark_pieces.ensures.dirt in
     inl (on_marks region m.backend (g.I.Iommu.number m.iommu) m.space m.on
     (each_is_region region g.met.R.GuestMemoryRegion.fits m.backend)
     (with_pages pages c.args.host.now) c.args.addr.0 c.args.count (is_on g at)
-    c.table-table.result.now (there g at) c.in-Ok.pieces.items c.in-Ok.ensures
+    c.table-table.result.now (there g at) c.in-Ok.pieces c.in-Ok.ensures
     (with_pages pages c.mark_pieces.new.host) c.mark_pieces.result answer dirt)
 
 pub returns-in-Err-clause-marked : goal.returns-in-Err-clause-marked

@@ -1,5 +1,6 @@
-use Rattle.std.proofs.Common.{◌<◌, ◌∙◌, ap, sym, subst, length, slice_get, Some, ◌≡◌}
+use Rattle.std.proofs.Common.{◌<◌, ◌∷◌, [], ◌∙◌, ap, map, sym, subst, length, slice_get, Some, ◌≡◌}
 use Rattle.vm_memory_guest.specs.Host.{Holds, shape_of}
+use Rattle.vm_memory_guest.specs.Pieces.{marking, walk_of_pieces}
 use Rattle.vm_memory_device.proofs.IommuLemmas.{backend-held, iommu-held, gives-on, fails-on}
 use Rattle.vm_memory_device.proofs.iommu.IommuMemoryGuestMemory.get_slices.Given.{Over}
 use Rattle.vm_memory_device.proofs.iommu.IommuMemoryGuestMemory.get_slices.Goals as goal
@@ -31,14 +32,26 @@ table-table-requires g c =
     ∙ (ap g.I.Iommu.number c.deref.ensures ∙ ap (λ m. g.I.Iommu.number m.iommu) c.self.view_is) in
     (subst (λ n. n < length c.args.host.now.tables) (sym number) table.0, tt)
 
+pub returns-in-Some-clause-answer : goal.returns-in-Some-clause-answer
+returns-in-Some-clause-answer g c =
+    let it = c.self.inside in
+    let regions = map g.M.R.GuestMemoryRegion.region (g.M.GuestMemoryBackend.regions it.backend) in
+    let at = there g (goal.at.returns-in-Some-clause-answer g c).After-table-table in
+    rw (← c.self.view_is) (gives-on g.M.R.GuestMemoryRegion.region (g.M.GuestMemoryBackend.regions it.backend)
+    (g.I.Iommu.number it.iommu.value) it.space.0 it.use_iommu c.if-not-self.false c.args.host.now.tables
+    c.table-table.result.now at c.args.addr.0 c.args.count c.args.access (c.in-Some.piece ∷ []) c.in-Some.ensures
+    c.of_pieces.result
+    (c.of_pieces.ensures
+    ∙ ap (λ ps. marking it.space.0 c.args.addr.0 (walk_of_pieces regions ps)) c.one-pieces.ensures))
+
 pub returns-in-Ok-clause-answer : goal.returns-in-Ok-clause-answer
 returns-in-Ok-clause-answer g c =
     let it = c.self.inside in
     let at = there g (goal.at.returns-in-Ok-clause-answer g c).After-table-table in
     rw (← c.self.view_is) (gives-on g.M.R.GuestMemoryRegion.region (g.M.GuestMemoryBackend.regions it.backend)
     (g.I.Iommu.number it.iommu.value) it.space.0 it.use_iommu c.if-not-self.false c.args.host.now.tables
-    c.table-table.result.now at c.args.addr.0 c.args.count c.args.access c.in-Ok.pieces.items c.in-Ok.ensures
-    c.of_pieces.result c.of_pieces.ensures)
+    c.table-table.result.now at c.args.addr.0 c.args.count c.args.access c.in-Ok.pieces c.in-Ok.ensures
+    c.of_pieces-in-Ok.result c.of_pieces-in-Ok.ensures)
 
 pub returns-in-Err-clause-answer : goal.returns-in-Err-clause-answer
 returns-in-Err-clause-answer g c =

@@ -13,7 +13,7 @@ returns g c = λ block.
           let sized = c.shape-shape.ensures.sized block 0 (omega arith) in
           let is : get_or (map (λ (b : List ℕ). length b) blocks) block 0 ≡ length (block_at blocks block) =
           get_or-map (λ (b : List ℕ). length b) blocks block [] 0 within in
-          omega (arith, sized.1, is))
+          omega (arith, sized, is))
       | inr past ↦
           (let is : block_at blocks block ≡ [] = get_or_past blocks block [] past in
           let none : length (block_at blocks block) ≡ 0 = ap (λ (b : List ℕ). length b) is in

@@ -1,11 +1,11 @@
-use Rattle.std.proofs.Common.{◌≡◌, ◌∙◌, true, length, rules, map, flat_map, slice_get, is_some, sym, ap, arith}
+use Rattle.std.proofs.Common.{◌≡◌, ◌∙◌, length, map, flat_map, sym, ap, arith}
 use Rattle.std.proofs.lemmas.Grind.{common_steps, flat_map-append}
 use Rattle.std.proofs.lemmas.List.{map-append}
 use Rattle.vm_memory_guest.specs.Collection.{regions_of}
-use Rattle.vm_memory_guest.specs.Host.{Shape, Block, Place, IsHeld, shape_of}
+use Rattle.vm_memory_guest.specs.Host.{Place, IsHeld, shape_of}
 use Rattle.vm_memory_guest.specs.Mmap.{WholeBlock, mmap_region}
 use Rattle.vm_memory_guest.specs.Region.{region_names}
-use Rattle.vm_memory_guest.proofs.HoldsLemmas.{Holds-append, IsHeld-whole}
+use Rattle.vm_memory_guest.proofs.HoldsLemmas.{Holds-append}
 use Rattle.vm_memory.specs.Inside.{parts_of}
 use Rattle.vm_memory.proofs.SetupLemmas.{IsWhole, region_added, region_refused}
 use Rattle.vm_memory.proofs.machine.setup.Machine+GuestRegionMmap+TableIommu+ExclusiveBitmap.make_region.Goals.{in-Ok, in-Err}
@@ -14,18 +14,14 @@ use Rattle.vm_memory.proofs.machine.setup.Machine+GuestRegionMmap+TableIommu+Exc
 pub invariant_of-self : goal.invariant_of-self
 invariant_of-self c =
     let host = c.self.inside.host in
-    let mapping = c.of_block-mapping.result in
-    let there : IsHeld (shape_of host) (Block c.args.block.0) = grind (arith, common_steps) in
-    let whole = IsHeld-whole host c.args.block.0 there in
-    let place : IsHeld (shape_of host) (Place mapping.block 0 mapping.size) =
-    rw (c.of_block-mapping.ensures.block, c.of_block-mapping.ensures.size) whole in
+    let place : IsHeld (shape_of host) (Place c.in-Some.mapping.block 0 c.in-Some.mapping.size) = c.in-Some.ensures.held.0 in
     let old = map mmap_region (regions_of c.self.inside.regions) in
-    let region = mmap_region c.in-Some.region in
+    let region = mmap_region c.in-Some-new.region in
     let held = c.self.invariant in
     elim c.match-add.branch [
       | in-Ok w ↦ record {
         pool = rw (w.in-Ok.ensures.ok, map-append) (rw flat_map-append (Holds-append (shape_of host)
-            (flat_map region_names old) (region_names region) held.pool (rw c.in-Some.ensures.value.1 (place, tt))));
+            (flat_map region_names old) (region_names region) held.pool (rw c.in-Some-new.ensures.value.1 (place, tt))));
         tables = held.tables;
         layouts = held.layouts;
         memories = held.memories;
@@ -45,17 +41,14 @@ invariant_of-self c =
 pub returns : goal.returns
 returns c =
     let inside = c.self.inside in
-    let region = c.in-Some.region in
-    let is = c.in-Some.ensures.value in
-    let some : is_some c.block_len.result ≡ true = search rules in
+    let region = c.in-Some-new.region in
+    let is = c.in-Some-new.ensures.value in
     let count : c.len-number.result ≡ length (regions_of inside.regions) = grind (arith, common_steps) in
-    let there = ap (λ (s : Shape). is_some (slice_get s.blocks c.args.block.0)) (sym c.shape.ensures.value)
-    ∙ ap is_some (sym c.block_len.ensures) ∙ some in
     let whole : IsWhole inside.host c.args.block c.args.addr region = record {
-      there = there;
+      there = sym c.in-Some.ensures.there;
       start = is.0;
-      block_is = ap (λ (m : WholeBlock). m.block) is.1 ∙ c.of_block-mapping.ensures.block;
-      size = ap (λ (m : WholeBlock). m.size) is.1 ∙ c.of_block-mapping.ensures.size;
+      block_is = ap (λ (m : WholeBlock). m.block) is.1 ∙ c.in-Some.ensures.block;
+      size = ap (λ (m : WholeBlock). m.size) is.1 ∙ c.in-Some.ensures.size;
     } in
     rw (← c.self.view_is) (elim c.match-add.branch [
       | in-Ok w ↦

@@ -1,6 +1,7 @@
-use Rattle.std.proofs.Common.{◌≡◌, ℕ, ◌<◌, List, true, Result, Ok, Err, MatchResult, inl, inr, sym, ap, subst, ◌∙◌, arith}
+use Rattle.std.proofs.Common.{◌≡◌, ℕ, ◌<◌, List, length, true, Result, Ok, Err, MatchResult, inl, inr, sym, ap, subst, ◌∙◌, arith}
+use Rattle.std.proofs.lemmas.List.{length-map}
 use Rattle.vm_memory_base.specs.Change.{granted}
-use Rattle.vm_memory_base.specs.Lookup.{Translates, RefusesTranslation, mapped_ranges}
+use Rattle.vm_memory_base.specs.Lookup.{Translates, RefusesTranslation, mapped_range, mapped_ranges}
 use Rattle.vm_memory_base.specs.Table.{Table, Range, Says, says, is_allowed, pieces}
 use Rattle.vm_memory_base.specs.declared.iotlb.IommuError.{IommuError}
 use Rattle.vm_memory_base.specs.declared.iotlb.IommuError.TheVariants.{CannotResolve, Memory}
@@ -12,7 +13,7 @@ use Rattle.vm_memory_base.proofs.iotlb.table.Iotlb.resolve_parts.Goals as goal
 pub returns-then-length-eq0 : goal.returns-then-length-eq0
 returns-then-length-eq0 c =
     let none = no_pieces (says c.args.self.now) c.args.iova.0 c.args.access c.args.length c.if-length-eq0.true in
-    (none.0, c.new.ensures.items ∙ sym (ap mapped_ranges none.1))
+    (none.0, c.from_vec.ensures ∙ c.new-none.ensures.items ∙ sym (ap mapped_ranges none.1))
 
 pub new-walk-requires : goal.new-walk-requires
 new-walk-requires c =
@@ -22,13 +23,14 @@ new-walk-requires c =
     there.5 (ap (granted c.args.iova.0 c.in-Some.end c.args.access) (sym c.again.ensures) ∙ sym c.are_granted.ensures
     ∙ c.if-are_granted.true)).1
 
--- the pieces of a walk, as a vector, or want of memory for them
-resolved : {V : Type 0} (items : V → List MappedRange) (f : Says) (a n : ℕ) (access : Permissions) (walk : List Range)
-    (r : Result V IommuError) → is_allowed f a n access ≡ true → 0 < n → walk ≡ pieces f a n
-    → MatchResult r (λ found. items found ≡ mapped_ranges walk) (λ e. e ≡ Memory)
-    → MatchResult r (λ found. Translates f a n access (items found)) (RefusesTranslation f a n access)
-resolved items f a n access walk (Ok found) allowed some is h = (allowed, h ∙ ap mapped_ranges is)
-resolved items f a n access walk (Err e) allowed some is h = inl (allowed, some, h)
+-- the pieces of a walk, as a list, or want of memory for them
+resolved : (f : Says) (a n : ℕ) (access : Permissions) (walk : List Range)
+    (r : Result (List MappedRange) IommuError) → is_allowed f a n access ≡ true → walk ≡ pieces f a n
+    → MatchResult r (λ found. found ≡ mapped_ranges walk) (λ e. (1 < length (mapped_ranges walk)) × (e ≡ Memory))
+    → MatchResult r (λ found. Translates f a n access found) (RefusesTranslation f a n access)
+resolved f a n access walk (Ok found) allowed is h = (allowed, h ∙ ap mapped_ranges is)
+resolved f a n access walk (Err e) allowed is h =
+    inl (allowed, subst (λ (k : ℕ). 1 < k) (length-map walk mapped_range ∙ ap length is) h.0, h.1)
 
 pub returns-then-are_granted : goal.returns-then-are_granted
 returns-then-are_granted c =
@@ -39,11 +41,11 @@ returns-then-are_granted c =
     (ap (granted c.args.iova.0 c.in-Some.end c.args.access) (sym c.again.ensures) ∙ sym c.are_granted.ensures
     ∙ c.if-are_granted.true) in
     subst (λ (t : Table). MatchResult c.all_of.result
-    (λ found. Translates (says t) c.args.iova.0 c.args.length c.args.access found.items)
+    (λ found. Translates (says t) c.args.iova.0 c.args.length c.args.access found)
     (RefusesTranslation (says t) c.args.iova.0 c.args.length c.args.access))
     c.self.view_is
-    (resolved (λ found. found.items) _ c.args.iova.0 c.args.length c.args.access c.new-walk.result c.all_of.result
-    told.0 (omega arith) (c.new-walk.ensures ∙ told.2) c.all_of.ensures)
+    (resolved _ c.args.iova.0 c.args.length c.args.access c.new-walk.result c.all_of.result
+    told.0 (c.new-walk.ensures ∙ told.2) c.all_of.ensures)
 
 pub returns : goal.returns
 returns c =

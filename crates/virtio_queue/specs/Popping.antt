@@ -1,0 +1,59 @@
+-- What a pop of a split queue looks at.
+use Rattle.std.specs.Prelude.{ℕ, zero, suc, ◌+◌, ◌*◌, nat_lt, ◌==◌, if◌then◌else◌, List, [], ◌∷◌, ◌++◌, Option, Some, None, Ok, Err}
+use Rattle.vm_memory_device.specs.Chain.{chain_fault}
+use Rattle.vm_memory_device.specs.declared.chain.Segment.{Segment}
+use Rattle.virtio_queue.specs.Available.{Followed, direct, if_chain, indirect_len}
+use Rattle.virtio_queue.specs.Descriptor.{has_next, is_indirect, segment_of}
+use Rattle.virtio_queue.specs.Looks.{Asks, and_asks, gives, if_ok, keeps, looks, row, word}
+use Rattle.virtio_queue.specs.Rings.{ahead, slot}
+use Rattle.virtio_queue.specs.declared.descriptor.Descriptor.{Descriptor}
+use Rattle.virtio_queue.specs.declared.error.QueueError.TheVariants as errors
+use Rattle.virtio_queue.specs.declared.state.QueueState.{QueueState}
+
+-- from an index of a table of N descriptors on, behind these segments: one look at each descriptor, which says all that
+-- is made of it, its segment and what follows. At most so many, and one more is a loop
+unfoldable pub following : ℕ → ℕ → ℕ → List Segment → ℕ → Asks Followed
+following table len zero front i =
+    if nat_lt i len then gives (Err errors.DescriptorLoop) else gives (Err errors.InvalidDescriptorIndex)
+following table len (suc most) front i = if nat_lt i len
+    then looks (row table i) (λ d.
+    if is_indirect d then gives (Ok (record { segments = front; indirect = Some d }))
+    else keeps (if has_next d then following table len most (front ++ segment_of d ∷ []) d.next
+    else gives (Ok (record { segments = front ++ segment_of d ∷ []; indirect = None }))))
+    else gives (Err errors.InvalidDescriptorIndex)
+
+-- the segments of an indirect table behind these, if a descriptor leads to one
+abbrev pub table_behind : List Segment → Descriptor → Asks (List Segment)
+table_behind front d = if_ok (λ n. and_asks (following d.addr n n front 0) (λ f. gives (direct f))) (indirect_len d)
+
+abbrev pub with_table : List Segment → Option Descriptor → Asks (List Segment)
+with_table front None = gives (Ok front)
+with_table front (Some d) = table_behind front d
+
+-- the segments that a head leads to, and the chain that they make
+abbrev pub segments_from : QueueState → ℕ → Asks (List Segment)
+segments_from q head =
+    and_asks (following q.desc_table q.size q.size [] head) (λ f. with_table f.segments f.indirect)
+
+abbrev pub chain_from : QueueState → ℕ → Asks (List Segment)
+chain_from q head = and_asks (segments_from q head) (λ ss. gives (if_chain ss (chain_fault ss)))
+
+-- the next head, if the driver has published one: a look at the driver's index, and one at the slot
+abbrev pub head_in_slot : QueueState → Asks (Option ℕ)
+head_in_slot q = looks (word q.avail_ring (4 + 2 * slot q.size q.next_avail)) (λ head. gives (Ok (Some head)))
+
+abbrev pub head_behind : QueueState → ℕ → Asks (Option ℕ)
+head_behind q idx = if ahead idx q.next_avail == 0 then gives (Ok None)
+    else if nat_lt q.size (ahead idx q.next_avail) then gives (Err errors.InvalidAvailRingIndex)
+    else head_in_slot q
+
+abbrev pub next_head : QueueState → Asks (Option ℕ)
+next_head q = if q.ready then looks (word q.avail_ring 2) (head_behind q) else gives (Err errors.QueueNotReady)
+
+-- what is popped: the chain of that head, with the head
+abbrev pub chain_behind : QueueState → Option ℕ → Asks (Option (ℕ × List Segment))
+chain_behind q None = gives (Ok None)
+chain_behind q (Some head) = and_asks (chain_from q head) (λ segments. gives (Ok (Some (head, segments))))
+
+abbrev pub popping : QueueState → Asks (Option (ℕ × List Segment))
+popping q = and_asks (next_head q) (chain_behind q)

@@ -1,0 +1,90 @@
+-- `lodge` at a call, for bytes. Assumes `Logic`.
+use Rattle.std.proofs.Common.{◌≡◌, ℕ, ◌+◌, ◌-◌, ◌*◌, ◌^◌, ◌<◌, ◌≤◌, List, [], ◌∷◌, length, true, refl, sym, arith, Vec}
+use Rattle.std.proofs.lemmas.Bool.{ne_eqb, not_from_false}
+use seplogic.Ra.Ura.{Ura}
+use mir.Syntax.{w8, w64, ty_int, ty_array}
+use mir.Val.{Val, vint, vptr}
+use base.Fraction.{full_share}
+use base.Logic.{SProp, ent, ex, guard, emp, id⊢}
+use base.Fml.{Fml, ftrue, fsep, flft, froom}
+use prog.Memory.{Memory}
+use prog.Routine.{Routine}
+use contract.Monad.{Fun, fact, fact_i}
+use contract.BorrowLft.{◌⊑◌, ⊑_refl}
+use types.Logic.{Logic, sem}
+use types.Kit.{‵, raw, ◌⊛◌, some, later, ◌$◌, ◌∵◌, !, qed, move, use0, use1, drop, split, join, pick, fjoin, fjoin3, feq_i, flt_i, rewrite, check, show, await, updating, now, done}
+use denote.RattleType.{RattleType}
+use denote.Builtin.{u8}
+use denote.Array.{Array}
+use denote.Param.Laws.{Laws, of_field}
+use denote.Param.Shared.{copy_shared}
+use denote.RawPtr.{Ptr, block_ptr, lies_at}
+use denote.Steps.{nothing, heard}
+use denote.Struct.Field.{u8-field}
+use denote.Struct.Laws.{u8-laws, u8-copy}
+use denote.Triple.Spec.{triple_of}
+use denote.Triple.Statement.{Contract}
+use Rattle.std.specs.Allocator.{block_with_items}
+use Rattle.std_alloc.specs.Vec.Ownership.{owns_if, has_block}
+use Rattle.std_alloc.specs.declared.vec.lodged.Lodged.{Lodged}
+use Rattle.std_alloc.specs.contracts.vec.Vec as V
+use Rattle.std_alloc.specs.contracts.vec.lodged.Lodged as L
+use Rattle.std_alloc.specs.contracts.vec.lodged.LodgedAllocator.TheImpl.{ghosts}
+use Rattle.std_alloc.specs.contracts.vec.lodge as LG
+use Rattle.std_alloc.proofs.vec.Vec.TheLaws as vec_laws
+use Rattle.std_alloc.proofs.vec.lodged.Lodged.TheLaws as lodged-laws
+
+-- bytes in memory at a pointer
+abbrev pub run_owns : Ptr → List ℕ → Fml
+run_owns p xs = lies_at (Array u8 (length xs)) full_share p xs
+
+abbrev pub byte_laws : Laws u8
+byte_laws = of_field u8-field u8-laws refl (copy_shared u8-field u8-copy)
+
+-- a list of bytes that frees nothing
+abbrev pub Housed : RattleType
+Housed = V.the_row u8 L.the_row ghosts
+
+abbrev pub housed-laws : Laws Housed
+housed-laws = vec_laws.the_row_laws u8 L.the_row ghosts byte_laws lodged-laws.the_row_laws
+
+live : (c : ℕ) → 0 < c → has_block c ≡ true
+live c h = not_from_false _ (ne_eqb c 0 (λ e. omega arith))
+
+module _ {M : Type 1} {𝓤 : Ura M} (𝓛 : Logic 𝓤) (at_mem : Memory → SProp 𝓤) (run : Routine → Fun 𝓤) where
+  open 𝓛 use {H}
+
+  abbrev pub Lodges : Contract 𝓤
+  Lodges = triple_of 𝓛 (LG.signature u8) (LG.spec u8 𝓛 at_mem run)
+
+  module _ (b o n : ℕ) (xs : List ℕ) where
+    abbrev pub at_lodge : Lodges.Ghost
+    at_lodge = ((([], tt), (full_share, tt), tt, (block_ptr b o, (n, (n, tt))), (vptr b o ∷ [], (vint w64 n ∷ [], (vint w64 n ∷ [], tt)))), xs)
+
+    abbrev pub IsLodged : Vec ℕ Lodged → Type 0
+    IsLodged r = (r.items ≡ xs) × (r.len ≡ n) × (r.cap ≡ n) × (r.ptr ≡ block_ptr b o)
+
+    -- bytes in memory are what `lodge` asks for
+    pub lodge_goes : length xs ≡ n → 0 < n → n < 2 ^ 63 → ent 𝓤 (sem 𝓛 (run_owns (block_ptr b o) xs)) (Lodges.pre at_lodge)
+    lodge_goes long filled small =
+        let p = block_ptr b o in
+        let Asked : Type 0 = (n ≡ length xs) × (n ≤ n) × (n < 2 ^ 63) in
+        let none_spare : 0 ≡ n - n = omega arith in
+        qed 𝓛 (‵ (run_owns p xs) ∷ []) ∵ rewrite ! 0 (λ k. ‵ (lies_at (Array u8 k) full_share p xs)) long refl $
+        nothing ! $ use0 𝓛 (‵ (froom (ty_array (ty_int w8) 0) b (o + n * 1))) (𝓛.laws.room_nil (ty_int w8) b (o + n * 1)) $
+        rewrite ! 0 (λ k. ‵ (froom (ty_array (ty_int w8) k) b (o + n * 1))) none_spare refl $ move ! (2 ∷ 0 ∷ 1 ∷ []) $ fjoin3 ! $
+        rewrite ! 0 (λ y. ‵ (owns_if y (block_with_items (λ _ _. ftrue) u8 p n n xs))) (sym (live n filled)) refl $ flt_i ! (n * 1) (2 ^ 63) (omega arith) $ fjoin ! $
+        use0 𝓛 (raw (fact 𝓤 Asked)) (fact_i 𝓤 Asked (emp 𝓤) (sym long, omega arith, small)) $ join ! $
+        use0 𝓛 (raw (fact 𝓤 ([] ⊑ []))) (fact_i 𝓤 ([] ⊑ []) (emp 𝓤) (⊑_refl [])) $ join ! $
+        nothing ! $ flt_i ! n (2 ^ 64) (omega arith) $ feq_i ! (List Val) (vint w64 n ∷ []) (vint w64 n ∷ []) refl $ fjoin ! $ fjoin ! $
+        flt_i ! n (2 ^ 64) (omega arith) $ feq_i ! (List Val) (vint w64 n ∷ []) (vint w64 n ∷ []) refl $ fjoin ! $ fjoin ! $
+        feq_i ! (List Val) (vptr b o ∷ []) (vptr b o ∷ []) refl $ fjoin ! $ nothing ! $ use0 𝓛 (‵ (flft [] full_share)) (𝓛.lfts.lft-nil full_share) $ join ! $ join ! $ done !
+
+    -- what `lodge` gives is a list of those bytes
+    pub lodge_gives : (v : Val) → ent 𝓤 (Lodges.post at_lodge v) (H.⇛ (ex 𝓤 (λ (r : Vec ℕ Lodged). guard 𝓤 (IsLodged r) (sem 𝓛 (Housed.own_val r (v ∷ []))))))
+    lodge_gives v =
+        qed 𝓛 (raw (Lodges.post at_lodge v) ∷ []) ∵ updating ! $
+        use1 𝓛 (later (some (λ (r : Vec ℕ Lodged). ((‵ (flft [] full_share) ⊛ ‵ ftrue) ⊛ ‵ (Housed.own_val r (v ∷ [])))
+        ⊛ some (λ (ws : Unit {0} × (Unit {0} × (Unit {0} × Unit {0}))). ‵ (fsep ftrue (fsep ftrue (fsep ftrue ftrue))) ⊛ raw (fact 𝓤 (IsLodged r)))))) (id⊢ 𝓤 _) $ await ! tt $ pick ! (λ r.
+        split ! $ move ! (1 ∷ []) $ pick ! (λ ws. split ! $ drop ! $ heard ! (IsLodged r) (λ is. split ! $ drop ! $ now ! $
+        show ! (λ (z : Vec ℕ Lodged). guard 𝓤 (IsLodged z) (sem 𝓛 (Housed.own_val z (v ∷ [])))) r $ check ! is $ done !)))
