@@ -164,8 +164,12 @@ static void request(uint32_t kind, uint64_t sector, uint32_t given, uint32_t roo
 
 /* What a device with a disk of four sectors has to do. */
 static vmm_answer begin(int read_only, uint64_t features) {
-    return vmm_begin_request(&session, 0, 0, 0, 4, read_only, features);
+    vmm_blk_terms terms = {4, 0, 0, 0, 0};
+    terms.features = features;
+    terms.read_only = read_only;
+    return vmm_begin_request(&session, 0, 0, 0, terms);
 }
+
 
 /* Whether a status is written, and whether the length is this. */
 static int finishes(uint8_t status, size_t moved, uint32_t room, uint64_t length) {
@@ -212,7 +216,8 @@ static int requests(void) {
 /* Calls of requests that mean nothing. */
 static int no_requests(void) {
     request(4, 0, 0, 1);
-    if (vmm_begin_request(&session, 0, 0, 1, 4, 0, 0).code != VMM_NOT_IN_FLIGHT ||
+    vmm_blk_terms terms = {4, 0, 0, 0, 0};
+    if (vmm_begin_request(&session, 0, 0, 1, terms).code != VMM_NOT_IN_FLIGHT ||
         vmm_finish_request(&session, 0, 0, 1, 0, 0).code != VMM_NOT_IN_FLIGHT) {
         return 60;
     }
@@ -224,6 +229,53 @@ static int no_requests(void) {
     call = vmm_on(VMM_FINISH_REQUEST, 0, 0, 0);
     call.value = 256;
     return vmm_asked(&session, &call, NULL, 0, NULL, 0).code == VMM_BAD_CALL ? 0 : 62;
+}
+
+/* What queue 1's chain asks for, if the driver keeps these limits. */
+static vmm_answer begin_within(uint32_t seg_max, uint32_t size_max) {
+    vmm_blk_terms terms = {4, 1 << 9, 0, 0, 0};
+    terms.seg_max = seg_max;
+    terms.size_max = size_max;
+    return vmm_begin_request(&session, 1, 0, 0, terms);
+}
+
+/* A write of two sectors in two segments, in flight in a queue of its own. */
+static int segments(void) {
+    static const uint64_t wanted[] = {DATA, 16, DATA + 0x200, 512, DATA + 0x600, 512, DATA + 0x1000, 1};
+    uint8_t list[64];
+    vmm_store(&session, 0, 2, AVAIL + 2, 0);
+    vmm_store(&session, 0, 4, DATA, 1);
+    vmm_store(&session, 0, 8, DATA + 8, 2);
+    for (size_t i = 0; i < 4; i++) {
+        put(i, wanted[2 * i], (uint32_t)wanted[2 * i + 1], i == 3 ? 2 : 1, i + 1);
+    }
+    publish(0, 0);
+    if (!is(vmm_queue(&session, 4, 4), VMM_DONE, 0, 1, 0)) {
+        return 80;
+    }
+    vmm_set_desc_table(&session, 1, TABLE);
+    vmm_set_avail_ring(&session, 1, AVAIL);
+    vmm_set_used_ring(&session, 1, USED);
+    vmm_set_queue_ready(&session, 1, 1);
+    if (!is(vmm_pop(&session, 1, 0), VMM_DONE, 1040, 0, 1)) {
+        return 81;
+    }
+    if (!is(begin_within(2, 512), VMM_DONE, 1024, VMM_BLK_WRITE, 2) ||
+        !is(begin_within(1, 0), VMM_DONE, VMM_BLK_S_IOERR, VMM_BLK_REFUSED, 0) ||
+        !is(begin_within(0, 511), VMM_DONE, VMM_BLK_S_IOERR, VMM_BLK_REFUSED, 0)) {
+        return 82;
+    }
+    if (vmm_list_segments(&session, 1, 1, list, sizeof list).code != VMM_NOT_IN_FLIGHT ||
+        !is(vmm_list_segments(&session, 1, 0, list, 63), VMM_SHORT, 64, 0, 0) ||
+        !is(vmm_list_segments(&session, 1, 0, list, sizeof list), VMM_DONE, 4, 3, 0)) {
+        return 83;
+    }
+    for (size_t i = 0; i < 8; i++) {
+        if (vmm_number(list, i) != wanted[i]) {
+            return 84;
+        }
+    }
+    return 0;
 }
 
 /* A message of a front end, which announced the block's first half as its memory from USER on. */
@@ -292,7 +344,7 @@ static int messages(void) {
 
 /* Each code has a text of its own. */
 static int texts(void) {
-    static const uint32_t ranges[][2] = {{0, 6}, {16, 16}, {18, 22}, {32, 54}, {57, 61}, {64, 68}, {70, 86},
+    static const uint32_t ranges[][2] = {{0, 6}, {16, 16}, {18, 22}, {32, 54}, {57, 61}, {64, 67}, {70, 86},
                                          {100, 118}, {120, 125}};
     const char *none = vmm_code_text(1000);
     for (size_t i = 0; i < sizeof ranges / sizeof *ranges; i++) {
@@ -307,7 +359,7 @@ static int texts(void) {
             }
         }
     }
-    return strcmp(vmm_code_text(17), none) == 0 && strcmp(vmm_code_text(69), none) == 0 ? 0 : 42;
+    return strcmp(vmm_code_text(17), none) == 0 && strcmp(vmm_code_text(68), none) == 0 ? 0 : 42;
 }
 
 int main(void) {
@@ -319,8 +371,8 @@ int main(void) {
     vmm_region(&session, 0, 0);
     vmm_layout(&session, region, sizeof region);
     vmm_plain(&session, 0);
-    int (*const tests[])(void) = {parts,    chains,      in_flight, notifications,
-                                  requests, no_requests, messages,  texts};
+    int (*const tests[])(void) = {parts,       chains,   in_flight, notifications, requests,
+                                  no_requests, segments, messages,  texts};
     for (size_t i = 0; i < sizeof tests / sizeof *tests; i++) {
         int failed = tests[i]();
         if (failed) {

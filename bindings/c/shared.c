@@ -27,16 +27,23 @@ static int refusals(vmm_session *session, size_t page) {
         return 20;
     }
     int fds[] = {-1, file, ends[0], 1 << 20};
-    void *at = NULL;
+    vmm_shared shared = {NULL, NULL, 0};
     for (size_t i = 0; i < sizeof rows / sizeof *rows; i++) {
         size_t size = rows[i].pages == SIZE_MAX ? SIZE_MAX / page * page : rows[i].pages * page + rows[i].more;
-        vmm_answer answer = vmm_shared_block(session, size, page, fds[rows[i].is_file], rows[i].offset, &at);
-        if (answer.code != rows[i].code || at) {
+        vmm_answer answer = vmm_shared_block(session, size, page, fds[rows[i].is_file], rows[i].offset, &shared);
+        if (answer.code != rows[i].code || shared.mapping) {
             return 21 + (int)i;
         }
     }
-    if (vmm_shared_block(session, page, 0, file, 0, &at).code != VMM_BAD_CALL || at) {
+    if (vmm_shared_block(session, page, 0, file, 0, &shared).code != VMM_BAD_CALL || shared.mapping) {
         return 30;
+    }
+    uint8_t byte = 1;
+    vmm_place places[] = {{NULL, 1}, {&byte, 0}, {&byte, (size_t)1 << 63}, {&byte, SIZE_MAX}};
+    for (size_t i = 0; i < sizeof places / sizeof *places; i++) {
+        if (vmm_block_at(session, places[i], page).code != VMM_INVALID_SIZE) {
+            return 31 + (int)i;
+        }
     }
     close(file);
     close(ends[0]);
@@ -50,18 +57,19 @@ static void *sessions(void *end) {
     for (size_t i = 0; i < 100; i++) {
         size_t size = sizes[i % 4];
         vmm_session session = {0};
-        void *at = NULL;
+        vmm_shared shared = {NULL, NULL, 0};
         int made = vmm_open(&session) == VMM_DONE && vmm_block(&session, size, 0x1000).code == VMM_DONE &&
-                   vmm_shared_block(&session, size, 0x1000, -1, 0, &at).code == VMM_DONE &&
+                   vmm_shared_block(&session, size, 0x1000, -1, 0, &shared).code == VMM_DONE &&
                    vmm_copy(&session, 0, 0, size, 1, 0, size).code == VMM_DONE;
-        if (!made || memcmp(at, "\0", 2) != 0 || (size >= 0x200000 && (uintptr_t)at % 0x200000 != 0)) {
+        if (!made || memcmp(shared.address, "\0", 2) != 0) {
             return end;
         }
-        memcpy((char *)at + size - 1, "\7", 1);
+        shared.address[size - 1] = 7;
         if (vmm_copy(&session, 1, size - 1, 1, 0, 0, 1).code != VMM_DONE) {
             return end;
         }
         vmm_close(&session);
+        vmm_unmap(&shared);
     }
     return NULL;
 }
@@ -91,6 +99,75 @@ static int threads(void) {
     return !sessions(&end) && before > 0 && mappings() == before ? 0 : 42;
 }
 
+/* Bytes of this program's own, of any length and at any place. They are the block's as they are, and those beside them
+ * are not. */
+static int own_bytes(void) {
+    uint8_t bytes[5003];
+    memset(bytes, 5, sizeof bytes);
+    vmm_session session = {0};
+    vmm_place place = {bytes + 1, sizeof bytes - 2};
+    if (vmm_open(&session) != VMM_DONE || vmm_block_at(&session, place, 0x1000).value != 0) {
+        return 50;
+    }
+    if (vmm_block(&session, place.size, 0x1000).value != 1 ||
+        vmm_copy(&session, 1, 0, place.size - 1, 0, 1, place.size - 1).code != VMM_DONE) {
+        return 51;
+    }
+    if (vmm_copy(&session, 1, 0, 1, 0, place.size, 1).code != VMM_BAD_RANGE) {
+        return 52;
+    }
+    uint8_t pages[16] = {0};
+    if (vmm_dirty_block(&session, 0, pages, sizeof pages).count != 2 || vmm_number(pages, 1) != 1) {
+        return 53;
+    }
+    vmm_close(&session);
+    if (bytes[0] != 5 || bytes[1] != 5 || bytes[2] != 0 || bytes[5001] != 0 || bytes[5002] != 5) {
+        return 54;
+    }
+    return 0;
+}
+
+/* Files that are shared and given back, again and again. None stays mapped, and the block that stays keeps its bytes. */
+static int given_back(size_t page) {
+    vmm_session session = {0};
+    vmm_shared stays, shared;
+    if (vmm_open(&session) != VMM_DONE ||
+        vmm_shared_block(&session, page, page, -1, 0, &stays).code != VMM_DONE) {
+        return 60;
+    }
+    stays.address[page - 1] = 9;
+    int before = mappings();
+    for (size_t round = 1; round < 500; round++) {
+        uint8_t regions[16] = {1}, byte = 0;
+        int file = memfd_create("plugged", MFD_CLOEXEC);
+        if (file < 0 || ftruncate(file, (off_t)(4 * page)) != 0 ||
+            vmm_shared_block(&session, 4 * page, page, file, 0, &shared).value != round) {
+            return 61;
+        }
+        close(file);
+        vmm_region(&session, round, page);
+        vmm_region(&session, 0, 0);
+        vmm_layout(&session, regions, sizeof regions);
+        if (vmm_plain(&session, 0).value != 0 || vmm_write(&session, 0, page - 2, "ab", 2).count != 2 ||
+            vmm_write(&session, 0, page, "plugged", 7).count != 7 || memcmp(shared.address, "plugged", 7) != 0) {
+            return 62;
+        }
+        if (vmm_give_back(&session, round) != VMM_IN_USE) {
+            return 63;
+        }
+        vmm_forget_regions(&session);
+        if (vmm_give_back(&session, round) != VMM_DONE || vmm_give_back(&session, round) != VMM_NO_SUCH ||
+            vmm_read(&session, 0, page - 1, &byte, 1).code != VMM_NO_SUCH) {
+            return 64;
+        }
+        vmm_unmap(&shared);
+    }
+    int is_kept = memcmp(stays.address + page - 2, "ab", 2) == 0 && before > 0 && mappings() == before;
+    vmm_close(&session);
+    vmm_unmap(&stays);
+    return is_kept ? 0 : 65;
+}
+
 int main(void) {
     size_t page = (size_t)sysconf(_SC_PAGESIZE);
     int file = memfd_create("guest", MFD_CLOEXEC | MFD_ALLOW_SEALING);
@@ -104,17 +181,19 @@ int main(void) {
     }
     int failed = refusals(&session, page);
     failed = failed ? failed : threads();
+    failed = failed ? failed : own_bytes();
+    failed = failed ? failed : given_back(page);
     if (failed) {
         return failed;
     }
 
     /* A block of the file's last two pages, and one of private memory. */
-    void *shared = NULL, *own = NULL;
+    vmm_shared shared, own, later;
     vmm_answer answer = vmm_shared_block(&session, 2 * page, page, file, page, &shared);
     if (answer.code != VMM_DONE || answer.value != 0) {
         return 3;
     }
-    if (vmm_shared_block(&session, page, page, -1, 0, &own).value != 1 || !own) {
+    if (vmm_shared_block(&session, page, page, -1, 0, &own).value != 1) {
         return 4;
     }
     close(file);
@@ -131,7 +210,7 @@ int main(void) {
     if (vmm_write(&session, 0, 0x10000 + 2 * page - 3, "monitor", 7).count != 7) {
         return 6;
     }
-    if (memcmp(guest + 3 * page - 3, "mon", 3) != 0 || memcmp(own, "itor", 4) != 0) {
+    if (memcmp(guest + 3 * page - 3, "mon", 3) != 0 || memcmp(own.address, "itor", 4) != 0) {
         return 7;
     }
     memcpy(guest + page + 8, "\1\2\3\4", 4);
@@ -143,11 +222,14 @@ int main(void) {
         return 9;
     }
     /* A block that is shared later, while the machine runs. */
-    answer = vmm_shared_block(&session, page, page, -1, 0, &own);
+    answer = vmm_shared_block(&session, page, page, -1, 0, &later);
     if (answer.code != VMM_DONE || answer.value != 2) {
         return 10;
     }
     vmm_close(&session);
+    vmm_unmap(&shared);
+    vmm_unmap(&own);
+    vmm_unmap(&later);
     if (memcmp(guest + page, "guest", 5) != 0) {
         return 11;
     }

@@ -7,7 +7,8 @@
  *
  * The caller opens a session before it calls it, and closes it once. It makes one call at a time of a session, from any
  * thread, keeps no pointer into it except those that vmm_shared_block gives, does not copy its handle, and gives true
- * lengths. Build a program with vm_memory_heap.c, which has the allocator that the static library calls.
+ * lengths. Build a program with vm_memory_heap.c, which has the allocator that the static library calls, and one with
+ * shared blocks also with vm_memory_shared.c.
  */
 #ifndef VM_MEMORY_H
 #define VM_MEMORY_H
@@ -35,7 +36,7 @@ enum vmm_kind {
     VMM_SET_QUEUE, VMM_RESET_QUEUE, VMM_QUEUE_STATE, VMM_FORGET, VMM_QUEUE_IS_VALID, VMM_AVAIL_IDX,
     VMM_USED_IDX, VMM_POP, VMM_READ_CHAIN, VMM_WRITE_CHAIN, VMM_ADD_USED, VMM_NEEDS_NOTIFICATION,
     VMM_ENABLE_NOTIFICATION, VMM_DISABLE_NOTIFICATION, VMM_BEGIN_REQUEST, VMM_FINISH_REQUEST,
-    VMM_IOTLB_MESSAGE, VMM_COMPLETE_CHAIN, VMM_PACKED_QUEUE
+    VMM_IOTLB_MESSAGE, VMM_COMPLETE_CHAIN, VMM_PACKED_QUEUE, VMM_LIST_SEGMENTS
 };
 
 /* An access. */
@@ -44,7 +45,7 @@ enum vmm_access { VMM_NO, VMM_R, VMM_W, VMM_RW };
 /* Why a call was refused, or 0. docs/BINDINGS.md says what the other fields of an answer mean for each. */
 enum vmm_code {
     VMM_DONE = 0, VMM_NO_SUCH = 1, VMM_BAD_RANGE = 2, VMM_OUT_OF_MEMORY = 3, VMM_FAILS = 4,
-    VMM_INVALID_SIZE = 5, VMM_INVALID_REGION = 6,
+    VMM_INVALID_SIZE = 5, VMM_INVALID_REGION = 6, VMM_IN_USE = 7,
     VMM_BAD_CALL = 16, VMM_SHORT = 18,
     VMM_NO_CHAIN = 19, VMM_IN_FLIGHT = 20, VMM_TOO_MANY = 21, VMM_NOT_IN_FLIGHT = 22,
     VMM_INVALID_GUEST_ADDRESS = 32,
@@ -58,7 +59,7 @@ enum vmm_code {
     VMM_IOTLB_TOO_SMALL = 53, VMM_NO_IOTLB = 54,
     VMM_MESSAGE_KIND = 57, VMM_MESSAGE_EMPTY_RANGE = 58, VMM_MESSAGE_RANGE = 59, VMM_MESSAGE_PERMISSIONS = 60,
     VMM_MESSAGE_USER_ADDRESS = 61,
-    VMM_NOT_PAGED = 64, VMM_NO_FILE = 65, VMM_FILE_SHORT = 66, VMM_NOT_MAPPED = 67, VMM_NOT_SHARED = 68,
+    VMM_NOT_PAGED = 64, VMM_NO_FILE = 65, VMM_FILE_SHORT = 66, VMM_NOT_MAPPED = 67,
     VMM_INVALID_MAX_SIZE = 70, VMM_INVALID_QUEUE_SIZE = 71, VMM_INVALID_DESC_TABLE_ALIGN = 72,
     VMM_INVALID_AVAIL_RING_ALIGN = 73, VMM_INVALID_USED_RING_ALIGN = 74, VMM_QUEUE_NOT_READY = 75,
     VMM_ADDRESS_OVERFLOW = 76, VMM_INVALID_AVAIL_RING_INDEX = 77, VMM_INVALID_DESCRIPTOR_INDEX = 78,
@@ -121,12 +122,29 @@ typedef struct vmm_answer {
     vmm_miss miss;
 } vmm_answer;
 
-/* The three functions of the library. `vmm_open` returns VMM_DONE or VMM_OUT_OF_MEMORY. `vmm_call` writes the first four
- * members of `answer`, and `miss` if a table refused the call. */
+/* Bytes of the caller's: `size` of them, at a pointer. */
+typedef struct vmm_place {
+    uint8_t *at;
+    size_t size;
+} vmm_place;
+
+/* The functions of the library on sessions. `vmm_open` returns VMM_DONE or VMM_OUT_OF_MEMORY. `vmm_call` writes the first
+ * four members of `answer`, and `miss` if a table refused the call. `vmm_lend` writes these four, too, and is called
+ * through vmm_block_at. */
 uint32_t vmm_open(vmm_session *session);
 void vmm_call(vmm_session *session, const vmm_request *call, const uint8_t *input, size_t input_size,
               uint8_t *output, size_t output_size, vmm_answer *answer, vmm_miss *miss);
+void vmm_lend(vmm_session *session, vmm_place place, size_t page, vmm_answer *answer);
 void vmm_close(vmm_session *session);
+
+/* Forgets all regions, layouts and memories, whose numbers begin at 0 again. Everything else stays. */
+void vmm_forget_regions(vmm_session *session);
+
+/* Gives a block back, so that the session forgets its bytes and its dirty pages. Its number stays, and each later call that
+ * names it is VMM_NO_SUCH. Returns VMM_DONE, and then bytes of the caller's are the caller's again; or VMM_NO_SUCH,
+ * VMM_IN_USE (a region, a layout or a memory is there: vmm_forget_regions comes first) or VMM_OUT_OF_MEMORY, and nothing
+ * changed. */
+uint32_t vmm_give_back(vmm_session *session, size_t block);
 
 /* A call with an input and an output, either of which may be of no bytes and null. */
 static inline vmm_answer vmm_asked(vmm_session *session, const vmm_request *call, const void *input,
@@ -152,7 +170,7 @@ static inline vmm_request vmm_at(enum vmm_kind kind, size_t first, uint64_t addr
     return call;
 }
 
-/* Setup: each returns the number of what was made in `value`. */
+/* Setup: each returns the number of what was made in `value`. A page or a limit of 0 is VMM_BAD_CALL. */
 
 static inline vmm_answer vmm_block(vmm_session *s, size_t size, size_t page) {
     vmm_request call = vmm_at(VMM_BLOCK, 0, 0, size);
@@ -160,12 +178,34 @@ static inline vmm_answer vmm_block(vmm_session *s, size_t size, size_t page) {
     return vmm_asked(s, &call, NULL, 0, NULL, 0);
 }
 
-/* A block whose bytes the caller shares with its guest: those of the file `fd` from `offset` on, or with `fd` -1
- * private memory. `*address` is where they lie, until the session is closed. It is refused as vmm_block is, or with
- * VMM_NOT_PAGED (the size or the offset is no multiple of the system's page), VMM_NO_FILE (`fd` is no regular file),
- * VMM_FILE_SHORT, or VMM_NOT_MAPPED (`count` is the system's error), and nothing changed then. With VMM_NOT_SHARED
- * there is a block, `value`, but it has private memory: `count` is the system's error. vm_memory_heap.c has this. */
-vmm_answer vmm_shared_block(vmm_session *session, size_t size, size_t page, int fd, uint64_t offset, void **address);
+/* A block whose bytes are the caller's: those at `place`, as they are. Nothing is copied or cleared, and no page is dirty.
+ * The caller promises that they are mapped, can be read and written, and are this block's alone, beside its guest, until
+ * the block is given back or the session closed: no other block has one of them, no input or output of a call lies in
+ * them, and nothing in this process but the library reads or writes them while a call runs. Then they are the caller's to
+ * free. It is refused as vmm_block is, and if `place` is null or has no bytes or 2^63 and more with VMM_INVALID_SIZE, and
+ * nothing changed then. */
+static inline vmm_answer vmm_block_at(vmm_session *s, vmm_place place, size_t page) {
+    vmm_answer answer = {VMM_INVALID_SIZE, 0, 0, 0, {0, 0, 0}};
+    if (place.at && place.size != 0 && place.size >> 63 == 0) {
+        vmm_lend(s, place, page, &answer);
+    }
+    return answer;
+}
+
+/* A mapping of whole pages, and where the bytes of a block lie in it. */
+typedef struct vmm_shared {
+    uint8_t *address, *mapping;
+    size_t mapped;
+} vmm_shared;
+
+/* A block whose bytes the caller shares with its guest: those of the file `fd` from `offset` on, or with `fd` -1 private
+ * memory. They are mapped, and `*shared` says where: the caller calls vmm_unmap after it gave the block back or closed the
+ * session. It is refused as vmm_block is, or with VMM_NOT_PAGED (the size or the offset is no multiple of the system's
+ * page), VMM_NO_FILE (`fd` is no regular file), VMM_FILE_SHORT, or VMM_NOT_MAPPED (`count` is the system's error), and
+ * nothing changed then. On huge pages those that the bytes have in part are mapped whole. vm_memory_shared.c has this. */
+vmm_answer vmm_shared_block(vmm_session *session, size_t size, size_t page, int fd, uint64_t offset,
+                            vmm_shared *shared);
+void vmm_unmap(vmm_shared *shared);
 
 static inline vmm_answer vmm_space(vmm_session *s, size_t size, size_t page) {
     vmm_request call = vmm_at(VMM_SPACE, 0, 0, size);
@@ -340,7 +380,8 @@ typedef struct vmm_user_region {
  * refused because an allocation fails. A malformed message is refused with VMM_MESSAGE_KIND and so on, and maps nothing;
  * if it is an INVALIDATE, all addresses are unmapped. A call that was refused with VMM_IOMMU_MISSING is made again after
  * its UPDATE was applied so, until it is not. It ends then: if the table has a limit, the call is refused with
- * VMM_IOTLB_TOO_SMALL if it needs more ranges than that (docs/BINDINGS.md). */
+ * VMM_IOTLB_TOO_SMALL if it needs more ranges than that (docs/BINDINGS.md). The value of the answer is how many ranges
+ * the table evicted for an UPDATE. */
 static inline vmm_answer vmm_iotlb_message(vmm_session *s, size_t memory, const void *input, size_t input_size) {
     vmm_request call = vmm_at(VMM_IOTLB_MESSAGE, memory, 0, 0);
     return vmm_asked(s, &call, input, input_size, NULL, 0);
@@ -566,6 +607,13 @@ static inline vmm_answer vmm_complete_chain(vmm_session *s, size_t queue, size_t
     return vmm_asked(s, &call, bytes, size, NULL, 0);
 }
 
+/* The segments of a chain in flight go to `list`, sixteen bytes each: its address and its length. Those that the device
+ * reads come first: `count` is the number of all, and `value` that of these. `list_size` is in bytes. */
+static inline vmm_answer vmm_list_segments(vmm_session *s, size_t queue, size_t head, void *list, size_t list_size) {
+    vmm_request call = vmm_on(VMM_LIST_SEGMENTS, queue, 0, head);
+    return vmm_asked(s, &call, NULL, 0, list, list_size);
+}
+
 /* Drops a chain in flight, and returns nothing to the driver. */
 static inline vmm_answer vmm_forget(vmm_session *s, size_t queue, size_t head) {
     vmm_request call = vmm_on(VMM_FORGET, queue, 0, head);
@@ -591,23 +639,33 @@ static inline vmm_answer vmm_disable_notification(vmm_session *s, size_t queue, 
 
 /* Requests of a block device whose disk is the caller's: crates/virtio_blk/README.md. */
 
-/* Says what the request of a chain in flight asks a device for, and changes nothing. The disk has `sectors` sectors, and
- * the driver accepted these features, each as its bit: 9 is FLUSH. `value` is one of vmm_blk_request:
+/* What a request is held against: the disk has `sectors` sectors, and the driver accepted these features, each as its bit:
+ * 9 is FLUSH. If it accepted SEG_MAX, a request has at most `seg_max` data segments, two fewer than its chain has in all,
+ * and if it accepted SIZE_MAX, each segment of the chain has at most `size_max` bytes. 0 is no limit. */
+typedef struct vmm_blk_terms {
+    uint64_t sectors, features;
+    int read_only;
+    uint32_t seg_max, size_max;
+} vmm_blk_terms;
+
+/* Says what the request of a chain in flight asks a device for, and changes nothing. `value` is one of vmm_blk_request:
  * - VMM_BLK_READ: `count` bytes of the disk, from the sector `address` on, go to the front of the writable bytes.
  * - VMM_BLK_WRITE: the `count` readable bytes from the offset 16 on go to the disk, from the sector `address` on.
  * - VMM_BLK_WRITE_STABLE: the same, and they are made stable before vmm_finish_request.
  * - VMM_BLK_FLUSH: what was written before is made stable.
  * - VMM_BLK_GET_ID: the first `count` bytes of the device's name of 20 go to the front of the writable bytes.
- * - VMM_BLK_REFUSED: nothing is done, and the status is `count`.
+ * - VMM_BLK_REFUSED: nothing is done, and the status is `count`. The header of one that breaks a limit is not read.
  * - VMM_BLK_UNSERVED: nothing is done, as there is no byte for the status.
  * The sectors lie on the disk. If an IOMMU refuses an access, nothing is decided, and the call is made again after the
  * mapping came. */
-static inline vmm_answer vmm_begin_request(vmm_session *s, size_t queue, size_t memory, size_t head, uint64_t sectors,
-                                           int read_only, uint64_t features) {
+static inline vmm_answer vmm_begin_request(vmm_session *s, size_t queue, size_t memory, size_t head,
+                                           vmm_blk_terms terms) {
     vmm_request call = vmm_on(VMM_BEGIN_REQUEST, queue, memory, head);
-    call.target = sectors;
-    call.access = (uint32_t)(read_only ? VMM_R : VMM_RW);
-    call.value = features;
+    call.target = terms.sectors;
+    call.access = (uint32_t)(terms.read_only ? VMM_R : VMM_RW);
+    call.value = terms.features;
+    call.length = terms.seg_max;
+    call.other_length = terms.size_max;
     return vmm_asked(s, &call, NULL, 0, NULL, 0);
 }
 
@@ -852,13 +910,13 @@ static inline const char *vmm_code_text(uint32_t code) {
     case VMM_FAILS: return "the look-up fails";
     case VMM_INVALID_SIZE: return "invalid size of a block";
     case VMM_INVALID_REGION: return "invalid guest region";
-    case VMM_BAD_CALL: return "a call means nothing";
+    case VMM_IN_USE: return "a region, a layout or a memory is there";
+    case VMM_BAD_CALL: return "a page or a limit is 0, or a call has no meaning";
     case VMM_SHORT: return "the output is too short";
     case VMM_NOT_PAGED: return "a size or an offset is no multiple of a page";
     case VMM_NO_FILE: return "not a regular file";
     case VMM_FILE_SHORT: return "the file ends before the block";
     case VMM_NOT_MAPPED: return "the file could not be mapped";
-    case VMM_NOT_SHARED: return "the block has private memory, as its mapping could not be moved";
     default: return text ? text : "no code of the library";
     }
 }

@@ -14,8 +14,7 @@
 //! fn serve(disk: &mut [u8], chain: &DescriptorChain<'_>, memory: &GuestMemory<'_>) -> Result<u32, QueueError> {
 //!     let terms = Terms {
 //!         sectors: (disk.len() / SECTOR_LEN) as u64,
-//!         read_only: false,
-//!         acked: 0,
+//!         ..Terms::default()
 //!     };
 //!     let status_of = |is_done| if is_done { VIRTIO_BLK_S_OK } else { VIRTIO_BLK_S_IOERR };
 //!     let (status, moved) = match chain.begin_request(memory, terms)? {
@@ -65,7 +64,7 @@ pub const SECTOR_LEN: usize = 512;
 pub const HEADER_LEN: usize = 16;
 
 /// What a request is held against: the disk, and what the driver accepted.
-#[derive(Clone, Copy, Debug, PartialEq, Eq)]
+#[derive(Clone, Copy, Debug, Default, PartialEq, Eq)]
 pub struct Terms {
     /// The number of sectors of the disk, each of 512 bytes.
     pub sectors: u64,
@@ -73,6 +72,12 @@ pub struct Terms {
     pub read_only: bool,
     /// The features that the driver accepted, each as its bit. [`VIRTIO_BLK_F_FLUSH`] is the one that counts.
     pub acked: u64,
+    /// The most data segments of a request, if the driver accepted SEG_MAX: a chain may have two more, for the header
+    /// and the status. 0 is no limit.
+    pub seg_max: Option<u32>,
+    /// The most bytes of a segment, if the driver accepted SIZE_MAX. It counts for each segment of a chain, those of the
+    /// header and the status too. 0 is no limit.
+    pub size_max: Option<u32>,
 }
 
 /// What a device has to do for a request. The sectors of a `Read` or a `Write` are whole, and lie on the disk.
@@ -133,7 +138,8 @@ impl Request {
 impl DescriptorChain<'_> {
     /// Reads the header of a request and says what the device has to do. Nothing changes.
     ///
-    /// A wrong request is not an error, but [`Request::Refused`]. If an IOMMU refuses an access to the header, or an
+    /// A wrong request is not an error, but [`Request::Refused`]. One that breaks a limit of the terms is refused before
+    /// its header is read. If an IOMMU refuses an access to the header, or an
     /// allocation fails, nothing is decided. A device whose mappings come later makes the call again then.
     #[inline]
     pub fn begin_request(&self, mem: &GuestMemory<'_>, terms: Terms) -> Result<Request, QueueError> {
@@ -146,6 +152,8 @@ impl DescriptorChain<'_> {
         call.target = terms.sectors;
         call.access = access as u32;
         call.value = terms.acked;
+        call.length = terms.seg_max.unwrap_or(0) as usize;
+        call.other_length = terms.size_max.unwrap_or(0) as usize;
         self.ask(&call).map(|answer| Request::new(&answer))
     }
 

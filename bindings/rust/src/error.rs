@@ -186,7 +186,9 @@ pub enum MachineError {
     InvalidSize,
     /// A region ends past the greatest address.
     InvalidRegion,
-    /// A page or a limit is 0, or a call of plain numbers means nothing.
+    /// A region, a layout or a memory is there, which may name the block.
+    InUse,
+    /// A page or a limit is 0, or a call of plain numbers has no meaning.
     BadCall,
     /// An output of a call of plain numbers is too short: it has to have this many bytes.
     Short(usize),
@@ -204,7 +206,8 @@ impl fmt::Display for MachineError {
             MachineError::Memory => write!(f, "out of memory"),
             MachineError::InvalidSize => write!(f, "invalid size of a block"),
             MachineError::InvalidRegion => write!(f, "invalid guest region"),
-            MachineError::BadCall => write!(f, "a call means nothing"),
+            MachineError::InUse => write!(f, "a region, a layout or a memory is there"),
+            MachineError::BadCall => write!(f, "a page or a limit is 0, or a call has no meaning"),
             MachineError::Short(needed) => write!(f, "the output has to have {needed} bytes"),
             MachineError::Layout(error) => error.fmt(f),
             MachineError::GuestMemory(error) => error.fmt(f),
@@ -244,6 +247,7 @@ pub(crate) fn error_of(answer: &Answer) -> Option<MachineError> {
         code::MEMORY => return Some(MachineError::Memory),
         code::INVALID_SIZE => return Some(MachineError::InvalidSize),
         code::INVALID_REGION => return Some(MachineError::InvalidRegion),
+        code::IN_USE => return Some(MachineError::InUse),
         code::BAD_CALL => return Some(MachineError::BadCall),
         code::SHORT => return Some(MachineError::Short(answer.count)),
         code::NO_MEMORY_REGION => return Some(MachineError::Layout(GuestRegionCollectionError::NoMemoryRegion)),

@@ -1,17 +1,26 @@
-//! The calls of the static library and of the system. All `unsafe` of this crate lies here and in the allocator.
+//! The calls of the static library and of the system. All `unsafe` of this crate lies here, in the allocator and where
+//! memory is mapped.
 
-use crate::raw::{Answer, Call, Miss};
+use crate::mapping::Mapping;
+use crate::raw::{code, Answer, Call, Miss};
 use crate::vhost_user::raw::{Negotiated, Request, Vring};
 use crate::vhost_user::{LogPages, Offer, Region, Wanted};
-use std::cell::Cell;
+use std::cell::{Cell, RefCell};
 use std::ffi::{c_char, c_int, c_long, c_uint};
-use std::ptr::null_mut;
+use std::ptr::{null_mut, NonNull};
 
 // The handle of a session or a connection: where it lies.
 #[repr(C)]
 #[derive(Clone, Copy)]
 struct Handle {
     at: *mut u8,
+}
+
+// Bytes that become a block's.
+#[repr(C)]
+struct Place {
+    at: NonNull<u8>,
+    size: usize,
 }
 
 // A `&mut [u8]` crosses as a pointer and then a length, and the allocator, which takes no bytes, not at all.
@@ -28,6 +37,12 @@ unsafe extern "C" {
         answer: *mut Answer,
         miss: *mut Miss,
     );
+
+    fn vmm_lend(session: *mut Handle, place: Place, page_size: usize, answer: *mut Answer);
+
+    fn vmm_give_back(session: *mut Handle, block: usize) -> u32;
+
+    fn vmm_forget_regions(session: *mut Handle);
 
     fn vmm_close(session: *mut Handle);
 
@@ -92,7 +107,7 @@ unsafe extern "C" {
 
     pub(crate) fn munmap(at: *mut u8, size: usize) -> c_int;
 
-    pub(crate) fn mremap(at: *mut u8, size: usize, new_size: usize, flags: c_int, ...) -> *mut u8;
+    pub(crate) fn fstatfs(fd: c_int, about: *mut system::FileSystem) -> c_int;
 
     pub(crate) fn memfd_create(name: *const c_char, flags: c_uint) -> c_int;
 
@@ -105,21 +120,25 @@ unsafe extern "C" {
 pub(crate) mod system {
     use std::ffi::{c_int, c_uint};
 
-    pub(crate) const PROT_NONE: c_int = 0;
     pub(crate) const PROT_READ: c_int = 1;
     pub(crate) const PROT_WRITE: c_int = 2;
     pub(crate) const MAP_SHARED: c_int = 1;
     pub(crate) const MAP_PRIVATE: c_int = 2;
-    pub(crate) const MAP_FIXED: c_int = 0x10;
     pub(crate) const MAP_ANONYMOUS: c_int = 0x20;
-    pub(crate) const MAP_POPULATE: c_int = 0x8000;
-    pub(crate) const MREMAP_MAYMOVE: c_int = 1;
-    pub(crate) const MREMAP_FIXED: c_int = 2;
     pub(crate) const MFD_CLOEXEC: c_uint = 1;
     pub(crate) const MFD_ALLOW_SEALING: c_uint = 2;
     pub(crate) const F_ADD_SEALS: c_int = 1033;
     pub(crate) const F_SEAL_SHRINK: c_int = 2;
     pub(crate) const SC_PAGESIZE: c_int = 30;
+    pub(crate) const HUGETLBFS: i64 = 0x9584_58f6;
+
+    /// What the system says of a file system.
+    #[repr(C)]
+    pub(crate) struct FileSystem {
+        pub(crate) kind: i64,
+        pub(crate) block_size: i64,
+        rest: [u64; 13],
+    }
 }
 
 /// An open session. It is closed when it is dropped.
@@ -127,6 +146,9 @@ pub(crate) struct Session {
     handle: Cell<Handle>,
     // What the last call that a table refused missed first.
     miss: Cell<Miss>,
+    // The numbers of its shared blocks, and their bytes. It is closed before they are unmapped, since fields are dropped
+    // last.
+    mappings: RefCell<Vec<(usize, Mapping)>>,
 }
 
 // SAFETY: the session owns all that its handle points to, shares none of it, and is tied to no thread: the library's
@@ -142,6 +164,7 @@ impl Session {
         (code == 0).then(|| Session {
             handle: Cell::new(handle),
             miss: Cell::default(),
+            mappings: RefCell::default(),
         })
     }
 
@@ -165,6 +188,49 @@ impl Session {
                 self.miss.as_ptr(),
             );
         }
+    }
+
+    /// Makes a block of the bytes of a mapping, which the session keeps then, and answers as to a call that makes one.
+    pub(crate) fn lend(&self, mapping: Mapping, page_size: usize) -> Answer {
+        let mut answer = Answer::default();
+        let place = Place {
+            at: mapping.bytes(),
+            size: mapping.len(),
+        };
+        // The library takes no place of other lengths.
+        if place.size == 0 || place.size > isize::MAX as usize {
+            answer.code = code::INVALID_SIZE;
+            return answer;
+        }
+        let mut mappings = self.mappings.borrow_mut();
+        mappings.push((usize::MAX, mapping));
+        // SAFETY: the declaration fits the library's function, the handle is that of an open session, of which no other
+        // call runs, and the place is not null and has as many bytes as it says. They are the session's: nothing else in
+        // this process has a reference to them, and they are unmapped after the session is closed, or not its bytes.
+        unsafe { vmm_lend(self.handle.as_ptr(), place, page_size, &mut answer) };
+        if answer.code != code::DONE {
+            mappings.pop();
+        } else if let Some((number, _)) = mappings.last_mut() {
+            *number = answer.value as usize;
+        }
+        answer
+    }
+
+    /// Gives a block back, and the mapping of its bytes if it is a shared one, or a code.
+    pub(crate) fn give_back(&self, block: usize) -> Result<Option<Mapping>, u32> {
+        // SAFETY: the declaration fits the library's function, and the handle is that of an open session, of which no other
+        // call runs.
+        let code = unsafe { vmm_give_back(self.handle.as_ptr(), block) };
+        done(code, ())?;
+        let mut mappings = self.mappings.borrow_mut();
+        let place = mappings.iter().position(|(number, _)| *number == block);
+        Ok(place.map(|place| mappings.remove(place).1))
+    }
+
+    /// Forgets all regions, layouts and memories.
+    pub(crate) fn forget_regions(&self) {
+        // SAFETY: as `give_back`.
+        unsafe { vmm_forget_regions(self.handle.as_ptr()) }
     }
 
     /// Takes what the last call that a table refused missed first.

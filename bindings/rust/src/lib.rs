@@ -30,6 +30,8 @@ mod ffi;
 mod heap;
 pub mod iotlb;
 mod machine;
+#[allow(unsafe_code)]
+mod mapping;
 mod memory;
 mod number;
 pub mod queue;
@@ -44,5 +46,5 @@ pub use error::{GuestMemoryError, GuestRegionCollectionError, IommuError, Machin
 pub use machine::{IotlbFails, IovaRange, Machine, MappedRange, Miss, Permissions};
 pub use memory::{GuestAddress, GuestMemory};
 pub use number::{BlockId, LayoutId, MemoryId, QueueId, RegionId, SpaceId, TableId, TranslatorId};
-pub use shared::{memfd, SharedBlock, SharedBlockError};
+pub use shared::{memfd, SharedBlock, SharedBlockError, SharedMemory};
 pub use value::{AtomicAccess, ByteValued};

@@ -118,7 +118,7 @@ impl Machine {
     /// Takes what the last call missed first that a table refused, with `CannotResolve` or `TableTooSmall`, whatever it was
     /// a call of. `None` if none was refused since it was last taken, or if there was no memory to look it up.
     ///
-    /// A device asks for a mapping of just this, and makes the call again after it came:
+    /// A device asks for a mapping of just this, and makes the call again after it came, with the same bytes:
     /// [`apply_iotlb`](Machine::apply_iotlb).
     pub fn take_miss(&self) -> Option<Miss> {
         let miss = self.session.take_miss();
@@ -153,7 +153,7 @@ impl Machine {
 
     // ---- setup
 
-    /// Makes a block of `size` bytes, all zero, with dirty pages of `page_size` bytes.
+    /// Makes a block of `size` bytes, all zero, with dirty pages of `page_size` bytes. `BadCall` if that is 0.
     pub fn block(&self, size: usize, page_size: usize) -> Result<BlockId, MachineError> {
         self.made(Call {
             kind: kind::BLOCK,
@@ -164,7 +164,7 @@ impl Machine {
         .map(BlockId::new)
     }
 
-    /// Makes a space: a bitmap for `size` I/O addresses, with pages of `page_size`.
+    /// Makes a space: a bitmap for `size` I/O addresses, with pages of `page_size`. `BadCall` if that is 0.
     pub fn space(&self, size: usize, page_size: usize) -> Result<SpaceId, MachineError> {
         self.made(Call {
             kind: kind::SPACE,
@@ -175,7 +175,7 @@ impl Machine {
         .map(SpaceId::new)
     }
 
-    /// Makes an I/O table that maps nothing, with a limit of its ranges, or with none.
+    /// Makes an I/O table that maps nothing, with a limit of its ranges, or with none. `BadCall` if the limit is 0.
     pub fn table(&self, limit: Option<usize>) -> Result<TableId, MachineError> {
         self.made(Call {
             kind: if limit.is_some() {

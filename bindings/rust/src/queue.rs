@@ -60,7 +60,7 @@
 mod chain;
 mod error;
 
-pub use chain::{ChainId, DescriptorChain, Reader, Writer};
+pub use chain::{ChainId, DescriptorChain, Reader, Segment, Writer};
 pub use error::{ChainFault, QueueError};
 
 use crate::machine::Machine;

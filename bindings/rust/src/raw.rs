@@ -98,6 +98,7 @@ pub mod kind {
     pub const IOTLB_MESSAGE: u32 = 52;
     pub const COMPLETE_CHAIN: u32 = 53;
     pub const PACKED_QUEUE: u32 = 54;
+    pub const LIST_SEGMENTS: u32 = 55;
 }
 
 /// The parts of a queue that `SET_QUEUE` sets.
@@ -136,6 +137,7 @@ pub mod code {
     pub const FAILS: u32 = 4;
     pub const INVALID_SIZE: u32 = 5;
     pub const INVALID_REGION: u32 = 6;
+    pub const IN_USE: u32 = 7;
     pub const BAD_CALL: u32 = 16;
     pub const SHORT: u32 = 18;
     pub const NO_CHAIN: u32 = 19;

@@ -1,10 +1,11 @@
-//! The allocator that the library calls: memory of each size, by `malloc` and by mappings.
+//! The allocator that the library calls: memory of each size.
 
 use std::slice;
 use std::thread;
 use vm_memory_proved::Machine;
 
-const HUGE_PAGE: usize = 2 << 20;
+// From such a size on the C library maps memory.
+const LARGE: usize = 2 << 20;
 
 #[repr(C)]
 struct Tried {
@@ -28,8 +29,7 @@ struct Memory {
 impl Memory {
     fn new(tried: Tried, size: usize, byte: u8) -> Memory {
         assert!(tried.ok);
-        let alignment = if size >= HUGE_PAGE { HUGE_PAGE } else { 16 };
-        assert_eq!(tried.at as usize % alignment, 0, "{size}");
+        assert_eq!(tried.at as usize % 16, 0, "{size}");
         // SAFETY: the memory has that many bytes, and is this one's alone.
         unsafe { tried.at.write_bytes(byte, size) };
         let at = tried.at;
@@ -62,20 +62,9 @@ impl Memory {
     }
 }
 
-const SIZES: [usize; 9] = [
-    0,
-    1,
-    24,
-    4096,
-    200_000,
-    HUGE_PAGE - 1,
-    HUGE_PAGE,
-    HUGE_PAGE + 1,
-    3 * HUGE_PAGE,
-];
+const SIZES: [usize; 9] = [0, 1, 24, 4096, 200_000, LARGE - 1, LARGE, LARGE + 1, 3 * LARGE];
 
-// Many of each size at a time, each kept, made longer or shorter, and freed, in two threads. Some of what `malloc`
-// gives begins at a page.
+// Many of each size at a time, each kept, made longer or shorter, and freed, in two threads.
 #[test]
 fn memory_of_each_size_is_kept_and_freed() {
     // The crate has the allocator.
@@ -132,7 +121,7 @@ fn a_failure_is_answered() {
         // SAFETY: the declaration fits the function.
         let tried = unsafe { rattle_alloc(size, 1) };
         assert!(!tried.ok && !tried.at.is_null());
-        for from in [24, HUGE_PAGE] {
+        for from in [24, LARGE] {
             // SAFETY: the declarations fit the functions.
             let memory = Memory::new(unsafe { rattle_alloc(from, 8) }, from, 7);
             let tried = unsafe { rattle_realloc(memory.at, from, size, 8) };

@@ -334,7 +334,7 @@ fn what_is_remembered() {
 
 // ---- messages
 
-fn malformed(answer: Result<(), IotlbError>) -> Malformed {
+fn malformed(answer: Result<usize, IotlbError>) -> Malformed {
     match answer {
         Err(IotlbError::Malformed(malformed)) => malformed,
         answer => panic!("{answer:?}"),
@@ -529,4 +529,39 @@ fn messages_to_no_table() {
         assert_eq!(device.is_mapped(3), len <= 24);
         assert_eq!(machine.call(&call, &input, &mut []).code, wanted, "{len}");
     }
+}
+
+// A table that keeps three ranges says how many it evicted for each message: the first ones without the new address.
+#[test]
+fn evictions_are_counted() {
+    let machine = Machine::new().unwrap();
+    let device = Device::new(&machine, Some(3));
+    let set = |page: u64, pages: u64, permissions| {
+        let message = update(PAGE * page, PAGE * pages, USER + PAGE * page, permissions);
+        machine.apply_iotlb(device.id(), &message, &ALL).unwrap()
+    };
+    let (both, read) = (Permissions::ReadWrite, Permissions::Read);
+    let rows: [(u64, u64, Permissions, usize, &[u64]); 10] = [
+        (2, 1, both, 0, &[2]),
+        (4, 1, both, 0, &[2, 4]),
+        (6, 1, both, 0, &[2, 4, 6]),
+        // Page 2 goes.
+        (8, 1, both, 1, &[4, 6, 8]),
+        // It joins pages 4 and 6.
+        (5, 1, both, 0, &[4, 5, 6, 8]),
+        // It parts them again, and page 4 goes. What is only read is not listed.
+        (5, 1, read, 1, &[6, 8]),
+        (0, 16, both, 0, &[0, 1, 2, 3, 4, 5, 6, 7, 8, 9, 10, 11, 12, 13, 14, 15]),
+        (2, 1, read, 0, &[0, 1, 3, 4, 5, 6, 7, 8, 9, 10, 11, 12, 13, 14, 15]),
+        // Of five ranges the first two go: pages 0 and 1, and page 2.
+        (8, 1, read, 2, &[3, 4, 5, 6, 7, 9, 10, 11, 12, 13, 14, 15]),
+        // It covers what is there.
+        (0, 256, read, 0, &[]),
+    ];
+    for (number, (page, pages, permissions, evicted, mapped)) in rows.into_iter().enumerate() {
+        assert_eq!(set(page, pages, permissions), evicted, "row {number}");
+        assert_eq!(device.mapped(), mapped, "row {number}");
+    }
+    let answer = machine.apply_iotlb(device.id(), &invalidate(PAGE, PAGE), &[]);
+    assert_eq!(answer.unwrap(), 0);
 }

@@ -3,7 +3,7 @@
 mod ring;
 
 use ring::{at, Descriptor, Driver, INDIRECT, NEXT, WRITE};
-use vm_memory_proved::queue::QueueError;
+use vm_memory_proved::queue::{DescriptorChain, QueueError, Segment};
 use vm_memory_proved::{GuestMemory, Machine, MemoryId, Permissions};
 
 // Where guest memory begins. The queue lies at its beginning, and indirect tables and data behind it.
@@ -91,6 +91,20 @@ impl<'a> Guest<'a> {
         self.driver.put(index, indirect);
     }
 
+    // The segments of such a chain are those that the driver put there.
+    fn expect_listed(&self, chain: &DescriptorChain<'_>, count: u64) {
+        let segments = chain.segments().unwrap();
+        assert_eq!(segments.len() as u64, count);
+        for (segment, listed) in (0..).zip(segments) {
+            let wanted = Segment {
+                addr: at(self.base + DATA + place_of(segment)),
+                len: 1,
+                is_write_only: segment >= readable_of(count),
+            };
+            assert_eq!(listed, wanted, "segment {segment} of {count}");
+        }
+    }
+
     // Pops a chain of so many segments, reads all its bytes, writes all that are to be written, and returns it.
     fn expect_moved(&mut self, head: u16, count: u64) {
         let memory = self.driver.memory;
@@ -101,6 +115,7 @@ impl<'a> Guest<'a> {
         let writable = count as usize - readable;
         assert_eq!(chain.head_index(), head);
         assert_eq!((chain.readable_len(), chain.writable_len()), (readable, writable));
+        self.expect_listed(&chain, count);
         let mut bytes = vec![0xaa; count as usize];
         assert_eq!(chain.read_at(&memory, 0, &mut bytes).unwrap(), readable);
         let wanted: Vec<u8> = (0..readable as u64).map(byte_of).collect();

@@ -234,6 +234,66 @@ fn disks_of_any_number_of_sectors() {
     });
 }
 
+// ---- limits
+
+// What a chain asks for, if the driver keeps these limits.
+fn asks_within(guest: &mut Guest<'_>, segments: &[Segment], limits: [Option<u32>; 2]) -> Request {
+    let mut disks = [Disk::new(8), Disk::new(8)];
+    let terms = Terms {
+        seg_max: limits[0],
+        size_max: limits[1],
+        ..terms(8)
+    };
+    guest.serve(segments, segments.len(), &mut disks, terms).0
+}
+
+// SEG_MAX counts all but two segments, and SIZE_MAX the bytes of each, whatever is in it. A limit of 0 is none.
+#[test]
+fn chains_that_break_a_limit_are_refused() {
+    with_guest(|guest| {
+        let done = to_write(1, 1024, false);
+        let data = [read(DATA, 512), read(DATA + 512, 512)];
+        guest.set(HEADER, &header(OUT, 1));
+        let segments = [&[read(HEADER, 16)], &data[..], &[written(ROOM, 1)]].concat();
+        for (limits, asked) in [
+            ([None, None], done),
+            ([Some(2), Some(512)], done),
+            ([Some(u32::MAX), Some(u32::MAX)], done),
+            ([Some(0), Some(0)], done),
+            ([Some(1), None], IOERR),
+            ([None, Some(511)], IOERR),
+            ([Some(1), Some(512)], IOERR),
+            ([Some(2), Some(16)], IOERR),
+        ] {
+            assert_eq!(asks_within(guest, &segments, limits), asked, "{limits:?}");
+        }
+        // A header in two segments leaves one fewer for data. Without a byte for the status nothing is served.
+        let header = [read(HEADER, 8), read(HEADER + 8, 8)];
+        let segments = [&header[..], &data, &[written(ROOM, 1)]].concat();
+        assert_eq!(asks_within(guest, &segments, [Some(3), None]), done);
+        assert_eq!(asks_within(guest, &segments, [Some(2), None]), IOERR);
+        assert_eq!(
+            asks_within(guest, &segments[..4], [Some(1), Some(1)]),
+            Request::Unserved
+        );
+    });
+}
+
+// The segments of the header and of the status count.
+#[test]
+fn every_segment_has_at_most_so_many_bytes() {
+    with_guest(|guest| {
+        guest.set(HEADER, &header(FLUSH, 0));
+        let segments = [read(HEADER, 16), written(ROOM, 1)];
+        assert_eq!(asks_within(guest, &segments, [None, Some(16)]), Request::Flush);
+        assert_eq!(asks_within(guest, &segments, [None, Some(15)]), IOERR);
+        guest.set(HEADER, &header(IN, 2));
+        let segments = [read(HEADER, 16), written(ROOM, 513)];
+        assert_eq!(asks_within(guest, &segments, [None, Some(513)]), to_read(2, 512));
+        assert_eq!(asks_within(guest, &segments, [None, Some(512)]), IOERR);
+    });
+}
+
 // ---- bytes without memory
 
 // Serves a request of these segments, the header of which lies in the first ones, for a disk of eight sectors. Returns

@@ -140,6 +140,22 @@ fn a_completed_chain_waits_for_its_mappings() {
     assert_eq!(guest.driver.take(), Some((0, 5)));
 }
 
+// Of a chain that breaks a limit no byte is asked for.
+#[test]
+fn a_broken_limit_waits_for_no_mapping() {
+    let machine = Machine::new().unwrap();
+    let guest = &mut Guest::new(&machine, Way::Behind(None));
+    guest.publish(&[read(0x1000, 16), read(0x1200, 512), written(0x3000, 1)], 3);
+    let (memory, queue) = (guest.memory, guest.queue);
+    let (chain, _) = late(guest, || queue.pop_descriptor_chain(&memory));
+    let chain = chain.unwrap();
+    let size_max = Some(511);
+    let begun = late(guest, || chain.begin_request(&memory, Terms { size_max, ..terms(8) }));
+    assert_eq!(begun, (IOERR, vec![]));
+    let (_, refused) = late(guest, || chain.begin_request(&memory, terms(8)));
+    assert_eq!(refused, [(0x1000, 16)]);
+}
+
 // ---- a device that begins a request again
 
 // Does what a request asks for on a disk in memory, and returns its status and how many bytes it moved to the front of
@@ -286,6 +302,8 @@ fn random_terms(numbers: &mut Numbers) -> Terms {
         sectors: numbers.below(4).max(numbers.below(DISK as u64 + 1)),
         read_only: numbers.one_in(6),
         acked,
+        seg_max: numbers.one_in(8).then(|| numbers.below(4) as u32),
+        size_max: numbers.one_in(8).then(|| numbers.below(700) as u32),
     }
 }
 

@@ -2,7 +2,7 @@
 
 mod guest;
 
-use guest::{refuse, BusyGuest, Guest};
+use guest::{BusyGuest, Guest};
 use std::env;
 use std::fs::{self, File};
 use std::io::{Cursor, ErrorKind};
@@ -18,10 +18,6 @@ use vm_memory_proved::{
 
 const PAGE: usize = 0x1000;
 const BASE: u64 = 0x1_0000;
-
-// The numbers of two calls of Linux on x86-64.
-const MREMAP: u32 = 25;
-const MEMFD_CREATE: u32 = 319;
 
 fn at(addr: u64) -> GuestAddress {
     GuestAddress(addr)
@@ -512,59 +508,6 @@ fn a_guest_may_write_while_calls_run() {
     let copied = guest.0.read(3 * PAGE, 64);
     assert!(copied.iter().all(|&byte| byte == 1 || byte == 0xfe));
     assert_eq!(guest.0.read(3 * PAGE + 64, PAGE - 64), [0; PAGE - 64]);
-}
-
-// On a thread whose system calls fail. Then there is no block, or one with private memory, and the file is as it was.
-#[test]
-fn a_block_whose_mapping_does_not_move_has_private_memory() {
-    let run = |pages: usize| {
-        let file = file_of(pages);
-        let other = Guest::of_file(&file, pages * PAGE);
-        other.write(0, &[5; PAGE]);
-        let machine = Machine::new().unwrap();
-        let make = |size| machine.shared_block(size, PAGE, Some((file.as_fd(), 0)));
-        if !refuse(MREMAP) {
-            println!("left out, as this system refuses no calls");
-            return;
-        }
-        let refused = make(pages * PAGE).unwrap_err();
-        let SharedBlockError::NotShared { id, error } = refused else {
-            panic!("{refused}");
-        };
-        assert_eq!((id.number(), error.raw_os_error()), (0, Some(1)));
-        let region = machine.region(id, at(BASE)).unwrap();
-        let plain = machine.plain(machine.layout(&[region]).unwrap()).unwrap();
-        let memory = machine.memory(plain).unwrap();
-        // All of it is zero, and each byte is there once.
-        let last = BASE + ((pages - 1) * PAGE) as u64;
-        memory.write_slice(&[9; PAGE], at(last)).unwrap();
-        let mut bytes = vec![1; pages * PAGE];
-        memory.read_slice(&mut bytes, at(BASE)).unwrap();
-        assert!(bytes.chunks(PAGE).rev().skip(1).all(|page| page == [0; PAGE]));
-        assert_eq!(bytes[(pages - 1) * PAGE..], [9; PAGE]);
-        assert_eq!(other.read(0, PAGE), [5; PAGE]);
-    };
-    for pages in [2, 1536] {
-        thread::scope(|scope| scope.spawn(|| run(pages)).join().unwrap());
-    }
-}
-
-#[test]
-fn a_block_whose_zeros_find_no_room_is_not_made() {
-    let run = || {
-        let file = file_of(1024);
-        let machine = Machine::new().unwrap();
-        if !refuse(MEMFD_CREATE) {
-            println!("left out, as this system refuses no calls");
-            return;
-        }
-        let make = |pages| machine.shared_block(pages * PAGE, PAGE, Some((file.as_fd(), 0)));
-        let refused = make(1024).unwrap_err();
-        assert!(matches!(refused, SharedBlockError::Machine(MachineError::Memory)));
-        // A small one needs none, and is the first.
-        assert_eq!(make(512).unwrap().id().number(), 0);
-    };
-    thread::scope(|scope| scope.spawn(run).join().unwrap());
 }
 
 // ---- the allocator, and threads

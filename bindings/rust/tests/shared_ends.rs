@@ -32,14 +32,12 @@ fn round() {
         let ids = [private.id(), other, late.unwrap().id()];
         assert_eq!(ids.map(BlockId::number), [1, 2, 3]);
     }
-    // No memory for the list of dirty pages, and none for the bytes: a process has 2^47 addresses, and the file half.
-    for page in [1, 1 << 20] {
-        let size = 1 << 46;
-        let file = memfd(size as u64).unwrap();
-        let machine = Machine::new().unwrap();
-        let refused = machine.shared_block(size, page, Some((file.as_fd(), 0)));
-        assert!(matches!(refused, Err(SharedBlockError::Machine(MachineError::Memory))));
-    }
+    // No memory for the list of dirty pages.
+    let size = 1 << 46;
+    let file = memfd(size as u64).unwrap();
+    let machine = Machine::new().unwrap();
+    let refused = machine.shared_block(size, 1, Some((file.as_fd(), 0)));
+    assert!(matches!(refused, Err(SharedBlockError::Machine(MachineError::Memory))));
 }
 
 #[test]

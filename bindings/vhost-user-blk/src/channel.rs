@@ -1,15 +1,16 @@
 //! The back end's own channel, on which it asks for mappings.
 
+use crate::descriptor::{self, Kind};
 use crate::system::{self, Epoll, Watch, Watched};
 use std::io;
 use std::os::fd::OwnedFd;
+use std::os::linux::net::SocketAddrExt;
 use std::os::unix::net::UnixStream;
 use vm_memory_proved::vhost_user::{self, Refusal, ANSWER_LEN, MAX_MESSAGE};
 use vm_memory_proved::Miss;
 
 pub struct Channel {
-    socket: UnixStream,
-    _watched: Watched,
+    socket: Watched<UnixStream>,
     // How many MISSes have no reply yet, and the last one.
     awaited: usize,
     last: Option<Miss>,
@@ -29,12 +30,19 @@ pub enum Answer {
 }
 
 impl Channel {
-    pub fn new(descriptor: OwnedFd, epoll: &Epoll, number: u64) -> io::Result<Channel> {
+    /// Takes a socket beside that of the connection. The front end's own end of that one is refused: as long as this
+    /// program held it, the connection would not end.
+    pub fn new(descriptor: OwnedFd, beside: &UnixStream, epoll: &Epoll, number: u64) -> io::Result<Channel> {
+        descriptor::expect(&descriptor, &[Kind::Socket])?;
         let socket = UnixStream::from(descriptor);
-        let watched = epoll.watch(socket.try_clone()?.into(), number, Watch::Level)?;
+        let (peer, own) = (socket.peer_addr()?, beside.local_addr()?);
+        let is_same = peer.as_pathname() == own.as_pathname() && peer.as_abstract_name() == own.as_abstract_name();
+        if is_same && !peer.is_unnamed() {
+            let text = "it is the front end's end of a connection with this program";
+            return Err(io::Error::new(io::ErrorKind::InvalidInput, text));
+        }
         Ok(Channel {
-            socket,
-            _watched: watched,
+            socket: epoll.watch(socket, number, Watch::Level)?,
             awaited: 0,
             last: None,
             bytes: [0; ANSWER_LEN],
@@ -50,7 +58,7 @@ impl Channel {
         }
         let mut room = [0; MAX_MESSAGE];
         let message = vhost_user::miss(miss.iova_range.base.0, miss.access, &mut room);
-        system::send(&self.socket, message)?;
+        system::send(self.socket.it(), message)?;
         self.awaited += 1;
         self.last = Some(miss);
         Ok(true)
@@ -60,13 +68,13 @@ impl Channel {
     pub fn say_forbidden(&self, miss: Miss) -> io::Result<()> {
         let mut room = [0; MAX_MESSAGE];
         let message = vhost_user::access_fail(miss.iova_range.base.0, miss.access, &mut room);
-        system::send(&self.socket, message)
+        system::send(self.socket.it(), message)
     }
 
     /// Takes what has come, up to one reply.
     pub fn receive(&mut self) -> io::Result<Answer> {
         let mut descriptors = Vec::new();
-        let count = match system::receive(&self.socket, &mut self.bytes[self.len..], &mut descriptors) {
+        let count = match system::receive(self.socket.it(), &mut self.bytes[self.len..], &mut descriptors) {
             Ok(0) => return Ok(Answer::Gone),
             Ok(count) => count,
             Err(error) if error.kind() == io::ErrorKind::WouldBlock => return Ok(Answer::Nothing),

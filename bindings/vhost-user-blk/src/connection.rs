@@ -1,24 +1,29 @@
 //! A connection: the front end's messages, and the rings that it has started.
 
+mod queues;
+
 use crate::channel::{Answer, Channel};
+use crate::descriptor::{self, Kick, Kind};
 use crate::disk::Disk;
 use crate::features;
 use crate::log::{Log, Logger};
 use crate::memory::{Files, Memory};
 use crate::options::Options;
 use crate::say;
-use crate::serve::{Fault, Place, Server, Step, Turn};
+use crate::serve::{Fault, Place, Server, Turn, Work};
+use crate::signal::{Signal, Signals, Watchdog};
 use crate::stats::TableStats;
 use crate::system::{self, Epoll, SharedBits, Watch, Watched};
+use queues::{set_up, take_state, unreached};
+use std::error::Error;
 use std::fmt;
-use std::fs::File;
-use std::io::{self, Write};
+use std::io;
 use std::os::fd::OwnedFd;
 use std::os::unix::net::UnixStream;
 use std::time::{Duration, Instant};
 use vm_memory_proved::queue::{Queue, QueueError, QueueState};
-use vm_memory_proved::vhost_user::{self, Backend, Refusal, Request, Vring, HEADER_LEN, MAX_DESCRIPTORS, MAX_MESSAGE};
-use vm_memory_proved::{GuestAddress, GuestMemoryError, IommuError, Miss, QueueId, Reason};
+use vm_memory_proved::vhost_user::{self, Backend, Refusal, Request, HEADER_LEN, MAX_DESCRIPTORS, MAX_MESSAGE};
+use vm_memory_proved::{Miss, QueueId};
 
 /// The number of the descriptor by which the program is ended, and of the socket. The back end's own channel and the rings
 /// come after them.
@@ -26,9 +31,6 @@ pub const ENDING: u64 = 0;
 pub const SOCKET: u64 = 1;
 const CHANNEL: u64 = 2;
 const RINGS: u64 = 3;
-
-// The most descriptors that all chains in flight may have. One chain may have them all: an indirect table has up to 65,535.
-const MAX_CHAIN: usize = 65_535 + 1;
 
 // How often a ring is looked at whose driver has no descriptor to notify by.
 const POLL: Duration = Duration::from_millis(1);
@@ -43,9 +45,11 @@ pub enum End {
     /// The front end broke the protocol, by a message of this number.
     Refused(u32, Refusal),
     /// What the front end asked for failed.
-    Failed(&'static str, Box<dyn std::error::Error>),
+    Failed(&'static str, Box<dyn Error>),
     /// Guest memory went away.
     MemoryLost,
+    /// A notification of the front end had to wait, which had it wait.
+    MadeToWait,
 }
 
 impl fmt::Display for End {
@@ -56,6 +60,7 @@ impl fmt::Display for End {
             End::Refused(request, refusal) => write!(f, "message {request} breaks the protocol: {refusal}"),
             End::Failed(what, error) => write!(f, "{what}: {error}"),
             End::MemoryLost => f.write_str("guest memory disappeared"),
+            End::MadeToWait => f.write_str("a full descriptor of the front end made the program wait"),
         }
     }
 }
@@ -70,14 +75,14 @@ struct Incoming {
 struct Ring {
     // Of the kind that was negotiated when it started.
     is_packed: bool,
-    kick: Option<Watched>,
-    call: Option<File>,
-    err: Option<File>,
+    kick: Option<Watched<Kick>>,
+    call: Option<Signal>,
+    err: Option<Signal>,
     // The machine's queue has what the front end set, and goes on where it is.
     is_set_up: bool,
     // Where it is while there is no memory.
     kept: Option<QueueState>,
-    step: Step,
+    work: Work,
     // It is to be served now.
     is_running: bool,
     is_polled: bool,
@@ -100,8 +105,10 @@ struct Waiting {
 pub struct Connection<'a> {
     socket: &'a UnixStream,
     epoll: &'a Epoll,
+    disk: &'a Disk,
+    signals: Signals,
     stats: Option<Duration>,
-    iotlb_limit: Option<usize>,
+    iotlb_limit: usize,
     backend: Backend,
     // The names of what was acknowledged when it was last said.
     said: (u64, u64),
@@ -110,6 +117,8 @@ pub struct Connection<'a> {
     // Of the machine of `memory`, a split one and a packed one for each ring.
     queues: Vec<[QueueId; 2]>,
     rings: Vec<Ring>,
+    // The ring that is looked at first in the next turn.
+    next_ring: usize,
     features: u64,
     channel: Option<Channel>,
     log: Option<Log>,
@@ -121,15 +130,22 @@ pub struct Connection<'a> {
 }
 
 impl<'a> Connection<'a> {
+    /// Begins a connection, if there is memory for it.
     pub fn new(
         socket: &'a UnixStream,
         epoll: &'a Epoll,
         disk: &'a Disk,
         options: &Options,
-    ) -> Result<Connection<'a>, Refusal> {
+        watchdog: &Watchdog,
+    ) -> Result<Connection<'a>, Box<dyn Error>> {
+        let mut rings = Vec::new();
+        rings.try_reserve_exact(options.queues as usize)?;
+        rings.extend((0..options.queues).map(|_| Ring::new()));
         Ok(Connection {
             socket,
             epoll,
+            disk,
+            signals: Signals::new(watchdog),
             stats: options.stats,
             iotlb_limit: options.iotlb_limit,
             backend: Backend::new(&features::offer(options), &features::config(disk, options))?,
@@ -141,14 +157,15 @@ impl<'a> Connection<'a> {
             },
             memory: None,
             queues: Vec::new(),
-            rings: (0..options.queues).map(|_| Ring::new()).collect(),
+            rings,
+            next_ring: 0,
             features: 0,
             channel: None,
             log: None,
             is_logging: false,
             waiting: None,
             table: TableStats::default(),
-            server: Server::new(disk),
+            server: Server::new(disk)?,
         })
     }
 
@@ -174,13 +191,12 @@ impl<'a> Connection<'a> {
                     ENDING => return Err(End::Terminated),
                     SOCKET => self.receive()?,
                     CHANNEL => self.receive_answer()?,
-                    number => self.rings[(number - RINGS) as usize].has_more = true,
+                    number => self.rings[(number - RINGS) as usize].take_kick(),
                 }
             }
-            for index in 0..self.rings.len() {
-                if self.is_due(index) {
-                    self.serve(index)?;
-                }
+            self.serve_turn()?;
+            if self.signals.has_waited() {
+                return Err(End::MadeToWait);
             }
             if let (Some(every), Some(time)) = (self.stats, next) {
                 if Instant::now() >= time {
@@ -198,6 +214,9 @@ impl<'a> Connection<'a> {
         }
         if let Some(log) = &self.log {
             say!("log: {} pages", log.marked());
+        }
+        if self.disk.sync_failed() {
+            say!("the image: a sync failed");
         }
     }
 
@@ -240,7 +259,7 @@ impl<'a> Connection<'a> {
             match system::receive(self.socket, part, &mut incoming.descriptors) {
                 Ok(0) => return Err(End::Gone),
                 Ok(count) => incoming.len += count,
-                Err(error) if error.kind() == io::ErrorKind::WouldBlock => return Ok(()),
+                Err(error) if error.kind() == io::ErrorKind::WouldBlock => return self.hold_descriptors(),
                 Err(error) if error.kind() == io::ErrorKind::Interrupted => (),
                 Err(error) => return Err(End::Failed("receiving", error.into())),
             }
@@ -248,6 +267,18 @@ impl<'a> Connection<'a> {
                 return Err(self.refused(Refusal::Descriptors));
             }
         }
+    }
+
+    // The rest of a message has not come. What came may not be the front end's own end, or hold it: as long as this program
+    // has it, the connection does not end. A message with such a descriptor has a header alone, and comes as a whole.
+    fn hold_descriptors(&self) -> Result<(), End> {
+        let failed = |error: io::Error| End::Failed("a descriptor", error.into());
+        for descriptor in &self.incoming.descriptors {
+            if Kind::of(descriptor).map_err(failed)?.may_hold_others() {
+                return Err(self.refused(Refusal::Descriptors));
+            }
+        }
+        Ok(())
     }
 
     fn refused(&self, refusal: Refusal) -> End {
@@ -291,68 +322,91 @@ impl<'a> Connection<'a> {
 
     // Does what a message asks for beside what the protocol's state has.
     fn perform(&mut self, request: Request, mut descriptors: Vec<OwnedFd>) -> Result<(), End> {
-        let failed = |error: io::Error| End::Failed("a descriptor", error.into());
+        if let Request::SetMemTable = request {
+            return self.set_memory(descriptors);
+        }
         let descriptor = descriptors.pop();
         match request {
-            Request::SetMemTable => {
-                descriptors.extend(descriptor);
-                self.set_memory(descriptors)?;
+            Request::GetVringBase { index } => {
+                self.stop(index);
+                Ok(())
             }
-            Request::GetVringBase { index } => self.stop(index),
-            Request::SetBackendReqFd => {
-                // A descriptor came, as the request has one.
-                let descriptor = descriptor.ok_or(io::ErrorKind::NotFound.into()).map_err(failed)?;
-                // One that came before is watched no more before this one is.
-                self.channel = None;
-                self.channel = Some(Channel::new(descriptor, self.epoll, CHANNEL).map_err(failed)?);
-            }
-            Request::SetVringKick { index, .. } => {
-                let ring = &mut self.rings[index as usize];
-                ring.let_go_of_kick();
-                ring.is_polled = descriptor.is_none();
-                if let Some(descriptor) = descriptor {
-                    system::never_wait(&descriptor).map_err(failed)?;
-                    let watched = self.epoll.watch(descriptor, RINGS + u64::from(index), Watch::Edge);
-                    ring.kick = Some(watched.map_err(failed)?);
-                }
-            }
+            Request::SetBackendReqFd => self.set_channel(descriptor),
+            Request::SetVringKick { index, .. } => self.set_kick(index, descriptor),
             Request::SetVringCall { index, .. } => {
+                let call = self.signal("the descriptor of calls", descriptor)?;
                 let ring = &mut self.rings[index as usize];
-                ring.call = file_of(descriptor).map_err(failed)?;
+                ring.call = call;
                 // A back end before this one may have ended between a request and its interrupt.
                 ring.interrupt();
+                Ok(())
             }
             Request::SetVringErr { index, .. } => {
-                self.rings[index as usize].err = file_of(descriptor).map_err(failed)?;
+                self.rings[index as usize].err = self.signal("the descriptor of errors", descriptor)?;
+                Ok(())
             }
-            Request::SetLogBase { size, offset } => {
-                let descriptor = descriptor.ok_or(io::ErrorKind::NotFound.into()).map_err(failed)?;
-                let call = self.log.as_mut().and_then(Log::take_call);
-                // One that came before is unmapped first.
-                self.log = None;
-                let bits = SharedBits::new(&descriptor, offset, size);
-                self.log = Some(Log::new(
-                    bits.map_err(|error| End::Failed("the log", error.into()))?,
-                    call,
-                ));
-            }
+            Request::SetLogBase { size, offset } => self.set_log(descriptor, offset, size),
             Request::SetLogFd => {
-                let call = file_of(descriptor).map_err(failed)?;
+                let call = self.signal("the descriptor of the log", descriptor)?;
                 if let Some(log) = &mut self.log {
                     log.set_call(call);
                 }
+                Ok(())
             }
             // The protocol's state has all that these ask for.
-            _ => (),
+            _ => Ok(()),
+        }
+    }
+
+    // What the front end is notified by, if it sent that.
+    fn signal(&self, what: &'static str, descriptor: Option<OwnedFd>) -> Result<Option<Signal>, End> {
+        let signal = descriptor.map(|it| self.signals.signal(it)).transpose();
+        signal.map_err(|error| End::Failed(what, error.into()))
+    }
+
+    fn set_channel(&mut self, descriptor: Option<OwnedFd>) -> Result<(), End> {
+        // One that came before is watched no more before this one is.
+        self.channel = None;
+        let channel = sent(descriptor).and_then(|it| Channel::new(it, self.socket, self.epoll, CHANNEL));
+        self.channel = Some(channel.map_err(|error| End::Failed("the back end's channel", error.into()))?);
+        Ok(())
+    }
+
+    fn set_kick(&mut self, index: u32, descriptor: Option<OwnedFd>) -> Result<(), End> {
+        let ring = &mut self.rings[index as usize];
+        ring.let_go_of_kick();
+        ring.is_polled = descriptor.is_none();
+        if let Some(descriptor) = descriptor {
+            let number = RINGS + u64::from(index);
+            let kick = Kick::new(descriptor).and_then(|kick| self.epoll.watch(kick, number, Watch::Edge));
+            ring.kick = Some(kick.map_err(|error| End::Failed("the descriptor of kicks", error.into()))?);
         }
         Ok(())
     }
 
-    // The same parts of the same files change nothing. Nothing is in flight: a request is served as a whole.
+    fn set_log(&mut self, descriptor: Option<OwnedFd>, offset: u64, size: u64) -> Result<(), End> {
+        let call = self.log.as_mut().and_then(Log::take_call);
+        // One that came before is unmapped first.
+        self.log = None;
+        let bits = sent(descriptor).and_then(|it| {
+            descriptor::expect(&it, &[Kind::File])?;
+            SharedBits::new(&it, offset, size)
+        });
+        self.log = Some(Log::new(
+            bits.map_err(|error| End::Failed("the log", error.into()))?,
+            call,
+        ));
+        Ok(())
+    }
+
+    // The same parts of the same files change nothing. For others, each ring gives back the request that is under way.
     fn set_memory(&mut self, descriptors: Vec<OwnedFd>) -> Result<(), End> {
         let regions = self.backend.regions();
-        let files = Files::new(&regions, descriptors);
-        let files = files.map_err(|error| End::Failed("the table of memory", error.into()))?;
+        let failed = |error: io::Error| End::Failed("the table of memory", error.into());
+        for descriptor in &descriptors {
+            descriptor::expect(descriptor, &[Kind::File]).map_err(failed)?;
+        }
+        let files = Files::new(&regions, descriptors).map_err(failed)?;
         if let Some(memory) = self.memory.as_mut().filter(|it| it.has(&files)) {
             memory.announce(&regions);
             return Ok(());
@@ -363,26 +417,34 @@ impl<'a> Connection<'a> {
                 self.rings[index].kept = Some(queue.state());
             }
         }
-        self.queues.clear();
-        self.memory = None;
+        let old = self.memory.take();
         if files.is_empty() {
+            self.queues.clear();
             return Ok(());
         }
-        let memory = Memory::new(files, self.iotlb_limit);
+        let memory = match old {
+            Some(old) => old.replaced(files),
+            None => Memory::new(files, self.iotlb_limit),
+        };
         let mut memory = memory.map_err(|error| End::Failed("the table of memory", error))?;
         memory.announce(&regions);
         let failed = |error: QueueError| End::Failed("a queue", error.into());
-        for ring in &mut self.rings {
-            let machine = memory.machine();
-            let split = machine.queue(features::MAX_QUEUE_SIZE, MAX_CHAIN).map_err(failed)?;
-            let packed = machine
-                .packed_queue(features::MAX_QUEUE_SIZE, MAX_CHAIN)
-                .map_err(failed)?;
-            if let Some(state) = ring.kept.take().filter(|_| ring.is_set_up) {
-                let queue = if ring.is_packed { &packed } else { &split };
-                take_state(queue, &state, ring.is_packed).map_err(failed)?;
+        let machine = memory.machine();
+        for (index, ring) in self.rings.iter_mut().enumerate() {
+            if self.queues.len() <= index {
+                let split = machine
+                    .queue(features::MAX_QUEUE_SIZE, features::MAX_CHAIN)
+                    .map_err(failed)?;
+                let packed = machine
+                    .packed_queue(features::MAX_QUEUE_SIZE, features::MAX_CHAIN)
+                    .map_err(failed)?;
+                self.queues.push([split.id(), packed.id()]);
             }
-            self.queues.push([split.id(), packed.id()]);
+            let queues = self.queues[index].map(|id| machine.queue_by_id(id).expect("the machine made it"));
+            queues.iter().for_each(Queue::reset);
+            if let Some(state) = ring.kept.take().filter(|_| ring.is_set_up) {
+                take_state(&queues[usize::from(ring.is_packed)], &state, ring.is_packed).map_err(failed)?;
+            }
         }
         self.memory = Some(memory);
         Ok(())
@@ -392,12 +454,8 @@ impl<'a> Connection<'a> {
 
     // Whether writes are marked in the log from now on. What was written before is none of the log's.
     fn refresh_log(&mut self) {
-        let was_logging = self.is_logging;
         // The first page is marked, or has no place in the log.
         self.is_logging = self.log.is_some() && self.backend.logged(0, 1).map_or(true, |pages| pages.count > 0);
-        if let Some(memory) = self.memory.as_ref().filter(|_| self.is_logging && !was_logging) {
-            memory.take_dirty();
-        }
     }
 
     // Applies a message to the table. No access runs meanwhile, and the reply is sent after it.
@@ -408,10 +466,9 @@ impl<'a> Connection<'a> {
         let Some(memory) = &self.memory else {
             return Ok(());
         };
-        let before = memory.unmapped();
-        let applied = memory.apply(payload);
-        applied.map_err(|error| End::Failed("a mapping", error.into()))?;
-        self.table.count(payload, &before, &memory.unmapped());
+        let evicted = memory.apply(payload);
+        let evicted = evicted.map_err(|error| End::Failed("a mapping", error.into()))?;
+        self.table.count(payload, evicted);
         if let Some(waiting) = &mut self.waiting {
             waiting.is_due = true;
         }
@@ -456,10 +513,7 @@ impl<'a> Connection<'a> {
 
     // A ring stops in the middle of a turn. The request that is under way becomes the next one again.
     fn give_back(&mut self, index: usize) {
-        let ring = &mut self.rings[index];
-        let step = ring.step;
-        ring.step = step.first();
-        if let Some(id) = step.chain() {
+        if let Some(id) = self.rings[index].work.give_up() {
             if let Some(queue) = self.queue(index) {
                 let head = queue.chain_by_id(id).head_index();
                 queue.forget(head).expect("its chain is in flight");
@@ -555,7 +609,7 @@ impl<'a> Connection<'a> {
         }
         let ring = &mut self.rings[index];
         if starts {
-            ring.step = Step::Start;
+            ring.work = Work::new();
         }
         ring.is_set_up = true;
         ring.is_broken = false;
@@ -576,7 +630,23 @@ impl<'a> Connection<'a> {
         }
     }
 
-    // Serves a turn of a ring.
+    // Serves a turn of the rings that are due. If it is over before their end, the next one goes on from there.
+    fn serve_turn(&mut self) -> Result<(), End> {
+        self.server.begin_turn();
+        for _ in 0..self.rings.len() {
+            let index = self.next_ring;
+            self.next_ring = (index + 1) % self.rings.len();
+            if self.is_due(index) {
+                self.serve(index)?;
+            }
+            if self.server.is_turn_over() {
+                break;
+            }
+        }
+        Ok(())
+    }
+
+    // Serves a ring in a turn.
     fn serve(&mut self, index: usize) -> Result<(), End> {
         let memory = self.memory.as_ref().expect("a ring that runs has a memory");
         let is_packed = self.rings[index].is_packed;
@@ -602,23 +672,18 @@ impl<'a> Connection<'a> {
             ring.has_more = false;
         }
         if let Some(waiting) = waited.filter(|it| it.is_refused) {
-            match self.server.failed(ring.step, unreached(waiting.miss)) {
-                Ok(step) => ring.step = step,
-                Err(_) => {
-                    ring.fail(index, &unreached(waiting.miss));
-                    return Ok(());
-                }
+            if self.server.fail(&mut ring.work, unreached(waiting.miss)).is_err() {
+                ring.fail(index, &unreached(waiting.miss));
+                return Ok(());
             }
         }
         let channel = self.channel.as_ref();
         // The access has failed already if the front end cannot be told.
         let mut forbidden = |miss| channel.map_or((), |it| it.say_forbidden(miss).unwrap_or(()));
-        let turned = self.server.turn(&at, &mut ring.step, &mut forbidden);
+        let turned = self.server.serve(&at, &mut ring.work, &mut forbidden);
         // Before any message, which may change where the addresses lead.
         if let (Some(logger), Ok(vring)) = (&logger, self.backend.running(index as u32)) {
-            let marked = logger
-                .wrote_ring(memory, &vring, is_packed)
-                .and_then(|()| logger.take(memory));
+            let marked = logger.wrote_ring(memory, &vring, is_packed);
             marked.map_err(|refusal| End::Failed("the log", refusal.into()))?;
         }
         if memory.is_lost() {
@@ -664,7 +729,7 @@ impl Ring {
             err: None,
             is_set_up: false,
             kept: None,
-            step: Step::Start,
+            work: Work::new(),
             is_running: false,
             is_polled: false,
             is_broken: false,
@@ -672,17 +737,24 @@ impl Ring {
         }
     }
 
-    // The front end goes on reading its notifications by itself, and finds none of those that were meant for this program.
-    fn let_go_of_kick(&mut self) {
-        if let Some(kick) = self.kick.take() {
-            kick.drain();
+    // The driver notified.
+    fn take_kick(&mut self) {
+        self.has_more = true;
+        if let Some(kick) = &self.kick {
+            kick.it().take();
         }
     }
 
-    // A counter that is full has been notified.
+    // The front end goes on reading its notifications by itself, and finds none of those that were meant for this program.
+    fn let_go_of_kick(&mut self) {
+        if let Some(kick) = self.kick.take() {
+            kick.it().drain();
+        }
+    }
+
     fn interrupt(&self) {
-        if let Some(mut call) = self.call.as_ref() {
-            let _ = call.write(&1_u64.to_ne_bytes());
+        if let Some(call) = &self.call {
+            call.notify();
         }
     }
 
@@ -690,8 +762,8 @@ impl Ring {
         self.is_broken = true;
         self.is_running = false;
         say!("ring {index} failed, and waits to be started again: {error}");
-        if let Some(mut err) = self.err.as_ref() {
-            let _ = err.write(&1_u64.to_ne_bytes());
+        if let Some(err) = &self.err {
+            err.notify();
         }
     }
 }
@@ -702,54 +774,7 @@ impl Drop for Ring {
     }
 }
 
-fn file_of(descriptor: Option<OwnedFd>) -> io::Result<Option<File>> {
-    let Some(descriptor) = descriptor else {
-        return Ok(None);
-    };
-    system::never_wait(&descriptor)?;
-    Ok(Some(File::from(descriptor)))
-}
-
-// Gives a queue the addresses of a ring, and if it starts also its size and where it begins.
-fn set_up(queue: &Queue<'_>, vring: &Vring, is_packed: bool, event_idx: bool, starts: bool) -> Result<(), QueueError> {
-    if starts {
-        queue.reset();
-        queue.set_size(vring.size.try_into().map_err(|_| QueueError::InvalidSize)?)?;
-        queue.set_event_idx(event_idx);
-        if is_packed {
-            queue.set_vring_base(vring.base)?;
-        } else {
-            queue.set_next_avail(vring.base as u16);
-        }
-    }
-    queue.try_set_desc_table_address(GuestAddress(vring.descriptor))?;
-    queue.try_set_avail_ring_address(GuestAddress(vring.available))?;
-    queue.try_set_used_ring_address(GuestAddress(vring.used))?;
-    queue.set_ready(true);
-    Ok(())
-}
-
-// The front end does not map what a step needs.
-fn unreached(miss: Miss) -> QueueError {
-    let (iova_range, reason) = (miss.iova_range, Reason::MissingMapping);
-    QueueError::GuestMemory(GuestMemoryError::IommuError(IommuError::CannotResolve {
-        iova_range,
-        reason,
-    }))
-}
-
-// Makes a queue go on where another one was.
-fn take_state(queue: &Queue<'_>, state: &QueueState, is_packed: bool) -> Result<(), QueueError> {
-    queue.set_size(state.size)?;
-    queue.try_set_desc_table_address(GuestAddress(state.desc_table))?;
-    queue.try_set_avail_ring_address(GuestAddress(state.avail_ring))?;
-    queue.try_set_used_ring_address(GuestAddress(state.used_ring))?;
-    queue.set_event_idx(state.event_idx_enabled);
-    queue.set_ready(state.ready);
-    if is_packed {
-        return queue.set_vring_base(state.vring_base());
-    }
-    queue.set_next_avail(state.next_avail);
-    queue.set_next_used(state.next_used);
-    Ok(())
+// A request that has a descriptor came with one.
+fn sent(descriptor: Option<OwnedFd>) -> io::Result<OwnedFd> {
+    descriptor.ok_or(io::ErrorKind::NotFound.into())
 }

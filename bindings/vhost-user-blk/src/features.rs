@@ -7,8 +7,18 @@ use vm_memory_proved::vhost_user::Offer;
 /// The greatest size of a ring: QEMU's.
 pub const MAX_QUEUE_SIZE: u16 = 1024;
 
+/// How many segments a chain has at most, whatever the driver accepted: QEMU's bound.
+pub const MAX_CHAIN: usize = 1024;
+
 // How many segments the data of a request have at most: with the header and the status a chain of 128 descriptors.
 const SEG_MAX: u32 = 126;
+
+// How many bytes a segment has at most.
+const SIZE_MAX: u32 = 4 << 20;
+
+// The features by which a driver accepts these limits.
+const HAS_SIZE_MAX: u64 = 1 << 1;
+const HAS_SEG_MAX: u64 = 1 << 2;
 
 pub const EVENT_IDX: u64 = 1 << 29;
 
@@ -25,8 +35,9 @@ const RO: u64 = 1 << 5;
 const FLUSH: u64 = 1 << 9;
 const MQ: u64 = 1 << 12;
 
-const FEATURES: [(u64, &str); 12] = [
-    (1 << 2, "SEG_MAX"),
+const FEATURES: [(u64, &str); 13] = [
+    (HAS_SIZE_MAX, "SIZE_MAX"),
+    (HAS_SEG_MAX, "SEG_MAX"),
     (RO, "RO"),
     (1 << 6, "BLK_SIZE"),
     (FLUSH, "FLUSH"),
@@ -74,10 +85,17 @@ pub fn offer(options: &Options) -> Offer {
     }
 }
 
+/// How many segments of data a request has at most, and how many bytes a segment, if the driver accepted it.
+pub fn limits(features: u64) -> (Option<u32>, Option<u32>) {
+    let of = |bit, limit| (features & bit != 0).then_some(limit);
+    (of(HAS_SEG_MAX, SEG_MAX), of(HAS_SIZE_MAX, SIZE_MAX))
+}
+
 /// The device's configuration: `virtio_blk_config`, and zeros after it.
 pub fn config(disk: &Disk, options: &Options) -> [u8; 256] {
     let mut config = [0; 256];
     config[..8].copy_from_slice(&disk.sectors().to_le_bytes());
+    config[8..12].copy_from_slice(&SIZE_MAX.to_le_bytes());
     config[12..16].copy_from_slice(&SEG_MAX.to_le_bytes());
     config[20..24].copy_from_slice(&512_u32.to_le_bytes());
     config[34..36].copy_from_slice(&(options.queues as u16).to_le_bytes());

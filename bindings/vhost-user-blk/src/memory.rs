@@ -8,7 +8,8 @@ use std::os::fd::{AsFd, OwnedFd};
 use std::os::unix::fs::MetadataExt;
 use vm_memory_proved::iotlb::{IotlbError, UserRegion, PAYLOAD_LEN};
 use vm_memory_proved::vhost_user::Region;
-use vm_memory_proved::{BlockId, GuestAddress, GuestMemory, IovaRange, Machine, MemoryId, Permissions, TableId};
+use vm_memory_proved::{GuestAddress, GuestMemory, IotlbFails, Machine, MachineError, MappedRange, Miss};
+use vm_memory_proved::{MemoryId, Permissions, SharedBlock, SpaceId, TableId, TranslatorId};
 
 // Dirty pages are of this size.
 const PAGE: usize = 4096;
@@ -61,6 +62,13 @@ impl Files {
     }
 }
 
+impl Piece {
+    // Whether it has the bytes of another, at whatever address.
+    fn is_same_part(&self, other: &Piece) -> bool {
+        (self.file, self.offset, self.size) == (other.file, other.offset, other.size)
+    }
+}
+
 fn shares(one: &Piece, other: &Piece) -> bool {
     let end = |it: &Piece| it.offset.saturating_add(it.size);
     one.file == other.file && one.offset < end(other) && other.offset < end(one)
@@ -74,58 +82,99 @@ pub struct Memory {
     // By guest addresses, and by I/O addresses.
     plain: MemoryId,
     translated: MemoryId,
-    // Behind a table that maps nothing.
-    blind: MemoryId,
-    table: TableId,
-    // How many ranges the table keeps.
-    limit: Option<usize>,
+    behind: Behind,
     // What the front end said last of its own addresses.
     announced: Vec<UserRegion>,
-    // Each block, and the piece that it has.
-    blocks: Vec<(BlockId, Piece)>,
+    pieces: Vec<(Piece, SharedBlock)>,
+}
+
+// What I/O addresses go through.
+#[derive(Clone, Copy)]
+struct Behind {
+    table: TableId,
+    // How many ranges the table keeps.
+    limit: usize,
+    translator: TranslatorId,
+    space: SpaceId,
 }
 
 impl Memory {
     /// Maps the files, each as a shared block. No other memory may be there.
-    pub fn new(files: Files, limit: Option<usize>) -> Result<Memory, Box<dyn std::error::Error>> {
+    pub fn new(files: Files, limit: usize) -> Result<Memory, Box<dyn std::error::Error>> {
         let machine = Machine::new()?;
-        let (mut regions, mut blocks, mut ids) = (Vec::new(), Vec::new(), Vec::new());
-        for (piece, file) in &files.pieces {
-            let size = usize::try_from(piece.size)?;
-            let block = machine.shared_block(size, PAGE, Some((file.as_fd(), piece.offset)))?;
-            regions.push(machine.region(block.id(), GuestAddress(piece.guest_address))?);
-            blocks.push((block.as_ptr() as usize, block.len()));
-            ids.push(block.id());
-        }
-        let layout = machine.layout(&regions)?;
-        let table = machine.table(limit)?;
-        // Marks of I/O addresses are of no use: this space has as few as it can.
-        let space = machine.space(PAGE, PAGE)?;
-        let translated = machine.new_memory(layout, machine.translator(table)?, space, true)?;
-        let empty = machine.translator(machine.table(None)?)?;
-        let blind = machine.new_memory(layout, empty, space, true)?;
-        Ok(Memory {
-            guarded: Guarded::new(blocks.into_iter()),
-            plain: machine.plain(layout)?,
-            machine,
-            translated,
-            blind,
+        let table = machine.table(Some(limit))?;
+        let behind = Behind {
             table,
             limit,
+            translator: machine.translator(table)?,
+            // Marks of I/O addresses are of no use: this space has as few as it can.
+            space: machine.space(PAGE, PAGE)?,
+        };
+        Memory::over(machine, behind, &[], files)
+    }
+
+    /// The memory of another table, and no mapping of I/O addresses. What it has of the same parts of the same files stays
+    /// mapped.
+    pub fn replaced(self, files: Files) -> Result<Memory, Box<dyn std::error::Error>> {
+        let Memory {
+            guarded,
+            mut machine,
+            behind,
+            pieces,
+            ..
+        } = self;
+        drop(guarded);
+        machine.forget_regions();
+        machine.invalidate_all(behind.table)?;
+        Memory::over(machine, behind, &pieces, files)
+    }
+
+    // The memory of these files, over a machine that has these parts of files and no memory.
+    fn over(
+        machine: Machine,
+        behind: Behind,
+        had: &[(Piece, SharedBlock)],
+        files: Files,
+    ) -> Result<Memory, Box<dyn std::error::Error>> {
+        for (piece, block) in had {
+            if !files.pieces.iter().any(|(other, _)| other.is_same_part(piece)) {
+                machine.give_back(block.id())?;
+            }
+        }
+        let (mut regions, mut pieces) = (Vec::new(), Vec::new());
+        for (piece, file) in &files.pieces {
+            let block = match had.iter().find(|(other, _)| other.is_same_part(piece)) {
+                Some((_, block)) => *block,
+                None => {
+                    let size = usize::try_from(piece.size)?;
+                    machine.shared_block(size, PAGE, Some((file.as_fd(), piece.offset)))?
+                }
+            };
+            regions.push(machine.region(block.id(), GuestAddress(piece.guest_address))?);
+            pieces.push((*piece, block));
+        }
+        let layout = machine.layout(&regions)?;
+        Ok(Memory {
+            // The pages of a mapping are lost and replaced as a whole.
+            guarded: Guarded::new(
+                pieces
+                    .iter()
+                    .map(|(_, block)| block.mapping())
+                    .map(|(at, len)| (at as usize, len)),
+            ),
+            plain: machine.plain(layout)?,
+            translated: machine.new_memory(layout, behind.translator, behind.space, true)?,
+            machine,
+            behind,
             announced: Vec::new(),
-            blocks: ids
-                .into_iter()
-                .zip(files.pieces.iter().map(|(piece, _)| *piece))
-                .collect(),
+            pieces,
         })
     }
 
     /// Whether these are the same parts of the same files at the same addresses.
     pub fn has(&self, files: &Files) -> bool {
-        self.blocks
-            .iter()
-            .map(|(_, piece)| piece)
-            .eq(files.pieces.iter().map(|(piece, _)| piece))
+        let pieces = self.pieces.iter().map(|(piece, _)| piece);
+        pieces.eq(files.pieces.iter().map(|(piece, _)| piece))
     }
 
     pub fn machine(&self) -> &Machine {
@@ -140,77 +189,56 @@ impl Memory {
             .expect("the machine has the memory that it made")
     }
 
-    /// A memory that no address leads to: an access is refused, and the refusal says which addresses it wants.
-    pub fn blind(&self) -> GuestMemory<'_> {
-        self.machine
-            .memory(self.blind)
-            .expect("the machine has the memory that it made")
+    /// The guest addresses that a range of I/O addresses leads to, as far as the table lets them be written.
+    pub fn reached(&self, address: u64, len: usize) -> Result<Vec<MappedRange>, MachineError> {
+        // No table maps the last address.
+        let end = address.saturating_add(len as u64);
+        let lookup = |from: u64, to: u64| {
+            let len = to.saturating_sub(from) as usize;
+            self.machine
+                .lookup(self.behind.table, GuestAddress(from), len, Permissions::Write)
+        };
+        let IotlbFails { misses, access_fails } = match lookup(address, end)? {
+            Ok(ranges) => return Ok(ranges),
+            Err(fails) => fails,
+        };
+        let mut refused: Vec<_> = misses.into_iter().chain(access_fails).collect();
+        refused.sort_unstable_by_key(|range| range.base);
+        // What lies between them can be written.
+        let ends = refused.iter().map(|it| it.base.0.saturating_add(it.length as u64));
+        let starts = refused.iter().map(|it| it.base.0).chain([end]);
+        let mut ranges = Vec::new();
+        for (from, to) in [address]
+            .into_iter()
+            .chain(ends)
+            .zip(starts)
+            .filter(|(from, to)| from < to)
+        {
+            ranges.extend(lookup(from, to)?.unwrap_or_default());
+        }
+        Ok(ranges)
     }
 
-    /// Marks the pages that a range of I/O addresses leads to, as far as the table lets them be written.
-    pub fn mark_mapped(&self, address: u64, len: usize) {
+    /// The first addresses of a miss that lead nowhere, if there are any: a mapping of the others forbids the access, and
+    /// asking for it again would change nothing.
+    pub fn unmapped(&self, miss: Miss) -> Option<Miss> {
+        let Miss { iova_range, access } = miss;
         let found = self
             .machine
-            .lookup(self.table, GuestAddress(address), len, Permissions::Write);
-        let mut refused: Vec<IovaRange> = match found {
-            Ok(Ok(_)) => Vec::new(),
-            Ok(Err(fails)) => fails.misses.into_iter().chain(fails.access_fails).collect(),
-            Err(_) => return self.mark_all(),
-        };
-        refused.sort_unstable_by_key(|range| range.base.0);
-        let guest = self.guest(true);
-        let (mut from, end) = (address, address.saturating_add(len as u64));
-        let last = IovaRange {
-            base: GuestAddress(end),
-            length: 0,
-        };
-        for range in refused.into_iter().chain([last]) {
-            let part = range.base.0.saturating_sub(from) as usize;
-            if part > 0 && guest.mark_reached(GuestAddress(from), part).is_err() {
-                return self.mark_all();
-            }
-            from = range.base.0.saturating_add(range.length as u64);
+            .lookup(self.behind.table, iova_range.base, iova_range.length, access);
+        match found {
+            Ok(Err(fails)) => fails.misses.first().map(|first| Miss {
+                iova_range: *first,
+                access,
+            }),
+            _ => Some(miss),
         }
-    }
-
-    // Marks every page: what was reached could not be found out.
-    fn mark_all(&self) {
-        for (block, piece) in &self.blocks {
-            let done = self.machine.mark_block(*block, 0, piece.size as usize);
-            done.expect("the machine has the block that it made");
-        }
-    }
-
-    /// Takes the dirty pages, as ranges of guest addresses: where each begins, and how many bytes it has.
-    pub fn take_dirty(&self) -> Vec<(u64, u64)> {
-        let mut ranges: Vec<(u64, u64)> = Vec::new();
-        for (block, piece) in &self.blocks {
-            let pages = self
-                .machine
-                .harvest_block(*block)
-                .unwrap_or_else(|_| self.every_page(piece));
-            for page in pages {
-                let offset = (page * PAGE) as u64;
-                let len = piece.size.saturating_sub(offset).min(PAGE as u64);
-                let from = piece.guest_address + offset;
-                match ranges.last_mut() {
-                    Some(last) if last.0 + last.1 == from => last.1 += len,
-                    _ => ranges.push((from, len)),
-                }
-            }
-        }
-        ranges
-    }
-
-    // Without memory for the list of dirty pages, all count as such.
-    fn every_page(&self, piece: &Piece) -> Vec<usize> {
-        (0..(piece.size as usize).div_ceil(PAGE)).collect()
     }
 
     /// How many bytes an access of data has at most. A table has to have room for the ranges of one access, and these are
     /// pages at least.
     pub fn most_at_once(&self) -> usize {
-        self.limit.map_or(usize::MAX, |limit| (limit - 1) * PAGE)
+        (self.behind.limit - 1) * PAGE
     }
 
     /// Takes what the front end says of its own addresses.
@@ -223,26 +251,15 @@ impl Memory {
         self.announced = regions.iter().map(row).collect();
     }
 
-    /// Applies a message of the front end to the table.
-    pub fn apply(&self, message: &[u8; PAYLOAD_LEN]) -> Result<(), IotlbError> {
+    /// Applies a message of the front end to the table, and says how many ranges the table evicted for it.
+    pub fn apply(&self, message: &[u8; PAYLOAD_LEN]) -> Result<usize, IotlbError> {
         self.machine.apply_iotlb(self.translated, message, &self.announced)
     }
 
     /// Takes all mappings back.
     pub fn forget_mappings(&self) {
-        let done = self.machine.invalidate_all(self.table);
+        let done = self.machine.invalidate_all(self.behind.table);
         done.expect("the machine has the table that it made");
-    }
-
-    /// The ranges of I/O addresses that a table with a limit does not map.
-    pub fn unmapped(&self) -> Vec<IovaRange> {
-        if self.limit.is_none() {
-            return Vec::new();
-        }
-        let all = self
-            .machine
-            .lookup(self.table, GuestAddress(0), usize::MAX, Permissions::No);
-        all.map_or(Vec::new(), |found| found.err().map_or(Vec::new(), |fails| fails.misses))
     }
 
     /// Whether a file lost bytes that were accessed. What calls read since then may be zeros.

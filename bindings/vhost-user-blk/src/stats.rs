@@ -2,7 +2,6 @@
 
 use std::fmt;
 use vm_memory_proved::iotlb::PAYLOAD_LEN;
-use vm_memory_proved::IovaRange;
 
 #[derive(Clone, Copy, Debug, Default, PartialEq, Eq)]
 pub struct Stats {
@@ -25,7 +24,7 @@ pub struct TableStats {
     pub misses: u64,
     pub updates: u64,
     pub invalidations: u64,
-    /// How many ranges an UPDATE had the table give up.
+    /// How many ranges the table evicted for an UPDATE.
     pub evictions: u64,
 }
 
@@ -34,20 +33,14 @@ const KIND: usize = 25;
 const UPDATE: u8 = 2;
 
 impl TableStats {
-    /// Counts a message that was applied, by the ranges that the table did not map before and does not map after it.
-    pub fn count(&mut self, message: &[u8; PAYLOAD_LEN], before: &[IovaRange], after: &[IovaRange]) {
-        if message[KIND] != UPDATE {
+    /// Counts a message that was applied, and for which the table evicted so many ranges.
+    pub fn count(&mut self, message: &[u8; PAYLOAD_LEN], evicted: usize) {
+        if message[KIND] == UPDATE {
+            self.updates += 1;
+        } else {
             self.invalidations += 1;
-            return;
         }
-        self.updates += 1;
-        // A range that was mapped and is not any more lies between two that were not, or beside them.
-        let is_new = |range: &&IovaRange| {
-            let (from, to) = (range.base.0, range.base.0.saturating_add(range.length as u64));
-            let holds = |it: &IovaRange| it.base.0 <= from && to <= it.base.0.saturating_add(it.length as u64);
-            !before.iter().any(holds)
-        };
-        self.evictions += after.iter().filter(is_new).count() as u64;
+        self.evictions += evicted as u64;
     }
 
     /// Whether nothing was counted.

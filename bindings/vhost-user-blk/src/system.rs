@@ -2,9 +2,9 @@
 
 use libc::{c_int, c_void};
 use std::fs::File;
-use std::io::{self, Read};
+use std::io;
 use std::mem::{size_of, zeroed, MaybeUninit};
-use std::os::fd::{AsRawFd, FromRawFd, OwnedFd, RawFd};
+use std::os::fd::{AsFd, AsRawFd, FromRawFd, OwnedFd, RawFd};
 use std::os::unix::net::UnixStream;
 use std::ptr::{addr_of_mut, null_mut, NonNull};
 use std::rc::Rc;
@@ -101,9 +101,9 @@ pub fn send(socket: &UnixStream, bytes: &[u8]) -> io::Result<()> {
 /// What the system watches for this program. Each descriptor has a number.
 pub struct Epoll(Rc<OwnedFd>);
 
-/// A descriptor that is watched as long as this is there.
-pub struct Watched {
-    file: File,
+/// What is watched as long as this is there.
+pub struct Watched<T: AsFd> {
+    it: T,
     epoll: Rc<OwnedFd>,
 }
 
@@ -125,7 +125,7 @@ impl Epoll {
     }
 
     /// Watches whether a descriptor can be read. Of a file on a disk nothing can be watched: it is refused.
-    pub fn watch(&self, descriptor: OwnedFd, number: u64, how: Watch) -> io::Result<Watched> {
+    pub fn watch<T: AsFd>(&self, it: T, number: u64, how: Watch) -> io::Result<Watched<T>> {
         let edge = if how == Watch::Edge { libc::EPOLLET } else { 0 };
         let mut event = libc::epoll_event {
             events: (libc::EPOLLIN | edge) as u32,
@@ -136,12 +136,12 @@ impl Epoll {
             libc::epoll_ctl(
                 self.0.as_raw_fd(),
                 libc::EPOLL_CTL_ADD,
-                descriptor.as_raw_fd(),
+                it.as_fd().as_raw_fd(),
                 &mut event,
             )
         })?;
         Ok(Watched {
-            file: File::from(descriptor),
+            it,
             epoll: Rc::clone(&self.0),
         })
     }
@@ -170,15 +170,13 @@ impl Epoll {
     }
 }
 
-impl Watched {
-    /// Reads what is there, so that nothing is left for whoever has the other end.
-    pub fn drain(&self) {
-        // An event's counter is 0 after one read. What else came in its place may stay as it is.
-        let _ = (&self.file).read(&mut [0; 8]);
+impl<T: AsFd> Watched<T> {
+    pub fn it(&self) -> &T {
+        &self.it
     }
 }
 
-impl Drop for Watched {
+impl<T: AsFd> Drop for Watched<T> {
     fn drop(&mut self) {
         // Another process may have the same open file: closing this descriptor would not end the watch.
         // SAFETY: it takes numbers, and to end a watch it reads no event.
@@ -186,14 +184,33 @@ impl Drop for Watched {
             libc::epoll_ctl(
                 self.epoll.as_raw_fd(),
                 libc::EPOLL_CTL_DEL,
-                self.file.as_raw_fd(),
+                self.it.as_fd().as_raw_fd(),
                 null_mut(),
             )
         };
     }
 }
 
-/// Has reads and writes of a descriptor fail if they would wait.
+/// Takes what an eventfd has counted, and never waits, whatever its flags are. A system before Linux 5.8 leaves it.
+pub fn empty_counter(counter: &OwnedFd) {
+    let mut count = 0_u64;
+    let part = libc::iovec {
+        iov_base: addr_of_mut!(count).cast(),
+        iov_len: size_of::<u64>(),
+    };
+    // SAFETY: there is one part, which has the 8 bytes that it says.
+    unsafe { libc::preadv2(counter.as_raw_fd(), &part, 1, -1, libc::RWF_NOWAIT) };
+}
+
+/// Moves what is in a pipe to a file that takes it, and never waits for the pipe, whatever its flags are.
+pub fn empty_pipe(pipe: &OwnedFd, sink: &File) {
+    const MOST: usize = 1 << 20;
+    let (from, to) = (pipe.as_raw_fd(), sink.as_raw_fd());
+    // SAFETY: it takes numbers, and no place in a file.
+    unsafe { libc::splice(from, null_mut(), to, null_mut(), MOST, libc::SPLICE_F_NONBLOCK) };
+}
+
+/// Has reads and writes of a descriptor fail if they would wait. Whoever has the same open file can take this back.
 pub fn never_wait(descriptor: &OwnedFd) -> io::Result<()> {
     // SAFETY: it takes numbers.
     let flags = checked(unsafe { libc::fcntl(descriptor.as_raw_fd(), libc::F_GETFL) })?;
@@ -204,13 +221,47 @@ pub fn never_wait(descriptor: &OwnedFd) -> io::Result<()> {
     Ok(())
 }
 
+// ---- locks, and descriptors that are inherited
+
+/// Locks a file for this process, alone or with others that only read, as long as it is open. `WouldBlock` if another
+/// process has a lock that forbids it.
+pub fn lock(file: &File, is_alone: bool) -> io::Result<()> {
+    let kind = if is_alone { libc::LOCK_EX } else { libc::LOCK_SH };
+    // SAFETY: it takes numbers.
+    checked(unsafe { libc::flock(file.as_raw_fd(), kind | libc::LOCK_NB) }).map(drop)
+}
+
+/// Takes a descriptor that this process was started with, before the process opened any.
+pub fn inherited(number: RawFd) -> io::Result<OwnedFd> {
+    // SAFETY: it takes numbers. It fails if nothing has this one.
+    checked(unsafe { libc::fcntl(number, libc::F_SETFD, libc::FD_CLOEXEC) })?;
+    // SAFETY: it is open, the process has opened nothing that could have this number, and it is taken once.
+    Ok(unsafe { OwnedFd::from_raw_fd(number) })
+}
+
+/// A property of a socket that is a number.
+pub fn socket_option(socket: &OwnedFd, option: c_int) -> io::Result<c_int> {
+    let (mut value, mut len) = (0 as c_int, size_of::<c_int>() as libc::socklen_t);
+    // SAFETY: there is room for the number and for its length.
+    checked(unsafe {
+        libc::getsockopt(
+            socket.as_raw_fd(),
+            libc::SOL_SOCKET,
+            option,
+            addr_of_mut!(value).cast(),
+            &mut len,
+        )
+    })?;
+    Ok(value)
+}
+
 // ---- signals
 
 /// A descriptor that can be read once SIGTERM or SIGINT came, which end the process no more.
 pub fn termination() -> io::Result<OwnedFd> {
     let mut signals = MaybeUninit::uninit();
-    // SAFETY: the first call fills the set in, the others read and write it. The mask is this thread's, of which there is
-    // one.
+    // SAFETY: the first call fills the set in, the others read and write it. The mask is this thread's, and that of the
+    // threads that it starts.
     let descriptor = unsafe {
         checked(libc::sigemptyset(signals.as_mut_ptr()))?;
         checked(libc::sigaddset(signals.as_mut_ptr(), libc::SIGTERM))?;
@@ -226,6 +277,39 @@ pub fn termination() -> io::Result<OwnedFd> {
     Ok(unsafe { OwnedFd::from_raw_fd(descriptor) })
 }
 
+/// A file that would grow too long fails to be written, and its signal ends the process no more.
+pub fn survive_limits() -> io::Result<()> {
+    // SAFETY: it takes numbers.
+    match unsafe { libc::signal(libc::SIGXFSZ, libc::SIG_IGN) } {
+        libc::SIG_ERR => Err(io::Error::last_os_error()),
+        _ => Ok(()),
+    }
+}
+
+/// The thread whose calls of the system another one can interrupt. It has to be there as long as the process is.
+pub struct Interruptible(libc::pthread_t);
+
+extern "C" fn nothing(_signal: c_int) {}
+
+impl Interruptible {
+    pub fn this_thread() -> io::Result<Interruptible> {
+        // Without SA_RESTART a call that waits fails.
+        // SAFETY: an action is numbers, a set and a pointer, which may be 0.
+        let mut action: libc::sigaction = unsafe { zeroed() };
+        action.sa_sigaction = nothing as extern "C" fn(c_int) as usize;
+        // SAFETY: the handler has the signature that these flags ask for, and calls nothing.
+        checked(unsafe { libc::sigaction(libc::SIGALRM, &action, null_mut()) })?;
+        // SAFETY: it takes nothing.
+        Ok(Interruptible(unsafe { libc::pthread_self() }))
+    }
+
+    /// Has the call fail that the thread waits in, if it waits.
+    pub fn interrupt(&self) {
+        // SAFETY: the thread is there, as the main one always is.
+        unsafe { libc::pthread_kill(self.0, libc::SIGALRM) };
+    }
+}
+
 // ---- memory that goes away
 
 // The blocks of the machine that is called, and after them the log: where each begins, and its length, or 0. The handler
@@ -237,7 +321,12 @@ static LOST: AtomicBool = AtomicBool::new(false);
 
 // Called by the system on the thread that touched memory which its file has no more.
 extern "C" fn memory_lost(_signal: c_int, info: *mut libc::siginfo_t, _context: *mut c_void) {
-    // SAFETY: the system gives the handler of this signal its information, and an address in it.
+    // SAFETY: the system gives the handler of this signal its information.
+    if unsafe { (*info).si_code } <= 0 {
+        // A process sent it: no access failed.
+        return;
+    }
+    // SAFETY: the information of a fault has an address.
     let place = unsafe { (*info).si_addr() } as usize;
     for (at, len) in &BLOCKS {
         let (at, len) = (at.load(SeqCst), len.load(SeqCst));

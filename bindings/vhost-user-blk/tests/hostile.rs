@@ -1,18 +1,21 @@
 //! Front ends that send anything, with real descriptors: the program lives, and has as many descriptors and as much
-//! memory as before.
+//! memory as before. `HOSTILE_CONNECTIONS` says how many there are.
 
 mod front_end;
 
 use front_end::*;
 use std::fs::{File, OpenOptions};
-use std::io::Read;
+use std::io::{ErrorKind, Read};
 use std::net::Shutdown;
-use std::os::fd::{AsRawFd, OwnedFd, RawFd};
+use std::os::fd::{AsRawFd, FromRawFd, OwnedFd, RawFd};
 use std::os::unix::net::UnixStream;
 use std::time::Instant;
 
 const LEN: usize = 1 << 20;
 const CONNECTIONS: usize = 20_000;
+
+// Stands for the front end's own end of its connection.
+const OWN_END: RawFd = -1;
 
 // Where the parts of a ring of 16 descriptors lie in a memory of 64 KiB, whose rest is for requests.
 const SIZE: u64 = 0x1_0000;
@@ -32,8 +35,10 @@ struct Things {
     call: OwnedFd,
     pipe: [OwnedFd; 2],
     socket: UnixStream,
+    epoll: OwnedFd,
     file: File,
     zero: File,
+    terminal: File,
 }
 
 impl Things {
@@ -43,6 +48,9 @@ impl Things {
             .read(true)
             .append(true)
             .open(program.folder.join("file"));
+        // SAFETY: it takes a number.
+        let epoll = unsafe { libc::epoll_create1(libc::EPOLL_CLOEXEC) };
+        assert!(epoll >= 0);
         Things {
             ram: memfd(SIZE as usize),
             other_ram: memfd(SIZE as usize),
@@ -50,13 +58,16 @@ impl Things {
             call: eventfd(),
             pipe: pipe(),
             socket: UnixStream::pair().unwrap().0,
+            // SAFETY: the system has just opened it.
+            epoll: unsafe { OwnedFd::from_raw_fd(epoll) },
             file: file.unwrap(),
             zero: File::open("/dev/zero").unwrap(),
+            terminal: File::open("/dev/ptmx").or_else(|_| File::open("/dev/null")).unwrap(),
         }
     }
 
     fn any(&self, numbers: &mut Numbers) -> RawFd {
-        match numbers.below(9) {
+        match numbers.below(12) {
             0 => self.ram.as_raw_fd(),
             1 => self.other_ram.as_raw_fd(),
             2 => self.kick.as_raw_fd(),
@@ -65,7 +76,35 @@ impl Things {
             5 => self.pipe[1].as_raw_fd(),
             6 => self.socket.as_raw_fd(),
             7 => self.file.as_raw_fd(),
-            _ => self.zero.as_raw_fd(),
+            8 => self.zero.as_raw_fd(),
+            9 => self.epoll.as_raw_fd(),
+            10 => self.terminal.as_raw_fd(),
+            _ => OWN_END,
+        }
+    }
+
+    // Notifies, and takes what the program notified by. Then reads of the kick or writes of the call may wait.
+    fn notify(&self, numbers: &mut Numbers) {
+        for it in [&self.kick, &self.call, &self.pipe[0], &self.pipe[1]] {
+            set_waiting(it, false);
+        }
+        // The counter may be full.
+        let _ = std::io::Write::write(&mut File::from(again(&self.kick)), &numbers.any().to_ne_bytes());
+        take(&self.call);
+        match numbers.below(200) {
+            0 => {
+                fill(&self.call);
+                set_waiting(&self.call, true);
+            }
+            1 => {
+                take(&self.kick);
+                set_waiting(&self.kick, true);
+            }
+            2 => {
+                take(&self.pipe[0]);
+                set_waiting(&self.pipe[0], true);
+            }
+            _ => (),
         }
     }
 }
@@ -246,7 +285,9 @@ fn speak(program: &Program, messages: &[Message], things: &Things, numbers: &mut
     let is_cut = numbers.one_in(4);
     'all: for it in messages {
         let mut rest = &it.bytes[..];
-        let mut descriptors = &it.descriptors[..];
+        let own = |fd: &RawFd| if *fd == OWN_END { socket.as_raw_fd() } else { *fd };
+        let sent: Vec<RawFd> = it.descriptors.iter().map(own).collect();
+        let mut descriptors = &sent[..];
         while !rest.is_empty() {
             let len = if is_cut {
                 1 + numbers.below(rest.len() as u64) as usize
@@ -259,23 +300,30 @@ fn speak(program: &Program, messages: &[Message], things: &Things, numbers: &mut
             (rest, descriptors) = (&rest[len..], &[]);
         }
         if numbers.one_in(8) {
-            // Kicks, of which the counter may be full.
-            let _ = std::io::Write::write(&mut File::from(again(&things.kick)), &numbers.any().to_ne_bytes());
-            take(&things.call);
+            things.notify(numbers);
         }
         if numbers.one_in(200) {
             let file = File::from(again(&things.other_ram));
             file.set_len(numbers.below(2) * SIZE).unwrap();
         }
     }
+    if numbers.one_in(16) {
+        // It goes at once. The next one is served if the program holds nothing that keeps the connection.
+        return;
+    }
     let _ = socket.shutdown(Shutdown::Write);
     socket.set_read_timeout(Some(LONG)).unwrap();
     let mut rest = [0; 4096];
     let begun = Instant::now();
-    while let Ok(count) = socket.read(&mut rest) {
+    loop {
         assert!(begun.elapsed() < LONG, "the connection does not end");
-        if count == 0 {
-            break;
+        match socket.read(&mut rest) {
+            Ok(0) => break,
+            Ok(_) => (),
+            Err(error) => {
+                assert_eq!(error.kind(), ErrorKind::ConnectionReset, "the connection does not end");
+                break;
+            }
         }
     }
 }
@@ -285,8 +333,10 @@ fn no_front_end_ends_the_program() {
     let mut program = Program::start("hostile", LEN, &[]);
     let things = Things::new(&program);
     let mut numbers = Numbers(0x9e37_79b9_7f4a_7c15);
-    let (mut early, mut served, mut packed) = (None, 0, 0);
-    for round in 0..CONNECTIONS {
+    let (mut early, mut served, mut packed, mut sent) = (None, 0, 0, 0);
+    let asked = std::env::var("HOSTILE_CONNECTIONS").map(|text| text.parse().unwrap());
+    let connections: usize = asked.unwrap_or(CONNECTIONS);
+    for round in 0..connections {
         let ram = if numbers.one_in(3) {
             &things.other_ram
         } else {
@@ -303,6 +353,7 @@ fn no_front_end_ends_the_program() {
         std::os::unix::fs::FileExt::write_all_at(&file, &bytes, 0).unwrap();
         let mut messages = usual(&things, ram.as_raw_fd(), is_packed, &mut numbers);
         change(&mut messages, &things, &mut numbers);
+        sent += messages.len();
         speak(&program, &messages, &things, &mut numbers);
         // The index of the used ring, or the flags of the first slot.
         let mut word = [0; 2];
@@ -316,7 +367,7 @@ fn no_front_end_ends_the_program() {
             served += 1;
             packed += usize::from(is_packed);
         }
-        if round + 1 == CONNECTIONS / 10 {
+        if round + 1 == connections / 10 {
             early = Some((program.descriptors(), program.memory()));
         }
     }
@@ -330,8 +381,8 @@ fn no_front_end_ends_the_program() {
         "{mapped} bytes of mappings became {now_mapped}"
     );
     // Enough of them came so far that requests were served.
-    assert!(served > CONNECTIONS / 4, "{served} served requests");
-    assert!(packed > CONNECTIONS / 20, "{packed} of packed rings");
+    assert!(served > connections / 4, "{served} served requests");
+    assert!(packed > connections / 20, "{packed} of packed rings");
     let mut front = program.connect();
     front.negotiate(USUAL);
     front.set_memory();
@@ -340,6 +391,6 @@ fn no_front_end_ends_the_program() {
     assert_eq!(front.read_disk(0, 1, 512), [3; 512]);
     assert_eq!(program.image.metadata().unwrap().len(), LEN as u64);
     println!(
-        "{served} of {CONNECTIONS} connections had a request served, {packed} packed; {now} bytes of memory, {descriptors} descriptors"
+        "{sent} messages; {served} of {connections} connections had a request served, {packed} packed; {now} bytes of memory, {descriptors} descriptors"
     );
 }

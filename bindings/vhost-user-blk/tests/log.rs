@@ -9,6 +9,7 @@ use std::os::fd::OwnedFd;
 use std::os::unix::fs::FileExt;
 
 const LEN: usize = 1 << 20;
+const MIB: usize = 1 << 20;
 const SHIFT: u64 = 0x8000_0000;
 // A bit for each page of the memory.
 const LOG_LEN: u64 = RAM as u64 / PAGE / 8;
@@ -26,7 +27,7 @@ fn started(program: &Program, features: u64) -> FrontEnd {
 
 // Shares a log and has writes be marked there, while the ring runs.
 fn begin(front: &mut FrontEnd, features: u64, len: u64) -> OwnedFd {
-    let log = memfd(LOG_LEN as usize);
+    let log = memfd(len.max(LOG_LEN) as usize);
     front.send(SET_LOG_BASE, 0, &[len, 0].map(u64::to_le_bytes).concat(), &[&log]);
     assert!(front.reply(SET_LOG_BASE).is_empty());
     assert!(front.is_done(SET_FEATURES, &(features | LOG_ALL).to_le_bytes(), &[]));
@@ -39,16 +40,22 @@ fn begin(front: &mut FrontEnd, features: u64, len: u64) -> OwnedFd {
 
 // The pages that are marked, which are cleared.
 fn taken(log: &OwnedFd) -> BTreeSet<u64> {
-    let mut bytes = [0; LOG_LEN as usize];
     let file = File::from(again(log));
+    let mut bytes = vec![0; file.metadata().unwrap().len() as usize];
     file.read_exact_at(&mut bytes, 0).unwrap();
-    file.write_all_at(&[0; LOG_LEN as usize], 0).unwrap();
+    file.write_all_at(&vec![0; bytes.len()], 0).unwrap();
     let is_set = |page: &u64| bytes[(page / 8) as usize] >> (page % 8) & 1 == 1;
-    (0..8 * LOG_LEN).filter(is_set).collect()
+    (0..8 * bytes.len() as u64).filter(is_set).collect()
 }
 
 fn pages(addresses: &[u64]) -> BTreeSet<u64> {
     addresses.iter().map(|address| address / PAGE).collect()
+}
+
+// The pages of the bytes of segments.
+fn pages_of(segments: &[(usize, usize)]) -> BTreeSet<u64> {
+    let of = |&(addr, len): &(usize, usize)| (addr..addr + len).map(|it| it as u64 / PAGE);
+    segments.iter().flat_map(of).collect()
 }
 
 #[test]
@@ -141,4 +148,284 @@ fn a_log_that_is_too_short_ends_the_connection() {
     front.publish(0, 0);
     front.kick(0);
     assert!(front.is_let_go());
+}
+
+// Where the second half of the memory lies for the guest.
+const FAR: usize = 4 << 30;
+const HALF: usize = RAM / 2;
+
+// The log of a memory whose second half lies there, while ring 0 runs.
+fn far_started(program: &Program) -> (FrontEnd, OwnedFd) {
+    let mut front = program.connect();
+    front.negotiate(USUAL);
+    let ram = again(&front.ram);
+    let table = FrontEnd::table(&[(0, HALF as u64, 0), (FAR as u64, HALF as u64, HALF as u64)]);
+    assert!(front.is_done(SET_MEM_TABLE, &table, &[&ram, &ram]));
+    front.start_ring(64, 0);
+    let log = begin(&mut front, USUAL, (FAR + HALF) as u64 / PAGE / 8);
+    program.rest();
+    taken(&log);
+    (front, log)
+}
+
+// A request of a kind with these data and this place of the status. It returns its length and the pages that it marked.
+fn marked(
+    program: &Program,
+    front: &mut FrontEnd,
+    log: &OwnedFd,
+    chain: &[(usize, usize, bool)],
+) -> (u32, BTreeSet<u64>) {
+    front.put_segments(1, chain);
+    front.publish(0, 1);
+    front.kick(0);
+    let (head, written) = front.take_used(0);
+    assert_eq!(head, 1);
+    program.rest();
+    (written, taken(log))
+}
+
+fn put_header(front: &FrontEnd, kind: u32, sector: u64) {
+    front.write(
+        HEADERS,
+        &[&kind.to_le_bytes()[..], &[0; 4], &sector.to_le_bytes()].concat(),
+    );
+}
+
+fn chain_of(data: &[(usize, usize)], status: usize) -> Vec<(usize, usize, bool)> {
+    let data = data.iter().map(|&(addr, len)| (addr, len, true));
+    [(HEADERS, 16, false)]
+        .into_iter()
+        .chain(data)
+        .chain([(status, 1, true)])
+        .collect()
+}
+
+#[test]
+fn marks_are_by_guest_addresses() {
+    let program = Program::start("log_far", LEN, &[]);
+    let (mut front, log) = far_started(&program);
+    let used = pages(&[front.used_ring(0)]);
+    put_header(&front, 0, 3);
+    // One part of the data, and several: in both halves, from and to anywhere in a page.
+    for data in [
+        &[(FAR + 4000, 200), (FAR + MIB + 5, 824)][..],
+        &[
+            (FAR + 100, 5000),
+            (7 * MIB + 9, 300_000),
+            (FAR + 2 * MIB - 1, 200_000),
+            (3 * MIB, 19_288),
+        ],
+    ] {
+        let (status, count) = (FAR + 5 * MIB + 7, data.iter().map(|it| it.1).sum::<usize>());
+        let (written, found) = marked(&program, &mut front, &log, &chain_of(data, status));
+        assert_eq!(written as usize, count + 1);
+        let wanted = &(&pages_of(data) | &pages_of(&[(status, 1)])) | &used;
+        assert_eq!(found, wanted);
+        let at = |addr: usize| if addr < FAR { addr } else { addr - FAR + HALF };
+        let bytes: Vec<u8> = data.iter().flat_map(|&(addr, len)| front.read(at(addr), len)).collect();
+        assert!(bytes == image_of(LEN)[3 * 512..3 * 512 + count]);
+    }
+    // The status is the last byte of a segment, and alone in its page.
+    put_header(&front, 0, 3);
+    let (written, found) = marked(
+        &program,
+        &mut front,
+        &log,
+        &[(HEADERS, 16, false), (FAR + MIB, 8193, true)],
+    );
+    assert_eq!((written, found), (8193, &pages_of(&[(FAR + MIB, 8193)]) | &used));
+    // The name, over the end of a page, and as much of it as there is room for.
+    put_header(&front, 8, 0);
+    for (len, wanted) in [(20, &[FAR as u64, (FAR + 4096) as u64][..]), (4, &[FAR as u64])] {
+        let chain = chain_of(&[(FAR + 4090, len)], FAR + 4080);
+        let (written, found) = marked(&program, &mut front, &log, &chain);
+        assert_eq!((written as usize, found), (len + 1, &pages(wanted) | &used));
+    }
+}
+
+#[test]
+fn what_was_not_written_is_not_marked() {
+    let program = Program::start("log_fails", LEN, &[]);
+    let (mut front, log) = far_started(&program);
+    let used = pages(&[front.used_ring(0)]);
+    let nowhere = FAR - MIB;
+    put_header(&front, 0, 3);
+    // A segment without memory, in the first part and in a later one, and one that ends without memory.
+    for (good, bad) in [(5000, nowhere), (200_000, nowhere), (200_000, FAR + HALF - 5000)] {
+        let (data, status) = ([(FAR + 77, good), (bad, 300_000 - good), (FAR, 7200)], FAR + 4 * MIB);
+        let (written, found) = marked(&program, &mut front, &log, &chain_of(&data, status));
+        let reached = if bad == nowhere { 0 } else { 5000 };
+        assert_eq!(written as usize, good + reached);
+        let wanted = &pages_of(&[(FAR + 77, good), (bad, reached), (status, 1)]) | &used;
+        assert_eq!(found, wanted);
+        assert_eq!(front.read(HALF + 4 * MIB, 1), [1]);
+    }
+    // A write of the disk, a flush and a request that is refused write their status alone, one without a place for it
+    // nothing, and neither does one whose place has no memory.
+    for (kind, sector, chain) in [
+        (1, 3, &[(FAR, 512, false), (FAR + MIB, 1, true)][..]),
+        (4, 0, &[(FAR + MIB, 1, true)]),
+        (0, 1 << 50, &[(FAR, 512, true), (FAR + MIB, 1, true)]),
+        (4, 0, &[(FAR + MIB, 0, true)]),
+        (4, 0, &[(nowhere, 1, true)]),
+    ] {
+        put_header(&front, kind, sector);
+        let chain = [&[(HEADERS, 16, false)], chain].concat();
+        let (_, found) = marked(&program, &mut front, &log, &chain);
+        let (addr, len, _) = chain[chain.len() - 1];
+        let status = if addr == nowhere {
+            BTreeSet::new()
+        } else {
+            pages_of(&[(addr, len)])
+        };
+        assert_eq!(found, &status | &used, "{kind} {sector}");
+    }
+}
+
+// Behind a table each page of I/O addresses leads to another one of guest memory.
+#[test]
+fn marks_are_of_what_segments_reached() {
+    for (name, words) in [("log_segments", &[][..]), ("log_segments_8", &["--iotlb-limit", "8"])] {
+        let features = USUAL | ACCESS_PLATFORM;
+        let program = Program::start(name, LEN, words);
+        let mut front = started(&program, features);
+        let log = begin(&mut front, features, LOG_LEN);
+        let to = |page: usize| 12 * MIB + 4096 * (page * 37 % 256);
+        for page in 0..256 {
+            let from = SHIFT + (8 * MIB + 4096 * page) as u64;
+            front.io().pages.insert(from, (to(page) as u64, READ | WRITE));
+        }
+        let used = pages(&[front.used_ring(0)]);
+        put_header(&front, 0, 3);
+        for data in [
+            &[(8 * MIB + 4000, 200), (8 * MIB + 9 * 4096 + 5, 824)][..],
+            &[
+                (8 * MIB + 100, 5000),
+                (8 * MIB + 300_009, 300_000),
+                (8 * MIB + 700_000, 55_960),
+            ],
+        ] {
+            let (status, count) = (8 * MIB + 255 * 4096 + 7, data.iter().map(|it| it.1).sum::<usize>());
+            program.rest();
+            taken(&log);
+            let (written, found) = marked(&program, &mut front, &log, &chain_of(data, status));
+            assert_eq!(written as usize, count + 1);
+            let reached = |page: u64| to(page as usize - 2048) as u64 / PAGE;
+            let segments = &pages_of(data) | &pages_of(&[(status, 1)]);
+            let wanted: BTreeSet<u64> = segments.into_iter().map(reached).collect();
+            assert_eq!(found, &wanted | &used);
+        }
+    }
+}
+
+// What was written of a request that is given back is marked.
+#[test]
+fn what_is_given_back_is_marked() {
+    let program = Program::start_on_a_hole("log_given_back", 4 << 30, &[]);
+    let mut front = started(&program, USUAL);
+    front.write(8 * MIB, &vec![5; 4 * MIB]);
+    let log = begin(&mut front, USUAL, LOG_LEN);
+    front.put_endless(1);
+    front.publish(0, 1);
+    front.kick(0);
+    program.wait_for_work();
+    assert_eq!(front.stop_ring(0), 0);
+    let found = taken(&log);
+    assert_eq!(front.read(8 * MIB, 4 * MIB), vec![0; 4 * MIB]);
+    assert_eq!(found, &pages_of(&[(8 * MIB, 4 * MIB)]) | &pages(&[front.used_ring(0)]));
+}
+
+// What a request wrote before it waits for a mapping is marked, wherever these addresses lead later.
+#[test]
+fn what_came_before_a_miss_is_marked() {
+    let features = USUAL | ACCESS_PLATFORM;
+    let program = Program::start("log_waits", LEN, &[]);
+    let mut front = started(&program, features);
+    let log = begin(&mut front, features, LOG_LEN);
+    front.read_disk(0, 1, 512);
+    program.rest();
+    taken(&log);
+    let missing = SHIFT + 8 * MIB as u64 + 70 * PAGE;
+    let pages_there: Vec<_> = (0..80).map(|page| (8 * MIB + 4096 * page, 4096)).collect();
+    front.put_long(1, 0, 0, &pages_there);
+    front.publish(0, 1);
+    front.kick(0);
+    front.hold(missing);
+    for page in 0..70 {
+        front.remap(SHIFT + 8 * MIB as u64 + page * PAGE, None);
+    }
+    assert_eq!(front.stop_ring(0), 1);
+    let found = taken(&log);
+    assert_eq!(found, &pages_of(&pages_there[..70]) | &pages(&[front.used_ring(0)]));
+    assert!(front.read(8 * MIB, 70 * 4096) == image_of(LEN)[..70 * 4096]);
+}
+
+// Writes are marked from the middle of a request on. The first page of its data was written before.
+#[test]
+fn marks_begin_in_the_middle_of_a_request() {
+    let features = USUAL | ACCESS_PLATFORM;
+    let program = Program::start("log_begins", LEN, &[]);
+    let mut front = started(&program, features);
+    let missing = SHIFT + 9 * MIB as u64;
+    let data = [(8 * MIB, 1024), (9 * MIB, 4096)];
+    let status = front.put_long(1, 0, 7, &data);
+    front.publish(0, 1);
+    front.kick(0);
+    front.hold(missing);
+    let log = begin(&mut front, features, LOG_LEN);
+    front.answer(missing);
+    assert_eq!(front.take_used(0), (1, 5121));
+    program.rest();
+    assert_eq!(
+        taken(&log),
+        &pages_of(&[data[1], (status, 1)]) | &pages(&[front.used_ring(0)])
+    );
+    let bytes = [front.read(8 * MIB, 1024), front.read(9 * MIB, 4096)].concat();
+    assert!(bytes == image_of(LEN)[7 * 512..7 * 512 + 5120]);
+}
+
+// A front end with a log, and so many bytes of memory that no request touches.
+fn with_memory(program: &Program, len: u64) -> FrontEnd {
+    let mut front = program.connect();
+    front.negotiate(USUAL);
+    let (ram, far) = (again(&front.ram), memfd(len as usize));
+    let table = FrontEnd::table(&[(0, RAM as u64, 0), (FAR as u64, len, 0)]);
+    assert!(front.is_done(SET_MEM_TABLE, &table, &[&ram, &far]));
+    front.start_ring(64, 0);
+    begin(&mut front, USUAL, (FAR as u64 + len) / PAGE / 8 + 1);
+    for place in 0..16 {
+        front.put_request(0, 3 * place, 0, 1, 512);
+    }
+    front
+}
+
+// What a processor works for each of some requests, in nanoseconds.
+fn work_of_a_request(program: &Program, front: &mut FrontEnd) -> u64 {
+    let begun = program.processor_time();
+    for _ in 0..20 {
+        for place in 0..16 {
+            front.publish(0, 3 * place);
+        }
+        front.kick(0);
+        for place in 0..16 {
+            assert_eq!(front.take_used(0), (3 * place, 513));
+        }
+    }
+    program.rest();
+    (program.processor_time() - begun) / 320
+}
+
+#[test]
+fn a_mark_costs_nothing_of_the_other_pages() {
+    let programs = ["log_few", "log_many"].map(|name| Program::start(name, LEN, &[]));
+    let mut fronts = [(&programs[0], PAGE), (&programs[1], 4 << 30)].map(|(program, len)| with_memory(program, len));
+    // The least of rounds that take turns: other work on this machine is in both.
+    let mut least = [u64::MAX; 2];
+    for _ in 0..12 {
+        for (at, front) in fronts.iter_mut().enumerate() {
+            least[at] = least[at].min(work_of_a_request(&programs[at], front));
+        }
+    }
+    let [few, many] = least;
+    assert!(many < 2 * few, "{few} and {many}");
 }

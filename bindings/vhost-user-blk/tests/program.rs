@@ -73,7 +73,7 @@ fn a_large_image_is_written_in_place() {
 fn the_configuration_tells_the_disk() {
     let program = Program::start("configuration", LEN, &["--queues", "3"]);
     let mut front = program.connect();
-    assert_eq!(front.ask_u64(GET_FEATURES), 0x7_7400_1244);
+    assert_eq!(front.ask_u64(GET_FEATURES), 0x7_7400_1246);
     assert_eq!(front.ask_u64(GET_PROTOCOL_FEATURES), 0x22b);
     front.negotiate(USUAL | 1 << 12);
     assert_eq!(front.ask_u64(GET_QUEUE_NUM), 3);
@@ -84,6 +84,7 @@ fn the_configuration_tells_the_disk() {
     let config = &config[12..];
     assert_eq!(config.len(), 60);
     assert_eq!(config[..8], SECTORS.to_le_bytes());
+    assert_eq!(config[8..12], (4_u32 << 20).to_le_bytes());
     assert_eq!(config[12..16], 126_u32.to_le_bytes());
     assert_eq!(config[20..24], 512_u32.to_le_bytes());
     assert_eq!(config[34..36], 3_u16.to_le_bytes());

@@ -87,8 +87,8 @@ fn eventfds_asleep() -> f64 {
 fn serve(queue: &Queue<'_>, memory: &GuestMemory<'_>, bytes: &[u8]) -> usize {
     let terms = Terms {
         sectors: LEN as u64 / 512,
-        read_only: false,
         acked: USUAL,
+        ..Terms::default()
     };
     let mut served = 0;
     queue.disable_notification(memory).unwrap();

@@ -27,8 +27,21 @@ fn expect_usage(text: &str) {
         text.starts_with("usage: vhost-user-blk --socket PATH --image FILE [--read-only]"),
         "{text}"
     );
-    for option in ["--write-through", "--queues N", "--iotlb-limit N", "--stats SECONDS"] {
-        assert!(text.contains(&format!("\n  {option} ")), "{text}");
+    for option in [
+        "--socket PATH",
+        "--fd N",
+        "--image FILE",
+        "--read-only",
+        "--write-through",
+        "--queues N",
+        "--iotlb-limit N",
+        "--stats SECONDS",
+        "--no-lock",
+        "--print-capabilities\n",
+        "--version",
+    ] {
+        let line = format!("\n  {option}");
+        assert!(text.contains(&line), "{line} is not in {text}");
     }
 }
 
@@ -43,6 +56,9 @@ fn wrong_words_are_named_with_the_usage() {
         (&["disk.img"], "disk.img is no option"),
         (&["--socket", "s", "--image", "disk.img", "-x"], "-x is no option"),
         (&["--queues", "257"], "--queues takes a number from 1 to 256, not 257"),
+        (&["--queues=0"], "--queues takes a number from 1 to 256, not 0"),
+        (&["--no-lock=1"], "--no-lock takes no value"),
+        (&["--fd=3", "--socket", "s"], "--fd takes the place of --socket"),
         (&["--queues", "-1"], "--queues takes a number from 1 to 256, not -1"),
         (
             &["--queues", "4294967297"],
@@ -101,4 +117,21 @@ fn what_cannot_be_opened_is_named() {
     assert_eq!(fs::read_to_string(folder.join("text")).unwrap(), "not a socket");
     assert!(!folder.join("s").exists() && folder.join("taken").exists());
     assert_eq!(fs::read(folder.join("disk.img")).unwrap(), [0; 1024]);
+}
+
+// The script that boots a guest on the program.
+#[test]
+fn the_script_of_a_real_guest_has_help() {
+    let script = Path::new(env!("CARGO_MANIFEST_DIR")).join("../../tools/real_guest.sh");
+    for (word, status, first) in [
+        ("--help", 0, "Boots Linux in QEMU"),
+        ("-h", 0, "Boots Linux in QEMU"),
+        ("--x", 2, "--x is no option\nBoots Linux in QEMU"),
+    ] {
+        let out = Command::new(&script).arg(word).output().unwrap();
+        let text = String::from_utf8(out.stdout).unwrap();
+        assert_eq!(out.status.code(), Some(status), "{word}");
+        assert!(text.starts_with(first), "{text}");
+        assert!(text.contains("\nusage: tools/real_guest.sh [--install] "), "{text}");
+    }
 }

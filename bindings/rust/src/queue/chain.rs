@@ -1,10 +1,17 @@
 //! Chains that were popped, and what reads and writes them.
 
+use super::error::refusal_of;
 use super::{Queue, QueueError};
-use crate::memory::GuestMemory;
-use crate::raw::{kind, Answer, Call};
+use crate::memory::{GuestAddress, GuestMemory};
+use crate::raw::{code, kind, Answer, Call};
 use crate::value::ByteValued;
 use std::io;
+
+// How many bytes a list has for a segment: its address and its length.
+const ROW: usize = 16;
+
+// How many segments the first call for a list has room for.
+const SEGMENTS: usize = 1024;
 
 /// A chain that was popped: bytes that the device reads, and then bytes that it writes.
 ///
@@ -27,6 +34,30 @@ pub struct ChainId {
     head: u16,
     readable: usize,
     writable: usize,
+}
+
+/// A part of a chain: `len` bytes of guest memory from an address on.
+#[derive(Clone, Copy, Debug, PartialEq, Eq)]
+pub struct Segment {
+    /// The guest address of its first byte.
+    pub addr: GuestAddress,
+    /// Its number of bytes.
+    pub len: usize,
+    /// Whether the device writes it. Otherwise the device reads it.
+    pub is_write_only: bool,
+}
+
+impl Segment {
+    // The one of a row of a list.
+    fn new(row: &[u8], is_write_only: bool) -> Segment {
+        let number = |bytes: &[u8]| u64::from_le_bytes(bytes.try_into().expect("a number has eight bytes"));
+        let (addr, len) = row.split_at(ROW / 2);
+        Segment {
+            addr: GuestAddress(number(addr)),
+            len: number(len) as usize,
+            is_write_only,
+        }
+    }
 }
 
 impl<'a> Queue<'a> {
@@ -75,6 +106,25 @@ impl<'a> DescriptorChain<'a> {
     /// How many bytes the device may write.
     pub fn writable_len(&self) -> usize {
         self.writable
+    }
+
+    /// Its segments, as the driver's descriptors had them when it was popped: those that the device reads, and then those
+    /// that it writes. `NotInFlight` if it is in flight no more.
+    pub fn segments(&self) -> Result<Vec<Segment>, QueueError> {
+        let mut call = self.queue.call_of(kind::LIST_SEGMENTS);
+        call.third = self.head.into();
+        let (mut rows, mut answer) = (vec![0; ROW * SEGMENTS], Answer::default());
+        self.queue.machine.call_into(&call, &[], &mut rows, &mut answer);
+        if answer.code == code::SHORT {
+            rows.resize(answer.count, 0);
+            self.queue.machine.call_into(&call, &[], &mut rows, &mut answer);
+        }
+        if answer.code != code::DONE {
+            return Err(refusal_of(&answer));
+        }
+        let readable = answer.value as usize;
+        let rows = rows.chunks_exact(ROW).take(answer.count).enumerate();
+        Ok(rows.map(|(place, row)| Segment::new(row, place >= readable)).collect())
     }
 
     #[inline]

@@ -7,7 +7,7 @@ use crate::ring::{at, Descriptor, Driver, Numbers, INDIRECT};
 use crate::slow::{addresses, total, Image, Segment};
 use vm_memory_proved::block::*;
 use vm_memory_proved::iotlb::UserRegion;
-use vm_memory_proved::queue::{DescriptorChain, Queue, QueueError};
+use vm_memory_proved::queue::{self, DescriptorChain, Queue, QueueError};
 use vm_memory_proved::{BlockId, GuestMemory, GuestMemoryError, IommuError, IovaRange};
 use vm_memory_proved::{Machine, Miss, Permissions, Reason, TableId};
 
@@ -67,10 +67,21 @@ pub fn number(bytes: &[u8]) -> u64 {
         .fold(0, |number, byte| number << 8 | u64::from(*byte))
 }
 
+/// Whether a chain breaks a limit that the driver keeps: SEG_MAX counts the segments beside the one of the header and the
+/// one of the status, and SIZE_MAX the bytes of each.
+fn is_over_limit(segments: &[Segment], terms: Terms) -> bool {
+    let limit = |limit: Option<u32>| limit.filter(|most| *most != 0).map_or(u64::MAX, u64::from);
+    let data = segments.len().saturating_sub(2) as u64;
+    data > limit(terms.seg_max) || segments.iter().any(|segment| segment.len > limit(terms.size_max))
+}
+
 /// What a chain asks for.
 pub fn asked(image: &Image, segments: &[Segment], terms: Terms) -> Request {
     if total(segments, true) == 0 {
         return Request::Unserved;
+    }
+    if is_over_limit(segments, terms) {
+        return IOERR;
     }
     let places = addresses(segments, false, 0, 16).into_iter();
     let header: Option<Vec<u8>> = places.map(|addr| image.byte(addr)).collect();
@@ -485,6 +496,7 @@ impl<'a> Guest<'a> {
         self.publish(segments, direct);
         let chain = self.until_done(Step::Pop, |memory, queue| queue.pop_descriptor_chain(memory));
         let chain = chain.unwrap().unwrap();
+        assert_eq!(segments_of(&chain), segments);
         let request = self.until_done(Step::Begin, |memory, _| chain.begin_request(memory, terms));
         let request = request.unwrap();
         assert_eq!(request, asked(&self.image, segments, terms));
@@ -503,6 +515,16 @@ impl<'a> Guest<'a> {
         assert!(disks[0] == disks[1]);
         (request, len)
     }
+}
+
+/// The segments that a chain in flight is said to have.
+pub fn segments_of(chain: &DescriptorChain<'_>) -> Vec<Segment> {
+    let segment = |segment: &queue::Segment| Segment {
+        addr: segment.addr.0,
+        len: segment.len as u64,
+        is_written: segment.is_write_only,
+    };
+    chain.segments().unwrap().iter().map(segment).collect()
 }
 
 pub fn access_of(step: Step) -> Permissions {
@@ -542,8 +564,8 @@ pub const ROOM: u64 = 0x3000;
 pub fn terms(sectors: u64) -> Terms {
     Terms {
         sectors,
-        read_only: false,
         acked: ACCEPTS_FLUSH,
+        ..Terms::default()
     }
 }
 

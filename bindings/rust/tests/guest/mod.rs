@@ -11,7 +11,6 @@ use std::sync::atomic::{AtomicU16, AtomicU64};
 unsafe extern "C" {
     fn mmap(at: *mut u8, size: usize, access: c_int, flags: c_int, fd: c_int, offset: i64) -> *mut u8;
     fn munmap(at: *mut u8, size: usize) -> c_int;
-    fn prctl(option: c_int, ...) -> c_int;
     fn sched_getaffinity(thread: c_int, size: usize, processors: *mut u64) -> c_int;
     fn sched_setaffinity(thread: c_int, size: usize, processors: *const u64) -> c_int;
 }
@@ -107,39 +106,4 @@ impl Drop for Guest {
             unsafe { munmap(self.at, self.len) };
         }
     }
-}
-
-/// Has the system refuse a call by its number, on this thread and for good, with the error EPERM. Whether it does.
-pub fn refuse(call: u32) -> bool {
-    #[repr(C)]
-    struct Rule {
-        code: u16,
-        then: u8,
-        or: u8,
-        value: u32,
-    }
-    #[repr(C)]
-    struct Rules {
-        count: u16,
-        rules: *const Rule,
-    }
-    let rule = |code, or, value| Rule {
-        code,
-        then: 0,
-        or,
-        value,
-    };
-    // Loads the number of the call, and compares it: the error EPERM, or leave.
-    let rules = [
-        rule(0x20, 0, 0),
-        rule(0x15, 1, call),
-        rule(6, 0, 0x5_0001),
-        rule(6, 0, 0x7fff_0000),
-    ];
-    let all = Rules {
-        count: 4,
-        rules: rules.as_ptr(),
-    };
-    // SAFETY: the first sets a flag of this thread, and the second reads four rules there.
-    unsafe { prctl(38, 1_u64, 0_u64, 0_u64, 0_u64) == 0 && prctl(22, 2_u64, &all as *const Rules) == 0 }
 }

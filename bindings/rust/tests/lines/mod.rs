@@ -166,7 +166,7 @@ fn refusal(error: &MachineError) -> String {
         MachineError::Layout(GuestRegionCollectionError::MemoryRegionOverlap) => "C2".to_string(),
         MachineError::Layout(GuestRegionCollectionError::UnsortedMemoryRegions) => "C3".to_string(),
         MachineError::GuestMemory(error) => fault(error),
-        MachineError::BadCall | MachineError::Short(_) => format!("no line: {error}"),
+        MachineError::InUse | MachineError::BadCall | MachineError::Short(_) => format!("no line: {error}"),
     }
 }
 

@@ -3,7 +3,7 @@
 
 use std::collections::BTreeMap;
 use std::fs::{self, File};
-use std::io::{BufRead, BufReader, Read, Write};
+use std::io::{BufRead, BufReader, ErrorKind, Read, Write};
 use std::mem::{size_of, size_of_val, zeroed};
 use std::os::fd::{AsRawFd, FromRawFd, OwnedFd, RawFd};
 use std::os::unix::fs::FileExt;
@@ -12,6 +12,7 @@ use std::path::{Path, PathBuf};
 use std::process::{Child, Command, ExitStatus, Stdio};
 use std::ptr::{copy, null_mut};
 use std::sync::atomic::{fence, AtomicU16, Ordering::SeqCst};
+use std::sync::{Arc, Mutex};
 use std::thread::sleep;
 use std::time::{Duration, Instant};
 
@@ -59,11 +60,18 @@ const SLOTS: u64 = 0x1_0000;
 const SLOT: u64 = 0x4000;
 const DATA: u64 = 0x1000;
 
+// For each head of ring 0 the header and the status of a request, and a table of descriptors.
+pub const HEADERS: usize = 5 << 20;
+const TABLES: usize = 6 << 20;
+const TABLE_LEN: usize = 0x8000;
+
 /// How long a test waits for what has to come.
 pub const LONG: Duration = Duration::from_secs(60);
 
 pub struct Program {
     child: Child,
+    // The last of what it said.
+    said: Arc<Mutex<String>>,
     pub folder: PathBuf,
     pub image: PathBuf,
 }
@@ -71,35 +79,81 @@ pub struct Program {
 impl Program {
     /// Starts the program on an image of `len` bytes, each of which depends on its sector.
     pub fn start(name: &str, len: usize, words: &[&str]) -> Program {
+        Program::start_again(&Program::prepare(name, len), words)
+    }
+
+    /// A folder with such an image.
+    pub fn prepare(name: &str, len: usize) -> PathBuf {
         let folder = Path::new(env!("CARGO_TARGET_TMPDIR")).join(name);
         let _ = fs::remove_dir_all(&folder);
         fs::create_dir_all(&folder).unwrap();
         fs::write(folder.join("disk.img"), image_of(len)).unwrap();
-        Program::start_again(&folder, words)
+        folder
+    }
+
+    /// The command that serves the image of a folder.
+    pub fn command(mut command: Command, folder: &Path, words: &[&str]) -> Command {
+        let [socket, image] = ["s", "disk.img"].map(|name| folder.join(name));
+        command.arg("--socket").arg(socket).arg("--image").arg(image);
+        command.args(words);
+        command
     }
 
     /// Starts it on the image that is there.
     pub fn start_again(folder: &Path, words: &[&str]) -> Program {
-        let image = folder.join("disk.img");
-        let mut command = Command::new(env!("CARGO_BIN_EXE_vhost-user-blk"));
-        command
-            .arg("--socket")
-            .arg(folder.join("s"))
-            .arg("--image")
-            .arg(&image)
-            .args(words);
+        let program = Command::new(env!("CARGO_BIN_EXE_vhost-user-blk"));
+        Program::spawn(folder, Program::command(program, folder, words))
+    }
+
+    /// Starts a command that serves the image of a folder.
+    pub fn spawn(folder: &Path, mut command: Command) -> Program {
         let mut child = command.stdout(Stdio::piped()).spawn().unwrap();
-        // It says so once it listens. What it says later goes nowhere.
+        // It says so once it listens.
         let mut lines = BufReader::new(child.stdout.take().unwrap());
         let mut line = String::new();
         lines.read_line(&mut line).unwrap();
         assert!(line.contains("sectors"), "{line}");
-        std::thread::spawn(move || std::io::copy(&mut lines, &mut std::io::sink()));
+        let said = Arc::new(Mutex::new(line));
+        let kept = Arc::clone(&said);
+        std::thread::spawn(move || {
+            let mut line = Vec::new();
+            while lines.read_until(b'\n', &mut line).is_ok_and(|count| count > 0) {
+                let mut kept = kept.lock().unwrap();
+                if kept.len() > 1 << 16 {
+                    kept.clear();
+                }
+                kept.push_str(&String::from_utf8_lossy(&line));
+                line.clear();
+            }
+        });
         Program {
             child,
+            said,
             folder: folder.to_owned(),
-            image,
+            image: folder.join("disk.img"),
         }
+    }
+
+    /// Waits until it has said something.
+    pub fn expect_said(&self, words: &str) {
+        let begun = Instant::now();
+        while !self.said.lock().unwrap().contains(words) {
+            assert!(
+                begun.elapsed() < LONG,
+                "{words} is not in {}",
+                self.said.lock().unwrap()
+            );
+            sleep(Duration::from_millis(2));
+        }
+    }
+
+    /// Starts it on an image that is a hole of `len` bytes.
+    pub fn start_on_a_hole(name: &str, len: u64, words: &[&str]) -> Program {
+        let folder = Path::new(env!("CARGO_TARGET_TMPDIR")).join(name);
+        let _ = fs::remove_dir_all(&folder);
+        fs::create_dir_all(&folder).unwrap();
+        File::create(folder.join("disk.img")).unwrap().set_len(len).unwrap();
+        Program::start_again(&folder, words)
     }
 
     pub fn pid(&self) -> i32 {
@@ -142,13 +196,56 @@ impl Program {
         time_of(clock)
     }
 
+    /// Waits until it has worked for 20 milliseconds.
+    pub fn wait_for_work(&self) {
+        let (begun, before) = (Instant::now(), self.processor_time());
+        while self.processor_time() < before + 20_000_000 {
+            assert!(begun.elapsed() < LONG, "it does not work");
+            sleep(Duration::from_millis(1));
+        }
+    }
+
     pub fn lives(&mut self) -> bool {
         self.child.try_wait().unwrap().is_none()
     }
 
-    pub fn end(mut self, signal: i32) -> ExitStatus {
+    /// Sends it a signal.
+    pub fn signal(&self, signal: i32) {
         // SAFETY: it takes numbers, of a child that was not waited for.
-        unsafe { libc::kill(self.pid(), signal) };
+        assert_eq!(unsafe { libc::kill(self.pid(), signal) }, 0);
+    }
+
+    /// How it ended, if it did within a time.
+    pub fn ended(&mut self, time: Duration) -> Option<ExitStatus> {
+        let begun = Instant::now();
+        while begun.elapsed() < time {
+            if let Some(status) = self.child.try_wait().unwrap() {
+                return Some(status);
+            }
+            sleep(Duration::from_millis(2));
+        }
+        None
+    }
+
+    /// Sets how much it may have of something, and returns how much it could have.
+    pub fn limit(&self, resource: libc::__rlimit_resource_t, most: u64) -> u64 {
+        let mut limit = libc::rlimit {
+            rlim_cur: 0,
+            rlim_max: 0,
+        };
+        // SAFETY: it fills in a limit.
+        assert_eq!(
+            unsafe { libc::prlimit(self.pid(), resource, std::ptr::null(), &mut limit) },
+            0
+        );
+        let before = std::mem::replace(&mut limit.rlim_cur, most);
+        // SAFETY: it reads a limit.
+        assert_eq!(unsafe { libc::prlimit(self.pid(), resource, &limit, null_mut()) }, 0);
+        before
+    }
+
+    pub fn end(mut self, signal: i32) -> ExitStatus {
+        self.signal(signal);
         self.child.wait().unwrap()
     }
 }
@@ -180,6 +277,25 @@ pub fn eventfd() -> OwnedFd {
     assert!(fd >= 0);
     // SAFETY: the system has just opened it.
     unsafe { OwnedFd::from_raw_fd(fd) }
+}
+
+/// Has reads and writes of an open file wait, or not.
+pub fn set_waiting(fd: &impl AsRawFd, waits: bool) {
+    let flags = if waits { 0 } else { libc::O_NONBLOCK };
+    // SAFETY: it takes numbers.
+    assert_eq!(unsafe { libc::fcntl(fd.as_raw_fd(), libc::F_SETFL, flags) }, 0);
+}
+
+/// Fills a counter, so that the next write to it would wait. Who writes to it between the two steps has it taken again.
+pub fn fill(counter: &OwnedFd) {
+    loop {
+        take(counter);
+        match File::from(again(counter)).write(&(u64::MAX - 1).to_ne_bytes()) {
+            Ok(8) => return,
+            Err(error) if error.kind() == ErrorKind::WouldBlock => (),
+            other => panic!("{other:?}"),
+        }
+    }
 }
 
 /// The end of a pipe that is read, and the one that is written.
@@ -297,6 +413,8 @@ pub struct IoTable {
     /// The addresses that were asked for, with their access, and those of which an access was forbidden.
     pub misses: Vec<(u64, u8)>,
     pub forbidden: Vec<(u64, u8)>,
+    /// The page of which a MISS is left unanswered.
+    pub held: Option<u64>,
 }
 
 pub struct FrontEnd {
@@ -320,7 +438,7 @@ impl Drop for FrontEnd {
 }
 
 impl FrontEnd {
-    fn new(socket: UnixStream) -> FrontEnd {
+    pub fn new(socket: UnixStream) -> FrontEnd {
         let ram = memfd(RAM);
         // SAFETY: the system takes addresses that nothing has.
         let at = unsafe { libc::mmap(null_mut(), RAM, 3, libc::MAP_SHARED, ram.as_raw_fd(), 0) };
@@ -376,7 +494,7 @@ impl FrontEnd {
             match self.socket.read(&mut rest) {
                 Ok(0) => return true,
                 Ok(_) => (),
-                Err(error) => return error.kind() == std::io::ErrorKind::ConnectionReset,
+                Err(error) => return error.kind() == ErrorKind::ConnectionReset,
             }
         }
     }
@@ -405,6 +523,7 @@ impl FrontEnd {
             pages: pages.collect(),
             misses: Vec::new(),
             forbidden: Vec::new(),
+            held: None,
         });
     }
 
@@ -455,14 +574,33 @@ impl FrontEnd {
             assert_eq!((message[4], message[37]), (9, 1));
             self.io().misses.push((iova, access));
             let page = iova / PAGE * PAGE;
-            let to = self.io().pages.get(&page).copied();
-            if let Some((to, permissions)) = to {
-                assert!(self.is_done(IOTLB_MSG, &FrontEnd::iotlb(page, PAGE, USER + to, permissions, 2), &[]));
+            if self.io().held != Some(page) {
+                self.answer(page);
             }
-            let value = u64::from(to.is_none());
-            let reply = [&[1, 5, 8].map(u32::to_le_bytes).concat()[..], &value.to_le_bytes()].concat();
-            self.io().channel.write_all(&reply).unwrap();
         }
+    }
+
+    /// Sends the mapping of a page, if there is one, and answers the MISS of it.
+    pub fn answer(&mut self, page: u64) {
+        let to = self.io().pages.get(&page).copied();
+        if let Some((to, permissions)) = to {
+            assert!(self.is_done(IOTLB_MSG, &FrontEnd::iotlb(page, PAGE, USER + to, permissions, 2), &[]));
+        }
+        let value = u64::from(to.is_none());
+        let reply = [&[1, 5, 8].map(u32::to_le_bytes).concat()[..], &value.to_le_bytes()].concat();
+        self.io().channel.write_all(&reply).unwrap();
+    }
+
+    /// Waits for a MISS of a page, and leaves it unanswered.
+    pub fn hold(&mut self, page: u64) {
+        let begun = Instant::now();
+        self.io().held = Some(page);
+        self.io().misses.clear();
+        while self.io().misses.last().map(|it| it.0 / PAGE * PAGE) != Some(page) {
+            assert!(begun.elapsed() < LONG, "no miss comes");
+            self.serve_table();
+        }
+        self.io().held = None;
     }
 
     /// The whole memory, as one region at the address 0.
@@ -629,6 +767,43 @@ impl FrontEnd {
         if len == 0 {
             self.put(index, head, header as u64, 16, 1, head + 2);
         }
+    }
+
+    /// Has a head of ring 0 lead to a table of these segments: where each begins, its length, and whether the device
+    /// writes it.
+    pub fn put_segments(&self, head: u16, segments: &[(usize, usize, bool)]) {
+        let entry = |addr: usize, len: usize, flags: u16, next: u16| {
+            let addr = (addr as u64 + self.shift).to_le_bytes();
+            let rest = [flags, next].map(u16::to_le_bytes).concat();
+            [&addr[..], &(len as u32).to_le_bytes(), &rest].concat()
+        };
+        let (table, last) = (TABLES + TABLE_LEN * usize::from(head), segments.len() - 1);
+        let row = |(at, &(addr, len, is_written)): (usize, &(usize, usize, bool))| {
+            let flags = u16::from(at < last) | u16::from(is_written) << 1;
+            entry(addr, len, flags, at as u16 + 1)
+        };
+        let rows: Vec<_> = segments.iter().enumerate().map(row).collect();
+        self.write(table, &rows.concat());
+        let one = entry(table, 16 * segments.len(), 4, 0);
+        self.write(self.rings[0].base as usize + 16 * usize::from(head), &one);
+    }
+
+    /// Puts a request whose data have these segments behind a head of ring 0, and returns where its status goes.
+    pub fn put_long(&self, head: u16, kind: u32, sector: u64, data: &[(usize, usize)]) -> usize {
+        let header = HEADERS + 0x1000 * usize::from(head);
+        let status = header + 0x800;
+        let bytes = [&kind.to_le_bytes()[..], &[0; 4], &sector.to_le_bytes()];
+        self.write(header, &bytes.concat());
+        self.write(status, &[0xff]);
+        let data = data.iter().map(|&(addr, len)| (addr, len, kind != 1));
+        let segments: Vec<_> = [(header, 16, false)].into_iter().chain(data).collect();
+        self.put_segments(head, &[&segments[..], &[(status, 1, true)]].concat());
+        status
+    }
+
+    /// Puts a read of nearly 4 GiB from the beginning of the disk, all into the four mebibytes from the eighth on.
+    pub fn put_endless(&self, head: u16) {
+        self.put_long(head, 0, 0, &[(8 << 20, 4 << 20); 1022]);
     }
 
     /// Publishes a head, and notifies nobody.

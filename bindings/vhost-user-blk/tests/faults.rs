@@ -1,0 +1,220 @@
+//! What fails around the program: the disk, the limits of the system, and whoever reads what it prints.
+
+mod front_end;
+
+use front_end::*;
+use std::fs::{self, File};
+use std::io::Read;
+use std::os::fd::AsRawFd;
+use std::os::unix::net::UnixStream;
+use std::process::{Command, Stdio};
+use std::thread::sleep;
+use std::time::{Duration, Instant};
+
+const LEN: usize = 1 << 20;
+
+fn started(program: &Program, features: u64) -> FrontEnd {
+    let mut front = program.connect();
+    front.negotiate(features);
+    front.set_memory();
+    front.start_ring(64, 0);
+    front
+}
+
+fn expect_well(program: Program) {
+    let mut front = started(&program, USUAL);
+    assert_eq!(front.read_disk(0, 2, 512), image_of(LEN)[2 * 512..3 * 512]);
+    drop(front);
+    assert!(program.end(libc::SIGTERM).success());
+}
+
+// The program, whose second sync fails and whose later ones succeed, as after the system has dropped what it could not write.
+// strace makes that so; without it there is no program.
+fn with_a_sync_that_fails(name: &str, words: &[&str]) -> Option<Program> {
+    let folder = Program::prepare(name, LEN);
+    // The program is the child, and strace its own.
+    let mut strace = Command::new("strace");
+    strace.args(["-D", "-f", "-qq", "-o", "/dev/null"]);
+    if !strace.arg("true").status().is_ok_and(|status| status.success()) {
+        println!("{name} is left out: strace is missing, or may not trace");
+        return None;
+    }
+    let mut strace = Command::new("strace");
+    strace.args(["-D", "-f", "-qq", "-e", "trace=fdatasync", "-e", "signal=none", "-o"]);
+    strace.arg(folder.join("trace"));
+    strace.args(["-e", "inject=fdatasync:error=EIO:when=2"]);
+    strace.arg(env!("CARGO_BIN_EXE_vhost-user-blk"));
+    Some(Program::spawn(&folder, Program::command(strace, &folder, words)))
+}
+
+#[test]
+fn after_a_sync_that_failed_no_flush_succeeds() {
+    let Some(program) = with_a_sync_that_fails("failed_flush", &["--stats", "1"]) else {
+        return;
+    };
+    let mut front = started(&program, USUAL);
+    front.write_disk(0, 3, &[1; 512]);
+    assert_eq!(front.request(0, 4, 0, 0), (0, 1));
+    // This one fails, and so do all after it, of the next front end, too.
+    for _ in 0..3 {
+        assert_eq!(front.request(0, 4, 0, 0), (1, 1));
+    }
+    program.expect_said("the image cannot be made stable: Input/output error");
+    program.expect_said("the image: a sync failed");
+    drop(front);
+    let mut front = started(&program, USUAL);
+    assert_eq!(front.request(0, 4, 0, 0), (1, 1));
+    // What need not be stable is served.
+    front.write_disk(0, 5, &[2; 512]);
+    assert_eq!(front.read_disk(0, 5, 512), [2; 512]);
+    // Started again, the program flushes.
+    let folder = program.folder.clone();
+    assert!(program.end(libc::SIGTERM).success());
+    let program = Program::start_again(&folder, &[]);
+    assert_eq!(started(&program, USUAL).request(0, 4, 0, 0), (0, 1));
+}
+
+#[test]
+fn after_a_sync_that_failed_no_write_is_stable() {
+    let Some(program) = with_a_sync_that_fails("failed_write", &["--write-through"]) else {
+        return;
+    };
+    let mut front = started(&program, USUAL & !FLUSH);
+    front.write_disk(0, 3, &[1; 512]);
+    for _ in 0..3 {
+        assert_eq!(front.request(0, 1, 3, 512), (1, 1));
+    }
+    assert_eq!(front.read_disk(0, 2, 512), image_of(LEN)[2 * 512..3 * 512]);
+}
+
+// A file may have 512 KiB.
+#[test]
+fn a_file_that_may_not_grow_fails_the_write() {
+    let program = Program::start("file_size", LEN, &[]);
+    let mut front = started(&program, USUAL);
+    let before = program.limit(libc::RLIMIT_FSIZE, 512 << 10);
+    front.write_disk(0, 1023, &[7; 512]);
+    assert_eq!(front.request(0, 1, 1024, 512), (1, 1));
+    assert_eq!(front.read_disk(0, 1023, 512), [7; 512]);
+    program.limit(libc::RLIMIT_FSIZE, before);
+    front.write_disk(0, 1024, &[8; 512]);
+    drop(front);
+    expect_well(program);
+}
+
+#[test]
+fn a_front_end_waits_for_a_descriptor() {
+    let program = Program::start("no_descriptors", LEN, &[]);
+    drop(started(&program, USUAL));
+    let before = program.limit(libc::RLIMIT_NOFILE, 0);
+    let socket = UnixStream::connect(program.folder.join("s")).unwrap();
+    program.expect_said("no front end can connect now: Too many open files");
+    // It does not ask again and again.
+    let worked = program.processor_time();
+    sleep(Duration::from_millis(500));
+    assert!(program.processor_time() - worked < 100_000_000);
+    program.limit(libc::RLIMIT_NOFILE, before);
+    let mut front = FrontEnd::new(socket);
+    front.negotiate(USUAL);
+    drop(front);
+    expect_well(program);
+}
+
+// There is room for a connection, and for less than it needs.
+#[test]
+fn a_connection_that_lacks_descriptors_ends_alone() {
+    let program = Program::start("few_descriptors", LEN, &[]);
+    for most in 3..30 {
+        let before = program.limit(libc::RLIMIT_NOFILE, most);
+        let front = program.connect();
+        let ((_mine, other), counter) = (UnixStream::pair().unwrap(), eventfd());
+        for (request, payload, descriptor) in [
+            (SET_BACKEND_REQ_FD, &[][..], other.as_raw_fd()),
+            (SET_VRING_CALL, &[0; 8], counter.as_raw_fd()),
+            (SET_VRING_KICK, &[0; 8], front.ram.as_raw_fd()),
+        ] {
+            // It may have been let go.
+            send(&front.socket, &message(request, 1, payload), &[descriptor]);
+        }
+        program.rest();
+        drop(front);
+        program.limit(libc::RLIMIT_NOFILE, before);
+        // It waits for front ends again.
+        started(&program, USUAL).read_disk(0, 1, 512);
+    }
+    expect_well(program);
+}
+
+// The system gives the program no more memory. If the first allocation that fails is one of a few bytes, as it is once in
+// some tries, Rust ends the program; else the connection ends.
+#[test]
+fn a_connection_that_lacks_memory_ends_alone() {
+    for _ in 0..10 {
+        let mut program = Program::start("no_memory", LEN, &[]);
+        let (_, mapped) = program.memory();
+        let before = program.limit(libc::RLIMIT_AS, mapped);
+        let mut front = program.connect();
+        assert!(front.is_let_go());
+        if program.ended(Duration::from_millis(200)).is_some() {
+            continue;
+        }
+        program.expect_said("the connection ended: setting it up: ");
+        program.limit(libc::RLIMIT_AS, before);
+        return expect_well(program);
+    }
+    panic!("the program ends each time");
+}
+
+#[test]
+fn nobody_has_to_read_what_it_prints() {
+    let folder = Program::prepare("unread", LEN);
+    let program = Command::new(env!("CARGO_BIN_EXE_vhost-user-blk"));
+    let mut command = Program::command(program, &folder, &[]);
+    let mut child = command.stdout(Stdio::piped()).spawn().unwrap();
+    let mut lines = child.stdout.take().unwrap();
+    while !folder.join("s").exists() {
+        sleep(Duration::from_millis(2));
+    }
+    // More lines than the pipe and the program have room for.
+    let begun = Instant::now();
+    for _ in 0..3000 {
+        let mut front = FrontEnd::new(UnixStream::connect(folder.join("s")).unwrap());
+        front.socket.set_read_timeout(Some(Duration::from_secs(10))).unwrap();
+        front.ask_u64(GET_FEATURES);
+        assert!(begun.elapsed() < LONG);
+    }
+    // It ends, though the last lines are not read.
+    let begun = Instant::now();
+    // SAFETY: it takes numbers, of a child that was not waited for.
+    assert_eq!(unsafe { libc::kill(child.id() as i32, libc::SIGTERM) }, 0);
+    while child.try_wait().unwrap().is_none() {
+        assert!(begun.elapsed() < Duration::from_secs(10), "it does not end");
+        sleep(Duration::from_millis(2));
+    }
+    assert!(child.wait().unwrap().success());
+    let mut text = String::new();
+    lines.read_to_string(&mut text).unwrap();
+    // Whole lines, up to where there was no room.
+    assert!(text.starts_with(&format!("{}: 2048 sectors", folder.join("disk.img").display())));
+    assert!(text.len() < 1 << 18, "{} bytes", text.len());
+}
+
+// A signal that a process sends is no access that failed.
+#[test]
+fn memory_that_goes_away_is_survived_after_a_signal() {
+    let mut program = Program::start("sent_signal", LEN, &[]);
+    for _ in 0..2 {
+        program.signal(libc::SIGBUS);
+        let mut front = started(&program, USUAL);
+        front.read_disk(0, 1, 512);
+        program.signal(libc::SIGBUS);
+        front.read_disk(0, 1, 512);
+        File::from(again(&front.ram)).set_len(0).unwrap();
+        front.kick(0);
+        assert!(front.is_let_go());
+        program.expect_said("guest memory disappeared");
+        assert!(program.lives());
+    }
+    assert_eq!(fs::read(&program.image).unwrap(), image_of(LEN));
+    expect_well(program);
+}

@@ -1,0 +1,136 @@
+//! Tables of memory one after another: what stays of the files is not mapped again, what goes is unmapped, and a request
+//! reaches what the last table says.
+
+mod front_end;
+
+use front_end::*;
+use std::collections::BTreeMap;
+use std::fs::{self, File};
+use std::os::fd::OwnedFd;
+use std::os::unix::fs::{FileExt, MetadataExt};
+
+const LEN: usize = 1 << 20;
+const GIB: u64 = 1 << 30;
+// Where memory is plugged in.
+const PLUGGED: u64 = 4 * GIB;
+
+fn inode(file: &OwnedFd) -> u64 {
+    File::from(again(file)).metadata().unwrap().ino()
+}
+
+// Where the program has mapped which file that lies in memory, by its number and the offset.
+fn mapped(program: &Program) -> BTreeMap<(u64, u64), String> {
+    let maps = fs::read_to_string(format!("/proc/{}/maps", program.pid())).unwrap();
+    let of_files = maps.lines().filter(|line| line.contains("/memfd:"));
+    let places = of_files.map(|line| {
+        let words: Vec<_> = line.split_whitespace().collect();
+        let offset = u64::from_str_radix(words[2], 16).unwrap();
+        ((words[4].parse().unwrap(), offset), words[0].to_string())
+    });
+    places.collect()
+}
+
+// Reads sectors into plugged memory, and returns what its file has there.
+fn read_into(front: &mut FrontEnd, file: &OwnedFd, offset: u64, addr: u64) -> Vec<u8> {
+    let status = front.put_long(2, 0, 3, &[(addr as usize, 1024)]);
+    front.publish(0, 2);
+    front.kick(0);
+    assert_eq!(front.take_used(0), (2, 1025));
+    assert_eq!(front.read(status, 1), [0]);
+    let mut bytes = vec![0; 1024];
+    File::from(again(file)).read_exact_at(&mut bytes, offset).unwrap();
+    bytes
+}
+
+#[test]
+fn what_stays_of_a_table_stays_mapped() {
+    let program = Program::start("tables", LEN, &[]);
+    let mut front = program.connect();
+    front.negotiate(USUAL);
+    front.set_memory();
+    front.start_ring(16, 0);
+    let ram = again(&front.ram);
+    let whole = (0, RAM as u64, 0);
+    let wanted = image_of(LEN)[3 * 512..5 * 512].to_vec();
+    let first = mapped(&program);
+    assert_eq!(first.keys().collect::<Vec<_>>(), [&(inode(&ram), 0)]);
+    let mut before = (0, 0, 0);
+    for round in 0..300 {
+        let (low, high) = (memfd(8 << 20), memfd(8 << 20));
+        // A file at two places, with a hole between them that it has.
+        let table = FrontEnd::table(&[
+            whole,
+            (PLUGGED, 1 << 20, 0),
+            (PLUGGED + (2 << 20), 1 << 20, 2 << 20),
+            (PLUGGED + GIB, 8 << 20, 0),
+        ]);
+        assert!(front.is_done(SET_MEM_TABLE, &table, &[&ram, &low, &low, &high]));
+        assert_eq!(
+            read_into(&mut front, &low, (3 << 20) - 1024, PLUGGED + (3 << 20) - 1024),
+            wanted
+        );
+        assert_eq!(read_into(&mut front, &high, 5, PLUGGED + GIB + 5), wanted);
+        let all = mapped(&program);
+        let parts = [(inode(&low), 0), (inode(&low), 2 << 20), (inode(&high), 0)];
+        assert_eq!((all.len(), &all[&(inode(&ram), 0)]), (4, &first[&(inode(&ram), 0)]));
+        // One part goes, one moves to another address, and all else stays where it is.
+        let table = FrontEnd::table(&[whole, (PLUGGED, 1 << 20, 2 << 20), (PLUGGED + GIB, 8 << 20, 0)]);
+        assert!(front.is_done(SET_MEM_TABLE, &table, &[&ram, &low, &high]));
+        let mut stays = all.clone();
+        assert!(parts.iter().all(|part| all.contains_key(part)) && stays.remove(&parts[0]).is_some());
+        assert_eq!(mapped(&program), stays);
+        assert_eq!(read_into(&mut front, &low, (2 << 20) + 7, PLUGGED + 7), wanted);
+        front.set_memory();
+        assert_eq!(mapped(&program), first);
+        // What is not there any more is not reached.
+        front.put_long(2, 0, 3, &[(PLUGGED as usize, 1024)]);
+        front.publish(0, 2);
+        front.kick(0);
+        assert_eq!(front.take_used(0).0, 2);
+        assert_eq!(front.read_disk(0, 6, 512), image_of(LEN)[6 * 512..7 * 512]);
+        let now = (program.descriptors(), program.memory().0, program.memory().1);
+        if round == 20 {
+            before = now;
+        }
+        if round > 20 {
+            assert!(now.0 == before.0 && now.1 < before.1 + (1 << 20) && now.2 < before.2 + (1 << 20));
+        }
+    }
+}
+
+// What it takes to replace a table, of ten times the shortest: the machine may have other work.
+#[test]
+fn a_table_of_64_gib_is_taken_at_once() {
+    let program = Program::start("large_tables", LEN, &[]);
+    let mut front = program.connect();
+    front.negotiate(USUAL);
+    front.set_memory();
+    front.start_ring(16, 0);
+    let ram = again(&front.ram);
+    let large = memfd(64 << 30);
+    let resident = program.memory().0;
+    let mut least = [u64::MAX; 3];
+    for _ in 0..10 {
+        let (more, whole) = (memfd(1 << 30), (0, RAM as u64, 0));
+        let tables = [
+            (FrontEnd::table(&[whole, (PLUGGED, 64 * GIB, 0)]), vec![&ram, &large]),
+            (
+                FrontEnd::table(&[whole, (PLUGGED, 64 * GIB, 0), (PLUGGED + 64 * GIB, GIB, 0)]),
+                vec![&ram, &large, &more],
+            ),
+            (FrontEnd::table(&[whole]), vec![&ram]),
+        ];
+        for (place, (table, files)) in tables.iter().enumerate() {
+            let begun = program.processor_time();
+            assert!(front.is_done(SET_MEM_TABLE, table, files));
+            least[place] = least[place].min(program.processor_time() - begun);
+        }
+        assert_eq!(front.read_disk(0, 6, 512), image_of(LEN)[6 * 512..7 * 512]);
+    }
+    println!(
+        "64 GiB in {} ns, 1 GiB more in {} ns, and back in {} ns",
+        least[0], least[1], least[2]
+    );
+    assert!(least.iter().all(|it| *it < 50_000_000), "{least:?}");
+    assert!(program.memory().0 < resident + (10 << 20));
+}

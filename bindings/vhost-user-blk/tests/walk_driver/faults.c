@@ -1,0 +1,60 @@
+// A disk that fails: it is loaded in front of the C library. Reads and writes are short or interrupted, from a place on
+// they fail, and syncs are counted. The test shares a file with these numbers.
+#define _GNU_SOURCE
+#include <errno.h>
+#include <fcntl.h>
+#include <stdatomic.h>
+#include <stdint.h>
+#include <stdlib.h>
+#include <sys/mman.h>
+#include <sys/syscall.h>
+#include <unistd.h>
+
+struct faults {
+    _Atomic uint64_t bad_from, syncs, failing_syncs, turns;
+};
+
+static struct faults *faults(void) {
+    static struct faults *shared;
+    if (!shared) {
+        int file = open(getenv("WALK_FAULTS"), O_RDWR | O_CLOEXEC);
+        shared = mmap(0, sizeof *shared, PROT_READ | PROT_WRITE, MAP_SHARED, file, 0);
+        close(file);
+        if (shared == MAP_FAILED)
+            abort();
+    }
+    return shared;
+}
+
+// How many bytes a call moves, or -1.
+static ssize_t allowed(size_t count, off_t place, int error) {
+    uint64_t turn = atomic_fetch_add(&faults()->turns, 1);
+    if ((uint64_t)place >= faults()->bad_from) {
+        errno = error;
+        return -1;
+    }
+    if (turn % 5 == 0) {
+        errno = EINTR;
+        return -1;
+    }
+    return turn % 5 < 3 && count > 1 ? 1 + turn * 7919 % count : count;
+}
+
+ssize_t pread64(int file, void *bytes, size_t count, off_t place) {
+    ssize_t most = allowed(count, place, EIO);
+    return most < 0 ? -1 : syscall(SYS_pread64, file, bytes, most, place);
+}
+
+ssize_t pwrite64(int file, const void *bytes, size_t count, off_t place) {
+    ssize_t most = allowed(count, place, ENOSPC);
+    return most < 0 ? -1 : syscall(SYS_pwrite64, file, bytes, most, place);
+}
+
+int fdatasync(int file) {
+    atomic_fetch_add(&faults()->syncs, 1);
+    if (atomic_exchange(&faults()->failing_syncs, 0)) {
+        errno = EIO;
+        return -1;
+    }
+    return syscall(SYS_fdatasync, file);
+}

@@ -1,0 +1,50 @@
+//! A disk that fails, by a small library of C in front of the system's.
+
+use super::system::Map;
+use std::fs::File;
+use std::path::{Path, PathBuf};
+use std::process::Command;
+use std::sync::atomic::Ordering::SeqCst;
+
+/// What the library and the test have in common.
+pub struct Faults {
+    map: Map,
+    pub file: PathBuf,
+    pub library: PathBuf,
+}
+
+impl Faults {
+    /// Makes the library, if there is a compiler. The disk fails from a byte on.
+    pub fn new(folder: &Path, bad_from: u64) -> Option<Faults> {
+        let (library, file) = (folder.join("faults.so"), folder.join("faults"));
+        let source = Path::new(env!("CARGO_MANIFEST_DIR")).join("tests/walk_driver/faults.c");
+        let mut command = Command::new("cc");
+        command
+            .args(["-shared", "-fPIC", "-O1", "-o"])
+            .arg(&library)
+            .arg(source);
+        // Without one the walks have a disk that does not fail.
+        let status = command.status().ok()?;
+        assert!(status.success());
+        let shared = File::options()
+            .read(true)
+            .write(true)
+            .create_new(true)
+            .open(&file)
+            .unwrap();
+        shared.set_len(4096).unwrap();
+        let map = Map::new(&shared.into(), 0, 4096);
+        map.word(0).store(bad_from, SeqCst);
+        Some(Faults { map, file, library })
+    }
+
+    /// How many syncs were asked for.
+    pub fn syncs(&self) -> u64 {
+        self.map.word(8).load(SeqCst)
+    }
+
+    /// The next sync fails.
+    pub fn fail_sync(&self) {
+        self.map.word(16).store(1, SeqCst);
+    }
+}
