@@ -1,7 +1,7 @@
 #!/usr/bin/env bash
 # Boots Linux in QEMU on a disk that bindings/vhost-user-blk serves, and compares the disk with what the guest wrote.
 #
-# usage: tools/real_guest.sh [--install] [--list] [--keep] [VARIANT..]
+# usage: tools/real_guest.sh [--install] [--list] [--keep] [--help] [VARIANT..]
 #
 # --install installs the packages that it needs, by apt-get, --list prints the variants, and --keep keeps the files of
 # each run. Without a VARIANT it runs all. Each prints one line: its name, ok, FAILED or SLOW, the seconds, and what the
@@ -17,11 +17,13 @@
 # guest may take. A guest that waits for what does not come fails before that, and one that is only slow does not fail.
 #
 # QEMU 7.2 seems to forget some pages that emulated processors wrote, each time it looks for such pages while a guest
-# moves: with QEMU's own device the guest crashed, too, and with QEMU 10.0 it did not. So a guest is moved in one go.
+# moves: with QEMU's own device the guest crashed, too, and with QEMU 10.0 it did not. So QEMU looks once before the end,
+# and copies slowly meanwhile (move_by).
 set -u
 QEMU=${QEMU:-qemu-system-x86_64}
 TOP=$(cd "$(dirname "${BASH_SOURCE[0]}")/.." && pwd)
 LIMIT=${REAL_GUEST_SECONDS:-900}
+HUGE=/sys/kernel/mm/hugepages/hugepages-2048kB
 # A guest waits if it said nothing for so many seconds, and wanted a processor for less than a tenth of them. It runs in
 # circles if it said nothing while it had a processor for so many seconds: a boot takes 8 of one of 2.5 GHz.
 WAITING=30
@@ -34,9 +36,10 @@ PATTERN_SIZE=$((4 << 20))
 HALF=$((32 << 20))
 
 # A variant: what the guest does, the words of the device, those of the back end, how the back end is ended meanwhile, how
-# the guest runs its IOMMU, if it has one, by which way it moves to another QEMU, and for how long it works.
+# the guest runs its IOMMU, if it has one, by which way it moves to another QEMU, for how long it works, and the words of
+# its memory.
 variant() {
-    work=full device="" backend="" ending="" queues=1 ops=40 files=6 iommu="" moving="" soak=""
+    work=full device="" backend="" ending="" queues=1 ops=40 files=6 iommu="" moving="" soak="" ram=""
     case $1 in
     default) ;;
     quick) ops=10 files=2 ;;
@@ -51,6 +54,7 @@ variant() {
     queue-256) device=queue-size=256 ;;
     queue-1024) device=queue-size=1024 ;;
     two-queues) queues=2 backend="--queues 2" ;;
+    huge-pages) ram=,hugetlb=on,hugetlbsize=2M ops=10 files=2 ;;
     read-only) work=read backend=--read-only ;;
     no-flush) backend=--write-through ;;
     sigterm) work=load ending=TERM ;;
@@ -67,7 +71,7 @@ variant() {
     *) return 1 ;;
     esac
 }
-VARIANTS=(default no-event-idx no-indirect packed packed-no-event-idx packed-no-indirect packed-strict queue-16 queue-256 queue-1024 two-queues read-only no-flush sigterm sigkill
+VARIANTS=(default no-event-idx no-indirect packed packed-no-event-idx packed-no-indirect packed-strict queue-16 queue-256 queue-1024 two-queues huge-pages read-only no-flush sigterm sigkill
     strict-8 strict-64 strict lazy-8 lazy-64 lazy
     move move-file strict-move strict-move-file packed-move)
 
@@ -134,10 +138,12 @@ build_backend() {
     VHOST_USER_BLK=$TOP/bindings/vhost-user-blk/target/release/vhost-user-blk
 }
 
+# While a guest moves, both back ends have its image, and the first one has locked it.
 start_backend() {
     rm -f "$room/socket$part"
     # shellcheck disable=SC2086
-    "$VHOST_USER_BLK" --socket "$room/socket$part" --image "$room/disk.img" --stats 5 $backend >> "$room/backend" 2>&1 &
+    "$VHOST_USER_BLK" --socket "$room/socket$part" --image "$room/disk.img" --stats 5 ${part:+--no-lock} $backend \
+        >> "$room/backend" 2>&1 &
     backend_pid=$!
     echo "$backend_pid" > "$room/pid"
     starts=$((starts + 1))
@@ -177,7 +183,7 @@ start_qemu() {
     mkfifo "$room/in$part" "$room/monitor$part.in" "$room/monitor$part.out"
     cat "$room/monitor$part.out" > "$room/monitor$part" &
     "$QEMU" -accel tcg,thread=multi -machine q35,memory-backend=ram -smp 2 \
-        -m 256M -object memory-backend-memfd,id=ram,size=256M,share=on -nodefaults -no-user-config -display none \
+        -m 256M -object "memory-backend-memfd,id=ram,size=256M,share=on$ram" -nodefaults -no-user-config -display none \
         -chardev "pipe,id=monitor,path=$room/monitor$part" -mon chardev=monitor "$@" \
         -no-reboot -kernel "$(kernel)" -initrd "$shared/initrd" -append "$words id=disk.img" "${disk[@]}" \
         -serial stdio < "$room/in$part" >> "$room/console" 2>> "$room/qemu" &
@@ -445,10 +451,31 @@ compare_counts() {
     fi
 }
 
+# Has the system keep huge pages for the memory of the guest, and returns whether it does.
+take_huge_pages() {
+    local free
+    free=$(cat "$HUGE/free_hugepages" 2> /dev/null) || return
+    [ "$free" -ge 128 ] && return
+    huge_pages=$(cat "$HUGE/nr_hugepages")
+    { echo $((huge_pages + 128 - free)) > "$HUGE/nr_hugepages"; } 2> /dev/null
+    [ "$(cat "$HUGE/free_hugepages")" -ge 128 ]
+}
+
+# Has it keep as many as before.
+leave_huge_pages() {
+    [ -z "${huge_pages:-}" ] || echo "$huge_pages" > "$HUGE/nr_hugepages"
+    huge_pages=""
+} 2> /dev/null
+
 run_variant() {
     local name=$1 starts=0 backend_pid="" qemu_pid="" watch_pid guest_in begun status
-    local work device backend ending queues ops files iommu moving soak flush=1 part="" grown=""
+    local work device backend ending queues ops files iommu moving soak ram flush=1 part="" grown=""
     variant "$name"
+    if [ -n "$ram" ] && ! take_huge_pages; then
+        leave_huge_pages
+        printf '%-16s %-6s %4s    %s\n' "$name" "-" "" "left out: this machine has no huge pages for it"
+        return 0
+    fi
     [ "$name" = no-flush ] && flush=0
     room=$shared/$name
     mkdir -p "$room"
@@ -476,6 +503,7 @@ run_variant() {
         backend_pid=""
         [ "$status" = 0 ] || echo "the back end ended with status $status" >> "$room/why"
     fi
+    leave_huge_pages
     tr -d '\r' < "$room/console" > "$room/said"
     compare
     report
@@ -528,7 +556,13 @@ report() {
 clean_up() {
     # shellcheck disable=SC2086
     kill -KILL ${watch_pid:-} ${qemu_pid:-} ${backend_pid:-} 2> /dev/null
+    leave_huge_pages
     [ -n "$keep" ] || rm -rf "$shared"
+}
+
+# The lines at the top of this file.
+usage() {
+    sed -n '2,/^set/{/^#/p}' "${BASH_SOURCE[0]}" | sed 's/^# \?//'
 }
 
 main() {
@@ -538,7 +572,8 @@ main() {
         --install) install_packages || exit 1 ;;
         --list) printf '%s\n' "${VARIANTS[@]}"; exit 0 ;;
         --keep) keep=1 ;;
-        -*) sed -n '2,/^set/{/^#/p}' "${BASH_SOURCE[0]}"; exit 2 ;;
+        --help | -h) usage; exit 0 ;;
+        -*) echo "$word is no option"; usage; exit 2 ;;
         *) names+=("$word") ;;
         esac
     done
