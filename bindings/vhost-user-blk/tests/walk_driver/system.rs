@@ -1,7 +1,8 @@
 //! The calls of the system that the walks make.
 
+use super::patience;
 use std::fs::File;
-use std::io::Read;
+use std::io::{Error, ErrorKind, Read};
 use std::mem::{size_of_val, zeroed};
 use std::os::fd::{AsRawFd, FromRawFd, OwnedFd, RawFd};
 use std::os::unix::net::UnixStream;
@@ -38,9 +39,13 @@ pub fn drain(counter: &OwnedFd) -> u64 {
 
 /// Waits until one of these can be read, for a time at most.
 pub fn wait(descriptors: &[RawFd], time: Duration) -> bool {
+    wait_for(descriptors, libc::POLLIN, time)
+}
+
+fn wait_for(descriptors: &[RawFd], events: i16, time: Duration) -> bool {
     let of = |&fd: &RawFd| libc::pollfd {
         fd,
-        events: libc::POLLIN,
+        events,
         revents: 0,
     };
     let mut asked: Vec<_> = descriptors.iter().map(of).collect();
@@ -73,9 +78,18 @@ pub fn send(socket: &UnixStream, bytes: &[u8], descriptors: &[RawFd]) {
             copy(descriptors.as_ptr(), libc::CMSG_DATA(first).cast(), descriptors.len());
         }
     }
-    // SAFETY: the header has one part, which is `bytes`, and its control.
-    let sent = unsafe { libc::sendmsg(socket.as_raw_fd(), &header, libc::MSG_NOSIGNAL) };
-    assert_eq!(sent, bytes.len() as isize, "the back end went away");
+    loop {
+        // SAFETY: the header has one part, which is `bytes`, and its control.
+        let sent = unsafe { libc::sendmsg(socket.as_raw_fd(), &header, libc::MSG_NOSIGNAL) };
+        if sent == bytes.len() as isize {
+            return;
+        }
+        let error = Error::last_os_error();
+        // A socket that waits for nothing is full if the other end has not read hundreds of parts of replies yet.
+        assert!(sent < 0 && error.kind() == ErrorKind::WouldBlock, "{sent} bytes are sent: {error}");
+        let has_room = wait_for(&[socket.as_raw_fd()], libc::POLLOUT, patience());
+        assert!(has_room, "the back end reads nothing");
+    }
 }
 
 /// Bytes of a file that another process has, too.
