@@ -54,7 +54,7 @@ pub struct IovaRange {
 /// What a call that a table refused has to have first: addresses for an access.
 #[derive(Clone, Copy, Debug, PartialEq, Eq)]
 pub struct Miss {
-    /// The first of the call's addresses that the table misses or forbids.
+    /// The first of the call's addresses that the table misses, or the first that it forbids if it misses none.
     pub iova_range: IovaRange,
     /// How the call accesses them.
     pub access: Permissions,

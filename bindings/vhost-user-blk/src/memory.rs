@@ -219,22 +219,6 @@ impl Memory {
         Ok(ranges)
     }
 
-    /// The first addresses of a miss that lead nowhere, if there are any: a mapping of the others forbids the access, and
-    /// asking for it again would change nothing.
-    pub fn unmapped(&self, miss: Miss) -> Option<Miss> {
-        let Miss { iova_range, access } = miss;
-        let found = self
-            .machine
-            .lookup(self.behind.table, iova_range.base, iova_range.length, access);
-        match found {
-            Ok(Err(fails)) => fails.misses.first().map(|first| Miss {
-                iova_range: *first,
-                access,
-            }),
-            _ => Some(miss),
-        }
-    }
-
     /// How many bytes an access of data has at most. A table has to have room for the ranges of one access, and these are
     /// pages at least.
     pub fn most_at_once(&self) -> usize {

@@ -300,10 +300,7 @@ impl<'a> Server<'a> {
                 }
                 Err(Fault::Queue(error)) => {
                     match reason_of(&error).and_then(|reason| Some((reason, at.memory.machine().take_miss()?))) {
-                        Some((Reason::MissingMapping, miss)) => match at.memory.unmapped(miss) {
-                            Some(miss) => return Ok(Turn::Misses(miss)),
-                            None => forbidden(miss),
-                        },
+                        Some((Reason::MissingMapping, miss)) => return Ok(Turn::Misses(miss)),
                         Some((Reason::AccessNotAllowed, miss)) => forbidden(miss),
                         _ => (),
                     }

@@ -80,12 +80,11 @@ no_miss = record { access = 0; address = 0; length = 0 }
 abbrev pub miss_at : Permissions → Range → Miss
 miss_at access r = record { access = number_of access; address = r.base; length = r.len }
 
--- the first addresses of those that are missed and of those that are forbidden
+-- the first addresses that are missed; if none are, the first that are forbidden
 abbrev pub first_of : Permissions → List Range → List Range → Miss
-first_of access [] [] = no_miss
-first_of access (m ∷ ms) [] = miss_at access m
+first_of access (m ∷ ms) fs = miss_at access m
 first_of access [] (f ∷ fs) = miss_at access f
-first_of access (m ∷ ms) (f ∷ fs) = miss_at access (if nat_lt f.base m.base then f else m)
+first_of access [] [] = no_miss
 
 abbrev pub miss_of : Permissions → replies.Reply → Miss
 miss_of access (reply.Fails fails) = first_of access fails.misses fails.access_fails

@@ -66,21 +66,14 @@ fn number_of(access: Permissions) -> u32
     }
 }
 
-// The first of ranges that are missed and of ranges that are forbidden.
+// The first of ranges that are missed or else of ranges that are forbidden: those that are missed can be asked for.
 fn first_of(access: Permissions, misses: &[IovaRange], forbidden: &[IovaRange]) -> Miss
     ensures { result ≡ first_of access (map range_in misses.now) (map range_in forbidden.now) }
 {
     match (misses, forbidden) {
-        ([], []) => Miss::none(),
-        ([miss, ..], []) => Miss::at(access, miss),
+        ([miss, ..], _) => Miss::at(access, miss),
         ([], [fail, ..]) => Miss::at(access, fail),
-        ([miss, ..], [fail, ..]) => {
-            if fail.base.0 < miss.base.0 {
-                Miss::at(access, fail)
-            } else {
-                Miss::at(access, miss)
-            }
-        }
+        ([], []) => Miss::none(),
     }
 }
 
