@@ -8,6 +8,8 @@ ghost use Rattle.vm_session.specs.Run.{AreDeeds, Deed, EndsFlight, Event, Happen
 ghost use Rattle.vm_session.specs.Retries.{WholeSession};
 ghost use Rattle.vm_session.specs.SessionState.{SessionState};
 
+pub mod messages;
+
 /// Any list of calls of a session, with bytes that are lent as blocks, blocks that are given back, and a guest that writes
 /// into shared blocks between them, is a run of the model with the same bytes and writes. Each call did nothing and was refused, or it made
 /// something, or it ran a command, and its answer and its output are those of the reply; or a table took a message, or it
