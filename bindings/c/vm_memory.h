@@ -764,7 +764,7 @@ size_t vmm_vhost_reply(vmm_vhost *connection, const uint8_t *message, size_t mes
 size_t vmm_vhost_refuse(vmm_vhost *connection, const uint8_t *message, size_t message_size, uint8_t *output,
                         size_t output_size);
 
-/* Sets where a stopped ring goes on. */
+/* Sets where a stopped ring goes on: VMM_VHOST_BASE if it is a split one and this is no index of 16 bits. */
 uint32_t vmm_vhost_stop(vmm_vhost *connection, uint32_t index, uint32_t base);
 
 /* A ring as it is to be served, or why it is not: VMM_VHOST_INDEX or one from VMM_VHOST_STOPPED on. */

@@ -504,7 +504,7 @@ impl Backend {
         &room[..count]
     }
 
-    /// Sets where a stopped ring goes on. Refused with `Index` or `Started`.
+    /// Sets where a stopped ring goes on. Refused with `Index`, `Started`, or `Base`: a split ring has indices of 16 bits.
     pub fn stop(&mut self, index: u32, base: u32) -> Result<(), Refusal> {
         self.connection.stop(index, base).map_err(Refusal::of)
     }

@@ -158,8 +158,8 @@ pub fn refuse(backend: &BackendReqHandler, message: &[u8], output: &mut [u8]) ->
     send(backend.refuse(&header).as_slice(), output)
 }
 
-/// Sets the index at which a stopped ring goes on. `VHOST_INDEX` if there is no such ring, and `VHOST_STARTED` if it is
-/// started.
+/// Sets where a stopped ring goes on. `VHOST_INDEX` if there is no such ring, `VHOST_STARTED` if it is started, and
+/// `VHOST_BASE` if it is a split one and this is no index of 16 bits.
 pub fn stop(backend: &mut BackendReqHandler, index: u32, base: u32) -> u32
     ensures { Stops backend.old index base result backend.new }
 {

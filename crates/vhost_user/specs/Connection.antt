@@ -87,6 +87,7 @@ abbrev pub with_num : Connection → ℕ → ℕ → Result Connection Refusal
 with_num s i num = stopped_at s i >>= λ v. if num == 0 || nat_lt s.offer.max_queue_size num then Err QueueSize
     else Ok (with_vring s i (record v { num = num }))
 
+-- where a stopped ring goes on: a split one at an index of 16 bits
 abbrev pub with_base : Connection → ℕ → ℕ → Result Connection Refusal
 with_base s i base = stopped_at s i >>= λ v.
     if not (has s.features feature.ring_packed) && nat_lt 65535 base then Err Base
@@ -114,10 +115,6 @@ with_err s i descriptor = vring_at s i >>= λ v. Ok (with_vring s i (record v { 
 abbrev pub with_enabled : Connection → ℕ → Bool → Result Connection Refusal
 with_enabled s i enable = needed s.features feature.protocol_features >>= λ _. vring_at s i
     >>= λ v. Ok (with_vring s i (record v { enabled = enable }))
-
--- where a ring that was stopped goes on
-abbrev pub with_rest : Connection → ℕ → ℕ → Result Connection Refusal
-with_rest s i base = stopped_at s i >>= λ v. Ok (with_vring s i (record v { base = base }))
 
 -- ---- configuration
 

@@ -1,6 +1,6 @@
 //! The state of a connection, and the requests that change it.
 ghost use Rattle.std.specs.Prelude.{◌≡◌, ◌<◌, ◌≤◌, length, drop, OnOk, true};
-ghost use Rattle.vhost_user.specs.Connection.{Handles, Steps, Connects, can_offer, in_config, is_any_started, is_writable, needed, served, stopped_at, vring_at, with_address, with_base, with_call, with_config, with_enabled, with_err, with_features, with_kick, with_log, with_memory, with_num, with_protocol_features, with_rest, with_vring, without_kick, vring_served};
+ghost use Rattle.vhost_user.specs.Connection.{Handles, Steps, Connects, can_offer, in_config, is_any_started, is_writable, needed, served, stopped_at, vring_at, with_address, with_base, with_call, with_config, with_enabled, with_err, with_features, with_kick, with_log, with_memory, with_num, with_protocol_features, with_vring, without_kick, vring_served};
 ghost use Rattle.vhost_user.specs.Features.{has};
 ghost use Rattle.vhost_user.specs.Running.{is_disabled, log_of, place, placed_vring, running};
 
@@ -518,13 +518,13 @@ impl BackendReqHandler {
         Ok(request)
     }
 
-    /// Sets where a stopped ring goes on. `Index` if there is no such ring, and `Started` if it is started.
+    /// Sets where a stopped ring goes on, as a front end does it by SET_VRING_BASE: so what is replied can come back.
+    /// `Index` if there is no such ring, `Started` if it is started, and `Base` if it is a split one and this is no index
+    /// of 16 bits.
     pub fn stop(&mut self, index: u32, base: u32) -> Result<(), Refusal>
-        ensures { Steps self.old (with_rest self.old index base) result self.new }
+        ensures { Steps self.old (with_base self.old index base) result self.new }
     {
-        let vring = self.stopped_vring(index)?;
-        self.set_vring(index, Vring { base, ..vring });
-        Ok(())
+        self.set_vring_base(index, base)
     }
 
     // ---- rings that are to be served
