@@ -136,6 +136,11 @@ with_config s c bytes = in_config s c.offset (length bytes)
     >>= λ _. if is_writable s.offer c.flags c.offset (length bytes)
     then Ok (record s { config = replaced s.config c.offset bytes }) else Err ConfigReadOnly
 
+-- the device changes it: it grew, for one
+abbrev pub with_changed_config : Connection → ℕ → List ℕ → Result Connection Refusal
+with_changed_config s offset bytes = if nat_lt (length s.config) (offset + length bytes) then Err ConfigRange
+    else Ok (record s { config = replaced s.config offset bytes })
+
 -- ---- what a request makes of a connection
 
 abbrev pub vring_served : Connection → FrontendReq → Result Connection Refusal
