@@ -24,6 +24,9 @@ use vm_memory_base::{AtomicAccess, Bitmap, ByteValued, ReadVolatile, WriteVolati
 /// let count = memory.write(&mut host, &[1, 2, 3], address)?;
 /// memory.read_slice(&host, &mut buffer, address)?;
 /// ```
+///
+/// Leaves open: of guest memory, a failed allocation for each access through an IOMMU that is on and allows it by two
+/// pieces or more; and for each error of that kind of a source or a sink. Then the access changed nothing.
 pub trait Bytes<A>: Named {
     /// Why an access was refused.
     type E;
