@@ -26,7 +26,7 @@ use vm_memory_base::{AtomicAccess, Bitmap, ByteValued, ReadVolatile, WriteVolati
 /// ```
 ///
 /// Leaves open: of guest memory, a failed allocation for each access through an IOMMU that is on and allows it by two
-/// pieces or more; and for each error of that kind of a source or a sink. Then the access changed nothing.
+/// pieces or more. Then nothing changed. A source or a sink may report one of its own.
 pub trait Bytes<A>: Named {
     /// Why an access was refused.
     type E;
