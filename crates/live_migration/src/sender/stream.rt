@@ -404,6 +404,9 @@ impl Sender {
 
     /// Ends a round in which each block was harvested and nothing waits: otherwise `Order`, as before `ready`. `Memory`
     /// if an allocation fails, and `Failed` if the stream does: then nothing more is sent.
+    ///
+    /// Leaves open: what was written, and what a refused call left, if the digest is not of known bytes, as it is from
+    /// `begin` on until a write fails.
     pub fn end_round<W: Write>(&mut self, alloc: Global, writer: &mut W) -> Result<(), SendError>
         ensures sent { (digests : Bool) (sent : List ℕ) → HasNoted digests self.old.hasher sent
             → OnOk result (Sends (spelling (RoundEnd self.old.rounds.round (digest_of digests sent)))
