@@ -2,8 +2,8 @@
 """Writes what bindings/commands.txt says of the calls of a machine: tools/machine_commands.py [--check]
 
 It writes the enum `vmm_kind` of vm_memory.h, the constants of `kind` in raw.rs, and the tables of calls in SCRIPT.md.
-With --check it writes nothing and says which of these differ, and whether the kinds of vm_session are others, or the help
-of `vmmem` lacks a line; the status is 1 then.
+With --check it writes nothing and says which of these differ, and whether the kinds of vm_session are others, or the
+help of `vmmem` lacks a line; the status is 1 then.
 """
 
 import pathlib
