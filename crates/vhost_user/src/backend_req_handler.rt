@@ -137,6 +137,8 @@ impl BackendReqHandler {
 
     /// A new connection: nothing is negotiated, and memory and rings are not known. There are `queues` rings, 1 to
     /// 256, and at most `MAX_CONFIG` bytes of configuration. `Invalid` if a back end cannot offer this.
+    ///
+    /// Leaves open: `Memory` for each offer that can be made.
     pub fn new(
         alloc: Global,
         offer: Offer,

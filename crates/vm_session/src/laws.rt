@@ -14,6 +14,9 @@ pub mod messages;
 /// into shared blocks between them, is a run of the model with the same bytes and writes. Each call did nothing and was refused, or it made
 /// something, or it ran a command, and its answer and its output are those of the reply; or a table took a message, or it
 /// did what the call of a queue does. Commands one after another are a run of a machine.
+///
+/// Leaves open: that each UPDATE of announced memory first empties its table, and that each miss is reported as a table
+/// that is too small. `AnswersCall`, the contract of a call, says when.
 pub fn calls_run_the_model()
     ensures all { (shared : List ℕ) (es : List Event) (old new : WholeSession) → HappenAll shared old es new
         → (deeds : List Deed) × AreDeeds shared old.parts es deeds new.parts }
