@@ -18,9 +18,7 @@
 //! # Ok::<(), Box<dyn std::error::Error>>(())
 //! ```
 
-use crate::ffi::{
-    vhost_access_fail, vhost_answered, vhost_config_change, vhost_miss, vhost_wanted, Connection,
-};
+use crate::ffi::{vhost_access_fail, vhost_answered, vhost_config_change, vhost_miss, vhost_wanted, Connection};
 use crate::machine::Permissions;
 use crate::raw::code;
 use std::{error, fmt};

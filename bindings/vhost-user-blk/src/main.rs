@@ -190,7 +190,9 @@ impl Program<'_> {
     }
 
     fn connection<'a>(&'a self, socket: &'a UnixStream) -> Result<Connection<'a>, Box<dyn Error>> {
-        let Program { epoll, disk, hangups, .. } = self;
+        let Program {
+            epoll, disk, hangups, ..
+        } = self;
         Connection::new(socket, epoll, disk, hangups, self.options, &self.watchdog)
     }
 
