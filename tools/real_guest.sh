@@ -59,6 +59,7 @@ variant() {
     no-flush) backend=--write-through ;;
     sigterm) work=load ending=TERM ;;
     sigkill) work=load ending=KILL ;;
+    grow) work=grow ops=10 files=2 ;;
     qemu) device=qemu ;;
     qemu-lazy) device=qemu iommu=lazy ops=10 files=2 ;;
     qemu-move) device=qemu work=move moving="" ops=4 ;;
@@ -71,7 +72,7 @@ variant() {
     *) return 1 ;;
     esac
 }
-VARIANTS=(default no-event-idx no-indirect packed packed-no-event-idx packed-no-indirect packed-strict queue-16 queue-256 queue-1024 two-queues huge-pages read-only no-flush sigterm sigkill
+VARIANTS=(default no-event-idx no-indirect packed packed-no-event-idx packed-no-indirect packed-strict queue-16 queue-256 queue-1024 two-queues huge-pages read-only no-flush sigterm sigkill grow
     strict-8 strict-64 strict lazy-8 lazy-64 lazy
     move move-file strict-move strict-move-file packed-move)
 
@@ -258,6 +259,13 @@ end_backend() {
     echo enough >&"$guest_in"
 }
 
+# The image grows by 32 MiB under load, and the back end is told.
+grow_disk() {
+    wait_for_lines wrote 10 || return
+    truncate -s +32M "$room/disk.img"
+    kill -HUP "$backend_pid"
+}
+
 # The KiB of memory of its own that the back end has, and how many descriptors.
 backend_size() {
     awk '/^RssAnon:/ { print $2 }' "/proc/$backend_pid/status"
@@ -386,6 +394,7 @@ end_first() {
 # The second half of the disk is what it was, with what the guest wrote.
 compare_raw() {
     cp --sparse=never "$shared/disk.img" "$room/expected"
+    [ "$work" = grow ] && truncate -s "$(stat -c %s "$room/disk.img")" "$room/expected"
     grep '^wrote ' "$room/said" | while read -r _ offset len from; do
         dd if="$shared/pattern" of="$room/expected" bs=64k iflag=skip_bytes,count_bytes oflag=seek_bytes conv=notrunc \
             status=none skip="$from" seek="$offset" count="$len"
@@ -489,6 +498,7 @@ run_variant() {
     start_qemu
     [ -n "$ending" ] && end_backend
     [ -n "$soak" ] && soak_guest
+    [ "$work" = grow ] && grow_disk
     [ "$work" = move ] && move_guest
     wait "$qemu_pid" 2> /dev/null
     status=$?

@@ -5,6 +5,7 @@
 #   work=full    raw accesses and files, and the driver and the device are taken away and found again
 #   work=read    the disk is only read
 #   work=load    accesses and files until a line comes on the console
+#   work=grow    raw accesses and files, and the same in sectors that come while it works
 #   work=move    accesses while the guest moves, and memory that the disk alone fills meanwhile
 #   size=N id=TEXT           the disk's sectors and its name
 #   ops=N files=N            how many accesses each of the four workers makes, and how many files it writes
@@ -237,6 +238,29 @@ load() {
     done
 }
 
+# The disk grows meanwhile. The part that comes is used like the second half.
+grow() {
+    check_disk 0
+    take_areas
+    make_files
+    raw 1
+    files a
+    echo "stage grow"
+    local now=$size
+    for _ in $(seq 300); do
+        now=$(cat "/sys/block/$disk/size")
+        [ "$now" = "$size" ] || break
+        usleep 100000
+    done
+    [ "$now" = $((size + 65536)) ] || fail "the disk has $now sectors"
+    check_areas "after it grew"
+    HALF=$(((size + 7) / 8 * 4096))
+    take_areas
+    raw 2
+    check_areas "in the new part"
+    check_files "after it grew"
+}
+
 # Load until the guest has moved, and memory that the disk alone fills while it moves: a back end that forgets to mark what
 # it writes leaves other bytes there. Three lines come on the console: the guest is about to move, most of its memory was
 # copied, and it has moved.
@@ -294,6 +318,7 @@ main() {
     full) full ;;
     read) read_only ;;
     load) load ;;
+    grow) grow ;;
     move) move_away ;;
     *) fail "no such work: $work" ;;
     esac
