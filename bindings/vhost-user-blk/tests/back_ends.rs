@@ -12,7 +12,7 @@ use std::process::{Command, ExitStatus, Stdio};
 use std::time::{Duration, Instant};
 
 const LEN: usize = 1 << 20;
-const PROMPT: Duration = Duration::from_secs(10);
+const PROMPT: Duration = Duration::from_secs(30);
 
 fn started(mut front: FrontEnd) -> FrontEnd {
     front.socket.set_read_timeout(Some(PROMPT)).unwrap();

@@ -155,10 +155,14 @@ fn a_connection_that_lacks_memory_ends_alone() {
         let before = program.limit(libc::RLIMIT_AS, mapped);
         let mut front = program.connect();
         assert!(front.is_let_go());
-        if program.ended(Duration::from_millis(200)).is_some() {
+        let (begun, words) = (Instant::now(), "the connection ended: setting it up: ");
+        while program.lives() && !program.has_said(words) {
+            assert!(begun.elapsed() < LONG, "it neither ends nor says so");
+            sleep(Duration::from_millis(2));
+        }
+        if !program.lives() {
             continue;
         }
-        program.expect_said("the connection ended: setting it up: ");
         program.limit(libc::RLIMIT_AS, before);
         return expect_well(program);
     }
@@ -176,19 +180,17 @@ fn nobody_has_to_read_what_it_prints() {
         sleep(Duration::from_millis(2));
     }
     // More lines than the pipe and the program have room for.
-    let begun = Instant::now();
     for _ in 0..3000 {
         let mut front = FrontEnd::new(UnixStream::connect(folder.join("s")).unwrap());
-        front.socket.set_read_timeout(Some(Duration::from_secs(10))).unwrap();
+        front.socket.set_read_timeout(Some(LONG)).unwrap();
         front.ask_u64(GET_FEATURES);
-        assert!(begun.elapsed() < LONG);
     }
     // It ends, though the last lines are not read.
     let begun = Instant::now();
     // SAFETY: it takes numbers, of a child that was not waited for.
     assert_eq!(unsafe { libc::kill(child.id() as i32, libc::SIGTERM) }, 0);
     while child.try_wait().unwrap().is_none() {
-        assert!(begun.elapsed() < Duration::from_secs(10), "it does not end");
+        assert!(begun.elapsed() < LONG, "it does not end");
         sleep(Duration::from_millis(2));
     }
     assert!(child.wait().unwrap().success());

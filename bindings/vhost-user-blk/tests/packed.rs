@@ -395,7 +395,7 @@ fn the_driver_is_interrupted_as_it_asked() {
             assert!(begun.elapsed() < LONG);
         }
         program.rest();
-        let is_told = can_read(&driver.front.rings[0].call, Duration::from_millis(100));
+        let is_told = can_read(&driver.front.rings[0].call, Duration::ZERO);
         driver.take();
         take(&driver.front.rings[0].call);
         is_told

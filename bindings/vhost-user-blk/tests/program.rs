@@ -211,7 +211,9 @@ fn the_driver_is_interrupted_as_it_asked() {
             assert!(begun.elapsed() < LONG);
         }
         front.rings[0].next_used = done + 1;
-        assert_eq!(can_read(&front.rings[0].call, Duration::from_millis(200)), done >= 4);
+        // What it had to say it has said once it rests.
+        program.rest();
+        assert_eq!(can_read(&front.rings[0].call, Duration::ZERO), done >= 4);
     }
     assert_eq!(take(&front.rings[0].call), 1);
 }

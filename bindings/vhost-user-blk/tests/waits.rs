@@ -14,7 +14,7 @@ const LEN: usize = 1 << 20;
 const SET_LOG_FD: u32 = 7;
 
 // What is prompt on a machine that has other work.
-const PROMPT: Duration = Duration::from_secs(10);
+const PROMPT: Duration = Duration::from_secs(30);
 
 fn started(program: &Program, features: u64) -> FrontEnd {
     let mut front = program.connect();

@@ -134,10 +134,14 @@ impl Program {
         }
     }
 
+    pub fn has_said(&self, words: &str) -> bool {
+        self.said.lock().unwrap().contains(words)
+    }
+
     /// Waits until it has said something.
     pub fn expect_said(&self, words: &str) {
         let begun = Instant::now();
-        while !self.said.lock().unwrap().contains(words) {
+        while !self.has_said(words) {
             assert!(
                 begun.elapsed() < LONG,
                 "{words} is not in {}",

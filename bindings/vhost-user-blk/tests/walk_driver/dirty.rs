@@ -23,8 +23,8 @@ pub struct Log {
 }
 
 impl Log {
-    /// One with a bit for each page below an address.
-    pub fn new(numbers: &mut Numbers, end: u64) -> Log {
+    /// One with a bit for each page below an address. The back end may have been given a call before it.
+    pub fn new(numbers: &mut Numbers, end: u64, call: Option<OwnedFd>) -> Log {
         let size = end.div_ceil(64 * PAGE) * 8 + numbers.below(3) * 8;
         let offset = PAGE * numbers.below(5);
         let whole = (offset + size + PAGE).div_ceil(PAGE) * PAGE;
@@ -38,8 +38,8 @@ impl Log {
             file,
             offset,
             size,
-            call: None,
-            tells: false,
+            tells: call.is_some(),
+            call,
             map,
             must: BTreeSet::new(),
             may: BTreeSet::new(),
@@ -109,5 +109,12 @@ impl Log {
 
     pub fn set_call(&mut self) {
         self.call = Some(counter());
+    }
+
+    /// Takes the call for the next log. What was told of this one is not looked at any more: whoever drains the call takes
+    /// what is told of the next one, too.
+    pub fn take_call(&mut self) -> Option<OwnedFd> {
+        self.tells = false;
+        self.call.take()
     }
 }

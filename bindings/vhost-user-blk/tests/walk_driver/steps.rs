@@ -232,7 +232,7 @@ impl Walk {
 
     // Has the back end take the log that is there.
     fn share_log(&mut self) {
-        let log = Log::new(&mut self.numbers, self.memory.end());
+        let log = Log::new(&mut self.numbers, self.memory.end(), self.log_call.take());
         let payload = numbers_of(&[log.size, log.offset]);
         let reply = self
             .link
@@ -271,6 +271,8 @@ impl Walk {
         self.forget_log();
         let mut log = self.log.take().expect("there is a log");
         log.allow(&marks);
+        // It tells of new bits in the next log.
+        self.log_call = log.take_call();
         log
     }
 
@@ -390,6 +392,7 @@ impl Walk {
         }
         let log = self.log.is_some().then(|| self.leave_log());
         self.features &= !LOG_ALL;
+        self.log_call = None;
         self.link = self.served.connect();
         self.negotiate();
         self.harvest_all();

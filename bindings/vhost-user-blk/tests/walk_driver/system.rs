@@ -91,6 +91,22 @@ pub fn send(socket: &UnixStream, bytes: &[u8], descriptors: &[RawFd]) {
     }
 }
 
+/// Leaves a socket room for a few parts of what is sent.
+pub fn narrow(socket: &UnixStream) {
+    let size = 1_i32;
+    // SAFETY: the pointer and the length are those of the number.
+    let done = unsafe {
+        libc::setsockopt(
+            socket.as_raw_fd(),
+            libc::SOL_SOCKET,
+            libc::SO_SNDBUF,
+            (&raw const size).cast(),
+            size_of_val(&size) as u32,
+        )
+    };
+    assert_eq!(done, 0);
+}
+
 /// Bytes of a file that another process has, too.
 pub struct Map {
     at: *mut u8,

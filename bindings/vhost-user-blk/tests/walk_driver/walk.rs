@@ -8,12 +8,12 @@ use super::memory::{Memory, Region};
 use super::request::{Area, Draw, Model, Request, BROKEN, SECTOR};
 use super::ring::{parts_of, Ring, Shape};
 use super::stream::{Places, Stream};
-use super::system::{drain, wait};
+use super::system::{drain, narrow, wait};
 use super::{patience, Numbers};
 use std::collections::VecDeque;
 use std::fs::File;
 use std::io::Write;
-use std::os::fd::AsRawFd;
+use std::os::fd::{AsRawFd, OwnedFd};
 use std::os::unix::net::UnixStream;
 use std::time::{Duration, Instant};
 
@@ -66,6 +66,8 @@ pub struct Walk {
     pub rings: Vec<Driven>,
     pub log: Option<Log>,
     pub old_logs: Vec<Log>,
+    /// What the back end tells new bits by, if there is no log now.
+    pub log_call: Option<OwnedFd>,
     pub features: u64,
     pub has_memory: bool,
     /// The disk fails.
@@ -115,6 +117,7 @@ impl Walk {
             rings: Vec::new(),
             log: None,
             old_logs: Vec::new(),
+            log_call: None,
             features: 0,
             has_memory: false,
             faults,
@@ -157,6 +160,7 @@ impl Walk {
             return;
         }
         let (mine, other) = UnixStream::pair().unwrap();
+        narrow(&mine);
         link.order(numbers, SET_BACKEND_REQ_FD, &[], &[other.as_raw_fd()]);
         match &mut self.io {
             Some(io) => io.renew(mine),

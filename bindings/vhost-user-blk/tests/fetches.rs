@@ -1,0 +1,228 @@
+//! What the compiled code loads and stores of guest memory: each byte that decides something once, and in the order that
+//! the rules of rings ask for. The trees of calls say so of the code before it is compiled.
+#![cfg(target_arch = "x86_64")]
+
+mod traced;
+
+use std::collections::BTreeSet;
+use std::ops::Range;
+use traced::{trace, Access};
+use vm_memory_proved::block::{Request, Terms};
+use vm_memory_proved::queue::Queue;
+use vm_memory_proved::{GuestAddress, GuestMemory, Machine, MemoryId, Permissions};
+
+const BASE: u64 = 0x10_0000;
+const SIZE: usize = 0x8000;
+const ENTRIES: u16 = 8;
+
+// Where things lie in the block.
+const TABLE: usize = 0;
+const DRIVER: usize = 0x1000;
+const DEVICE: usize = 0x2000;
+const ROWS: usize = 0x3000;
+const HEADER: usize = 0x4000;
+const DATA: usize = 0x5000;
+const STATUS: usize = 0x6000;
+
+const NEXT: u16 = 1;
+const WRITE: u16 = 2;
+const INDIRECT: u16 = 4;
+const AVAIL: u16 = 1 << 7;
+
+struct Traced<'a> {
+    memory: GuestMemory<'a>,
+    queue: Queue<'a>,
+    mapping: (*mut u8, usize),
+    base: u64,
+    is_packed: bool,
+}
+
+fn at(place: u64) -> GuestAddress {
+    GuestAddress(place)
+}
+
+impl<'a> Traced<'a> {
+    fn new(machine: &'a Machine, is_packed: bool, is_translated: bool, event_idx: bool) -> Traced<'a> {
+        let block = machine.shared_block(SIZE, 0x1000, None).unwrap();
+        let layout = machine
+            .layout(&[machine.region(block.id(), at(BASE)).unwrap()])
+            .unwrap();
+        let (memory, base) = match is_translated {
+            true => behind_an_iommu(machine, layout),
+            false => (machine.plain(layout).unwrap(), BASE),
+        };
+        let queue = match is_packed {
+            true => machine.packed_queue(ENTRIES, 64).unwrap(),
+            false => machine.queue(ENTRIES, 64).unwrap(),
+        };
+        queue.try_set_desc_table_address(at(base + TABLE as u64)).unwrap();
+        queue.try_set_avail_ring_address(at(base + DRIVER as u64)).unwrap();
+        queue.try_set_used_ring_address(at(base + DEVICE as u64)).unwrap();
+        queue.set_event_idx(event_idx);
+        queue.set_ready(true);
+        Traced {
+            memory: machine.memory(memory).unwrap(),
+            queue,
+            mapping: block.mapping(),
+            base,
+            is_packed,
+        }
+    }
+
+    fn put<T: vm_memory_proved::ByteValued>(&self, place: usize, value: T) {
+        self.memory.write_obj(value, at(self.base + place as u64)).unwrap();
+    }
+
+    // A descriptor of a chain's place in it: of the three parts of a request, or a table of them.
+    fn put_row(&self, place: usize, to: usize, len: u32, flags: u16, next: u16) {
+        let (third, fourth) = if self.is_packed { (5, flags) } else { (flags, next) };
+        self.put(place, self.base + to as u64);
+        self.put(place + 8, len);
+        self.put(place + 12, third);
+        self.put(place + 14, fourth);
+    }
+
+    // Publishes a read of a sector as the first chain: in three descriptors, or in a table of as many.
+    fn publish(&self, is_indirect: bool) {
+        let mark = if self.is_packed { AVAIL } else { 0 };
+        let (from, inner) = if is_indirect { (ROWS, 0) } else { (TABLE, mark) };
+        self.put_row(from, HEADER, 16, NEXT | inner, 1);
+        self.put_row(from + 16, DATA, 512, NEXT | WRITE | inner, 2);
+        self.put_row(from + 32, STATUS, 1, WRITE | inner, 0);
+        if is_indirect {
+            self.put_row(TABLE, ROWS, 48, INDIRECT | mark, 0);
+        }
+        self.put(HEADER, 0_u64);
+        self.put(HEADER + 8, 3_u64);
+        if !self.is_packed {
+            self.put(DRIVER + 4, 0_u16);
+            self.put(DRIVER + 2, 1_u16);
+        }
+    }
+
+    fn trace<T>(&self, call: impl FnOnce(&Queue<'a>, &GuestMemory<'a>) -> T) -> (T, Vec<Access>) {
+        trace(self.mapping, || call(&self.queue, &self.memory))
+    }
+}
+
+fn behind_an_iommu(machine: &Machine, layout: vm_memory_proved::LayoutId) -> (MemoryId, u64) {
+    let (table, first) = (machine.table(None).unwrap(), 0x7000_0000);
+    for page in (0..SIZE as u64).step_by(0x1000) {
+        let (from, to) = (at(first + page), at(BASE + page));
+        machine
+            .set_mapping(table, from, to, 0x1000, Permissions::ReadWrite)
+            .unwrap();
+    }
+    let (translator, space) = (
+        machine.translator(table).unwrap(),
+        machine.space(1 << 31, 0x1000).unwrap(),
+    );
+    (machine.new_memory(layout, translator, space, true).unwrap(), first)
+}
+
+// Each of these parts is loaded or stored, byte by byte once, before the next one is, and nothing else is.
+fn expect(accesses: &[Access], wanted: &[(bool, Range<usize>)], what: &str) {
+    let mut accesses = accesses.iter().peekable();
+    for (is_store, part) in wanted {
+        let mut left: BTreeSet<usize> = part.clone().collect();
+        while !left.is_empty() {
+            let access = accesses.next();
+            let access = access.unwrap_or_else(|| panic!("{what}: {part:x?} is not accessed"));
+            let bytes = access.at..access.at + access.len;
+            let is_wanted = access.is_store == *is_store && bytes.clone().all(|byte| left.remove(&byte));
+            assert!(
+                is_wanted,
+                "{what}: {access:x?}, and there are left {left:x?} of {part:x?}"
+            );
+        }
+    }
+    assert_eq!(accesses.peek(), None, "{what}: it is more than {wanted:x?}");
+}
+
+const LOAD: bool = false;
+const STORE: bool = true;
+
+fn serve_one(is_packed: bool, is_translated: bool, event_idx: bool, is_indirect: bool) {
+    let what = |call: &str| {
+        format!("{call}, packed: {is_packed}, IOMMU: {is_translated}, events: {event_idx}, table: {is_indirect}")
+    };
+    let machine = Machine::new().unwrap();
+    let it = Traced::new(&machine, is_packed, is_translated, event_idx);
+    let rows = |from: usize| [16, 32, 48].map(|end| (LOAD, from + end - 16..from + end));
+    // Nothing is there.
+    let (none, accesses) = it.trace(|queue, memory| queue.pop_descriptor_chain(memory).unwrap().is_none());
+    assert!(none);
+    let index = if is_packed {
+        (LOAD, 14..16)
+    } else {
+        (LOAD, DRIVER + 2..DRIVER + 4)
+    };
+    expect(&accesses, &[index.clone()], &what("pop of nothing"));
+    let (more, accesses) = it.trace(|queue, memory| queue.enable_notification(memory).unwrap());
+    assert!(!more);
+    // Whether there is memory is tried by loads, whose values do not count, before anything is stored.
+    let told = match (is_packed, event_idx) {
+        (true, _) => vec![DEVICE..DEVICE + 2, DEVICE + 2..DEVICE + 4],
+        (false, true) => vec![DEVICE + 4 + 64..DEVICE + 6 + 64],
+        (false, false) => vec![DEVICE..DEVICE + 2],
+    };
+    let tried = told.iter().map(|part| (LOAD, part.clone())).chain([index.clone()]);
+    let stored = told.iter().map(|part| (STORE, part.clone())).chain([index.clone()]);
+    expect(&accesses, &tried.chain(stored).collect::<Vec<_>>(), &what("enable"));
+    let (_, accesses) = it.trace(|queue, memory| queue.disable_notification(memory).unwrap());
+    let told = match (is_packed, event_idx) {
+        (true, _) => vec![(STORE, DEVICE + 2..DEVICE + 4)],
+        (false, true) => vec![],
+        (false, false) => vec![(STORE, DEVICE..DEVICE + 2)],
+    };
+    expect(&accesses, &told, &what("disable"));
+    // A chain.
+    it.publish(is_indirect);
+    let (chain, accesses) = it.trace(|queue, memory| queue.pop_descriptor_chain(memory).unwrap().unwrap());
+    // Of a packed ring the flags that say that a descriptor is there count, and not those that come with the rest of it.
+    let mut wanted = vec![index];
+    if !is_packed {
+        wanted.push((LOAD, DRIVER + 4..DRIVER + 6));
+    }
+    if is_indirect {
+        wanted.push((LOAD, TABLE..TABLE + 16));
+        wanted.extend(rows(ROWS));
+    } else {
+        wanted.extend(rows(TABLE));
+    }
+    expect(&accesses, &wanted, &what("pop"));
+    // A request.
+    let terms = Terms {
+        sectors: 8,
+        ..Terms::default()
+    };
+    let (request, accesses) = it.trace(|_, memory| chain.begin_request(memory, terms).unwrap());
+    assert_eq!(request, Request::Read { sector: 3, len: 512 });
+    expect(&accesses, &[(LOAD, HEADER..HEADER + 16)], &what("begin"));
+    let (len, accesses) = it.trace(|_, memory| chain.finish_request(memory, 0, 512).unwrap());
+    assert_eq!(len, 513);
+    expect(&accesses, &[(STORE, STATUS..STATUS + 1)], &what("finish"));
+    let (_, accesses) = it.trace(|queue, memory| queue.add_used(memory, chain.head_index(), len).unwrap());
+    let told = match is_packed {
+        true => [TABLE + 14..TABLE + 16, TABLE + 8..TABLE + 14],
+        false => [DEVICE + 2..DEVICE + 4, DEVICE + 4..DEVICE + 12],
+    };
+    let [last, entry] = told;
+    let told = [(LOAD, last.clone()), (STORE, entry), (STORE, last)];
+    expect(&accesses, &told, &what("return"));
+    let (_, accesses) = it.trace(|queue, memory| queue.needs_notification(memory).unwrap());
+    let asked = match (is_packed, event_idx) {
+        (true, _) => vec![(LOAD, DRIVER + 2..DRIVER + 4)],
+        (false, true) => vec![(LOAD, DRIVER + 4 + 16..DRIVER + 6 + 16)],
+        (false, false) => vec![(LOAD, DRIVER..DRIVER + 2)],
+    };
+    expect(&accesses, &asked, &what("needs"));
+}
+
+#[test]
+fn each_byte_is_loaded_once_and_stores_are_in_order() {
+    for number in 0..16 {
+        let is = |bit: u32| number >> bit & 1 == 1;
+        serve_one(is(0), is(1), is(2), is(3));
+    }
+}
