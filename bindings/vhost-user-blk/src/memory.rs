@@ -8,7 +8,7 @@ use std::os::fd::{AsFd, OwnedFd};
 use std::os::unix::fs::MetadataExt;
 use vm_memory_proved::iotlb::{IotlbError, UserRegion, PAYLOAD_LEN};
 use vm_memory_proved::vhost_user::Region;
-use vm_memory_proved::{GuestAddress, GuestMemory, IotlbFails, Machine, MachineError, MappedRange, Miss};
+use vm_memory_proved::{GuestAddress, GuestMemory, IotlbFails, Machine, MachineError, MappedRange};
 use vm_memory_proved::{MemoryId, Permissions, SharedBlock, SpaceId, TableId, TranslatorId};
 
 // Dirty pages are of this size.
