@@ -1,9 +1,9 @@
 #!/usr/bin/env python3
 """Writes what bindings/commands.txt says of the calls of a machine: tools/machine_commands.py [--check]
 
-It writes the enum `vmm_kind` of vm_memory.h, the constants of `kind` in raw.rs, and the tables of calls in SCRIPT.md
-and BINDINGS.md. With --check it writes nothing and says which of these differ, and whether the kinds of vm_session are
-others, or the help of `vmmem` lacks a line; the status is 1 then.
+It writes the enum `vmm_kind` of vm_memory.h, the constants of `kind` in raw.rs, and the tables of calls in SCRIPT.md.
+With --check it writes nothing and says which of these differ, and whether the kinds of vm_session are others, or the
+help of `vmmem` lacks a line; the status is 1 then.
 """
 
 import pathlib
@@ -13,7 +13,7 @@ import sys
 TOP = pathlib.Path(__file__).resolve().parent.parent
 ROWS = "bindings/commands.txt"
 HEADER, RAW = "bindings/c/vm_memory.h", "bindings/rust/src/raw.rs"
-SCRIPT, BINDINGS = "docs/SCRIPT.md", "docs/BINDINGS.md"
+SCRIPT = "docs/SCRIPT.md"
 KINDS, HELP = "crates/vm_session/src/call.rt", "crates/vmmem/src/main.rt"
 # How many cells a row of a table of the file has.
 CELLS = {"setup": 9, "commands": 9, "marks": 5, "queues": 5, "messages": 5}
@@ -74,17 +74,8 @@ def table(head, rows):
     return [f"| {' | '.join(head)} |", "|" + "---|" * len(head), *lines]
 
 
-def named(row):
-    """Returns the names of a call in C and Rust, as one cell."""
-    return f"`{row[1]}`" if row[1] == row[2] else f"`{row[1]}`, in Rust `{row[2]}`"
-
-
 def lines_of(rows, what):
     return table(("Line", what, "Reply", "Refusals"), [row[5:9] for row in rows])
-
-
-def calls_of(rows):
-    return table(("Kind", "Number", "Reads", "Answers"), [(named(row), row[0], row[3], row[4]) for row in rows])
 
 
 def put_between(path, begin, end, lines):
@@ -112,18 +103,13 @@ def put_table(text, path, heading, lines):
 def written():
     """Returns the texts that the rows ask for, by their paths."""
     tables, rows = read_rows()
-    script, bindings = (TOP / SCRIPT).read_text(), (TOP / BINDINGS).read_text()
+    script = (TOP / SCRIPT).read_text()
     script = put_table(script, SCRIPT, "## Setup", lines_of(tables["setup"], "What it makes"))
     script = put_table(script, SCRIPT, "## Commands", lines_of(tables["commands"], "What it does"))
-    first = tables["setup"] + tables["commands"] + tables["marks"]
-    bindings = put_table(bindings, BINDINGS, "## A session", calls_of(first))
-    bindings = put_table(bindings, BINDINGS, "## Queues", calls_of(tables["queues"]))
-    bindings = put_table(bindings, BINDINGS, "## A device's I/O table", calls_of(tables["messages"]))
     return {
         HEADER: put_between(HEADER, "enum vmm_kind {", "};", of_header(rows)),
         RAW: put_between(RAW, "pub mod kind {", "}", of_raw(rows)),
         SCRIPT: script,
-        BINDINGS: bindings,
     }
 
 

@@ -772,7 +772,11 @@ size_t vmm_vhost_reply(vmm_vhost *connection, const uint8_t *message, size_t mes
 size_t vmm_vhost_refuse(vmm_vhost *connection, const uint8_t *message, size_t message_size, uint8_t *output,
                         size_t output_size);
 
-/* Sets where a stopped ring goes on. */
+/* Replaces bytes of the configuration from an offset on, as a device does that changed: VMM_VHOST_CONFIG_RANGE, and nothing
+ * changes, if the configuration does not have them. vmm_vhost_config_change has the message that says so. */
+uint32_t vmm_vhost_change_config(vmm_vhost *connection, uint32_t offset, const uint8_t *bytes, size_t bytes_size);
+
+/* Sets where a stopped ring goes on: VMM_VHOST_BASE if it is a split one and this is no index of 16 bits. */
 uint32_t vmm_vhost_stop(vmm_vhost *connection, uint32_t index, uint32_t base);
 
 /* A ring as it is to be served, or why it is not: VMM_VHOST_INDEX or one from VMM_VHOST_STOPPED on. */
@@ -786,10 +790,12 @@ uint32_t vmm_vhost_region(vmm_vhost *connection, size_t number, vmm_vhost_region
 uint32_t vmm_vhost_logged(vmm_vhost *connection, uint64_t address, uint64_t size, vmm_vhost_pages *pages);
 
 /* The messages on the back end's own channel, as vmm_vhost_reply gives a reply: a MISS, which asks for the mapping of an
- * address and for a reply, and an ACCESS_FAIL, which says that a mapping forbids an access. The access is VMM_R, VMM_W or
- * VMM_RW, and otherwise there is no message. They need no connection. */
+ * address and for a reply; an ACCESS_FAIL, which says that a mapping forbids an access; and one that has the front end read
+ * the configuration again. The access is VMM_R, VMM_W or VMM_RW, and otherwise there is no message. They need no
+ * connection. */
 size_t vmm_vhost_miss(uint64_t iova, uint32_t access, uint8_t *output, size_t output_size);
 size_t vmm_vhost_access_fail(uint64_t iova, uint32_t access, uint8_t *output, size_t output_size);
+size_t vmm_vhost_config_change(uint8_t *output, size_t output_size);
 
 /* The number in a reply that came on that channel, which has 20 bytes: 0 if what was asked for was done. VMM_VHOST_HEADER
  * if there are fewer bytes than a header has, VMM_VHOST_VERSION, VMM_VHOST_DIRECTION, VMM_VHOST_REQUEST if the back end sends

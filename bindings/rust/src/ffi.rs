@@ -74,6 +74,8 @@ unsafe extern "C" {
         output_size: usize,
     ) -> usize;
 
+    fn vmm_vhost_change_config(connection: *mut Handle, offset: u32, bytes: *const u8, bytes_size: usize) -> u32;
+
     fn vmm_vhost_stop(connection: *mut Handle, index: u32, base: u32) -> u32;
 
     fn vmm_vhost_running(connection: *mut Handle, index: u32, vring: *mut Vring) -> u32;
@@ -85,6 +87,8 @@ unsafe extern "C" {
     fn vmm_vhost_miss(iova: u64, access: u32, output: *mut u8, output_size: usize) -> usize;
 
     fn vmm_vhost_access_fail(iova: u64, access: u32, output: *mut u8, output_size: usize) -> usize;
+
+    fn vmm_vhost_config_change(output: *mut u8, output_size: usize) -> usize;
 
     fn vmm_vhost_answered(message: *const u8, message_size: usize, value: *mut u64) -> u32;
 
@@ -269,6 +273,12 @@ pub(crate) fn vhost_access_fail(iova: u64, access: u32, output: &mut [u8]) -> us
     unsafe { vmm_vhost_access_fail(iova, access, output.as_mut_ptr(), output.len()) }
 }
 
+/// Puts the message that the configuration changed to the front of the output, and returns how many bytes it has.
+pub(crate) fn vhost_config_change(output: &mut [u8]) -> usize {
+    // SAFETY: as `vhost_miss`.
+    unsafe { vmm_vhost_config_change(output.as_mut_ptr(), output.len()) }
+}
+
 /// The number in a reply that came on the back end's own channel, or a code.
 pub(crate) fn vhost_answered(message: &[u8]) -> Result<u64, u32> {
     let mut value = 0;
@@ -330,6 +340,12 @@ impl Connection {
         let at = self.handle.as_ptr();
         // SAFETY: see `Connection`.
         unsafe { vmm_vhost_refuse(at, message.as_ptr(), message.len(), output.as_mut_ptr(), output.len()) }
+    }
+
+    pub(crate) fn change_config(&self, offset: u32, bytes: &[u8]) -> Result<(), u32> {
+        // SAFETY: see `Connection`.
+        let code = unsafe { vmm_vhost_change_config(self.handle.as_ptr(), offset, bytes.as_ptr(), bytes.len()) };
+        done(code, ())
     }
 
     pub(crate) fn stop(&self, index: u32, base: u32) -> Result<(), u32> {

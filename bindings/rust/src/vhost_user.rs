@@ -18,7 +18,7 @@
 //! # Ok::<(), Box<dyn std::error::Error>>(())
 //! ```
 
-use crate::ffi::{vhost_access_fail, vhost_answered, vhost_miss, vhost_wanted, Connection};
+use crate::ffi::{vhost_access_fail, vhost_answered, vhost_config_change, vhost_miss, vhost_wanted, Connection};
 use crate::machine::Permissions;
 use crate::raw::code;
 use std::{error, fmt};
@@ -467,6 +467,13 @@ pub fn access_fail(iova: u64, access: Permissions, room: &mut [u8; MAX_MESSAGE])
     &room[..count]
 }
 
+/// The message on the back end's own channel that the configuration changed: the front end reads it again. It asks for no
+/// reply.
+pub fn config_change(room: &mut [u8; MAX_MESSAGE]) -> &[u8] {
+    let count = vhost_config_change(room);
+    &room[..count]
+}
+
 /// The number in a reply that came on the back end's own channel, of [`ANSWER_LEN`] bytes: 0 if what the back end asked
 /// for was done.
 pub fn answered(message: &[u8]) -> Result<u64, Refusal> {
@@ -504,7 +511,13 @@ impl Backend {
         &room[..count]
     }
 
-    /// Sets where a stopped ring goes on. Refused with `Index` or `Started`.
+    /// Replaces bytes of the configuration from an offset on, as a device does that changed. Refused with `ConfigRange`, and
+    /// nothing changes, if the configuration does not have them. [`config_change`] is what tells the front end.
+    pub fn change_config(&mut self, offset: u32, bytes: &[u8]) -> Result<(), Refusal> {
+        self.connection.change_config(offset, bytes).map_err(Refusal::of)
+    }
+
+    /// Sets where a stopped ring goes on. Refused with `Index`, `Started`, or `Base`: a split ring has indices of 16 bits.
     pub fn stop(&mut self, index: u32, base: u32) -> Result<(), Refusal> {
         self.connection.stop(index, base).map_err(Refusal::of)
     }

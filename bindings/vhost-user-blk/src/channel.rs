@@ -71,6 +71,12 @@ impl Channel {
         system::send(self.socket.it(), message)
     }
 
+    /// Has the front end read the configuration again.
+    pub fn say_changed(&self) -> io::Result<()> {
+        let mut room = [0; MAX_MESSAGE];
+        system::send(self.socket.it(), vhost_user::config_change(&mut room))
+    }
+
     /// Takes what has come, up to one reply.
     pub fn receive(&mut self) -> io::Result<Answer> {
         let mut descriptors = Vec::new();

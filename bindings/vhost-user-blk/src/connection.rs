@@ -4,7 +4,7 @@ mod queues;
 
 use crate::channel::{Answer, Channel};
 use crate::descriptor::{self, Kick, Kind};
-use crate::disk::Disk;
+use crate::disk::{Disk, Hangups};
 use crate::features;
 use crate::log::{Log, Logger};
 use crate::memory::{Files, Memory};
@@ -25,12 +25,13 @@ use vm_memory_proved::queue::{Queue, QueueError, QueueState};
 use vm_memory_proved::vhost_user::{self, Backend, Refusal, Request, HEADER_LEN, MAX_DESCRIPTORS, MAX_MESSAGE};
 use vm_memory_proved::{Miss, QueueId};
 
-/// The number of the descriptor by which the program is ended, and of the socket. The back end's own channel and the rings
-/// come after them.
+/// The numbers of the descriptor by which the program is ended, of the socket, and of the one by which the program is told
+/// that the image may have another size. The back end's own channel and the rings come after them.
 pub const ENDING: u64 = 0;
 pub const SOCKET: u64 = 1;
-const CHANNEL: u64 = 2;
-const RINGS: u64 = 3;
+pub const HANGUPS: u64 = 2;
+const CHANNEL: u64 = 3;
+const RINGS: u64 = 4;
 
 // How often a ring is looked at whose driver has no descriptor to notify by.
 const POLL: Duration = Duration::from_millis(1);
@@ -106,6 +107,7 @@ pub struct Connection<'a> {
     socket: &'a UnixStream,
     epoll: &'a Epoll,
     disk: &'a Disk,
+    hangups: &'a Hangups,
     signals: Signals,
     stats: Option<Duration>,
     iotlb_limit: usize,
@@ -135,6 +137,7 @@ impl<'a> Connection<'a> {
         socket: &'a UnixStream,
         epoll: &'a Epoll,
         disk: &'a Disk,
+        hangups: &'a Hangups,
         options: &Options,
         watchdog: &Watchdog,
     ) -> Result<Connection<'a>, Box<dyn Error>> {
@@ -145,6 +148,7 @@ impl<'a> Connection<'a> {
             socket,
             epoll,
             disk,
+            hangups,
             signals: Signals::new(watchdog),
             stats: options.stats,
             iotlb_limit: options.iotlb_limit,
@@ -190,6 +194,7 @@ impl<'a> Connection<'a> {
                 match number {
                     ENDING => return Err(End::Terminated),
                     SOCKET => self.receive()?,
+                    HANGUPS => self.measure_disk(),
                     CHANNEL => self.receive_answer()?,
                     number => self.rings[(number - RINGS) as usize].take_kick(),
                 }
@@ -217,6 +222,21 @@ impl<'a> Connection<'a> {
         }
         if self.disk.sync_failed() {
             say!("the image: a sync failed");
+        }
+    }
+
+    // If the image has another size, requests are held against that from now on, and the front end is told if it wants to be.
+    fn measure_disk(&mut self) {
+        if !self.hangups.measure(self.disk) {
+            return;
+        }
+        let changed = self.backend.change_config(0, &features::capacity(self.disk));
+        changed.expect("the configuration begins with the size");
+        let has_config = self.backend.protocol_features() & features::CONFIG != 0;
+        if let Some(channel) = self.channel.as_ref().filter(|_| has_config) {
+            if let Err(error) = channel.say_changed() {
+                say!("the front end is not told of the size: {error}");
+            }
         }
     }
 

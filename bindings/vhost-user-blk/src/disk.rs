@@ -1,10 +1,11 @@
 //! The disk: a file or a block device.
 
-use crate::{say, system};
+use crate::say;
+use crate::system::{self, Epoll, Watch, Watched};
 use std::cell::Cell;
 use std::ffi::OsStr;
 use std::fs::{File, OpenOptions};
-use std::io::{self, Seek, SeekFrom};
+use std::io::{self, Read, Seek, SeekFrom};
 use std::os::unix::ffi::OsStrExt;
 use std::os::unix::fs::FileExt;
 use std::path::Path;
@@ -21,11 +22,28 @@ const PAUSE: Duration = Duration::from_millis(50);
 
 pub struct Disk {
     file: File,
-    sectors: u64,
+    sectors: Cell<u64>,
     read_only: bool,
     name: [u8; NAME_LEN],
     sync: fn(&File) -> io::Result<()>,
     sync_failed: Cell<bool>,
+}
+
+/// How the program is told by SIGHUP that the image may have another size.
+pub struct Hangups(Watched<File>);
+
+impl Hangups {
+    /// Watches for it by this number.
+    pub fn new(epoll: &Epoll, number: u64) -> io::Result<Hangups> {
+        epoll.watch(system::hangups()?, number, Watch::Level).map(Hangups)
+    }
+
+    /// Looks at the size of the image again, and returns whether it is another one.
+    pub fn measure(&self, disk: &Disk) -> bool {
+        // What came while this looks is taken the next time.
+        let taken = self.0.it().read(&mut [0; 128]);
+        taken.is_ok() && disk.measure()
+    }
 }
 
 impl Disk {
@@ -39,16 +57,14 @@ impl Disk {
         Disk::new(file, base, read_only, File::sync_data)
     }
 
-    fn new(mut file: File, base: &[u8], read_only: bool, sync: fn(&File) -> io::Result<()>) -> io::Result<Disk> {
-        // A block device has its length here alone.
-        let len = file.seek(SeekFrom::End(0))?;
+    fn new(file: File, base: &[u8], read_only: bool, sync: fn(&File) -> io::Result<()>) -> io::Result<Disk> {
         let mut name = [0; NAME_LEN];
         for (to, from) in name.iter_mut().zip(base) {
             *to = *from;
         }
         Ok(Disk {
+            sectors: Cell::new(sectors_of(&file)?),
             file,
-            sectors: len / SECTOR_LEN as u64,
             read_only,
             name,
             sync,
@@ -57,7 +73,23 @@ impl Disk {
     }
 
     pub fn sectors(&self) -> u64 {
-        self.sectors
+        self.sectors.get()
+    }
+
+    /// Looks at the size of the image again, and returns whether it is another one.
+    pub fn measure(&self) -> bool {
+        let sectors = match sectors_of(&self.file) {
+            Ok(sectors) => sectors,
+            Err(error) => {
+                say!("the size of the image is not known: {error}");
+                return false;
+            }
+        };
+        let is_new = self.sectors.replace(sectors) != sectors;
+        if is_new {
+            say!("the image has {sectors} sectors now");
+        }
+        is_new
     }
 
     pub fn read_only(&self) -> bool {
@@ -97,6 +129,11 @@ impl Disk {
     pub fn sync_failed(&self) -> bool {
         self.sync_failed.get()
     }
+}
+
+fn sectors_of(mut file: &File) -> io::Result<u64> {
+    // A block device has its length here alone.
+    Ok(file.seek(SeekFrom::End(0))? / SECTOR_LEN as u64)
 }
 
 // Locks the image against other programs that lock it.

@@ -28,6 +28,9 @@ pub const LOG_ALL: u64 = 1 << 26;
 /// Rings and buffers have I/O addresses.
 pub const ACCESS_PLATFORM: u64 = 1 << 33;
 
+/// A front end reads the device's configuration, of the protocol's features.
+pub const CONFIG: u64 = 1 << 9;
+
 /// Rings are packed.
 pub const RING_PACKED: u64 = 1 << 34;
 
@@ -56,7 +59,7 @@ const PROTOCOL_FEATURES: [(u64, &str); 5] = [
     (1 << 1, "LOG_SHMFD"),
     (1 << 3, "REPLY_ACK"),
     (1 << 5, "BACKEND_REQ"),
-    (1 << 9, "CONFIG"),
+    (CONFIG, "CONFIG"),
 ];
 
 fn all(features: &[(u64, &str)]) -> u64 {
@@ -91,10 +94,15 @@ pub fn limits(features: u64) -> (Option<u32>, Option<u32>) {
     (of(HAS_SEG_MAX, SEG_MAX), of(HAS_SIZE_MAX, SIZE_MAX))
 }
 
+/// What the configuration begins with: how many sectors the disk has.
+pub fn capacity(disk: &Disk) -> [u8; 8] {
+    disk.sectors().to_le_bytes()
+}
+
 /// The device's configuration: `virtio_blk_config`, and zeros after it.
 pub fn config(disk: &Disk, options: &Options) -> [u8; 256] {
     let mut config = [0; 256];
-    config[..8].copy_from_slice(&disk.sectors().to_le_bytes());
+    config[..8].copy_from_slice(&capacity(disk));
     config[8..12].copy_from_slice(&SIZE_MAX.to_le_bytes());
     config[12..16].copy_from_slice(&SEG_MAX.to_le_bytes());
     config[20..24].copy_from_slice(&512_u32.to_le_bytes());

@@ -19,8 +19,8 @@ mod stats;
 #[allow(unsafe_code)]
 mod system;
 
-use connection::{Connection, End, ENDING, SOCKET};
-use disk::Disk;
+use connection::{Connection, End, ENDING, HANGUPS, SOCKET};
+use disk::{Disk, Hangups};
 use options::{Asked, Options, Source, CAPABILITIES, USAGE, VERSION};
 use signal::Watchdog;
 use std::error::Error;
@@ -78,6 +78,7 @@ fn print(text: &str) -> ExitCode {
 struct Program<'a> {
     epoll: Epoll,
     disk: Disk,
+    hangups: Hangups,
     watchdog: Watchdog,
     options: &'a Options,
 }
@@ -92,6 +93,7 @@ fn run(options: &Options) -> Result<(), Box<dyn Error>> {
     let disk = disk.map_err(|error| named(&options.image, error))?;
     let epoll = Epoll::new()?;
     let _ending = epoll.watch(system::termination()?, ENDING, Watch::Level)?;
+    let hangups = Hangups::new(&epoll, HANGUPS)?;
     system::survive_lost_memory()?;
     system::survive_limits()?;
     // Threads that begin now leave the signals to this one.
@@ -100,6 +102,7 @@ fn run(options: &Options) -> Result<(), Box<dyn Error>> {
     let program = Program {
         epoll,
         disk,
+        hangups,
         watchdog,
         options,
     };
@@ -176,7 +179,7 @@ impl Program<'_> {
     fn serve(&self, socket: &UnixStream) -> End {
         say!("a front end connected");
         let end = match self.epoll.watch(socket, SOCKET, Watch::Level) {
-            Ok(_watched) => match Connection::new(socket, &self.epoll, &self.disk, self.options, &self.watchdog) {
+            Ok(_watched) => match self.connection(socket) {
                 Ok(mut connection) => connection.run(),
                 Err(error) => End::Failed("setting it up", error),
             },
@@ -184,6 +187,21 @@ impl Program<'_> {
         };
         say!("the connection ended: {end}");
         end
+    }
+
+    fn connection<'a>(&'a self, socket: &'a UnixStream) -> Result<Connection<'a>, Box<dyn Error>> {
+        let Program {
+            epoll, disk, hangups, ..
+        } = self;
+        Connection::new(socket, epoll, disk, hangups, self.options, &self.watchdog)
+    }
+
+    // Whether the program is to end. If not, the image may have another size.
+    fn is_ending(&self, ready: &[u64]) -> bool {
+        if ready.contains(&HANGUPS) {
+            self.hangups.measure(&self.disk);
+        }
+        ready.contains(&ENDING)
     }
 
     // The next front end, or `None` if the program is to end. If the system has no room for it, it waits.
@@ -198,7 +216,7 @@ impl Program<'_> {
                     is_said = true;
                     // Only the end is watched meanwhile.
                     self.epoll.wait(Some(PAUSE), &mut ready)?;
-                    if ready.contains(&ENDING) {
+                    if self.is_ending(&ready) {
                         return Ok(None);
                     }
                 }
@@ -212,7 +230,7 @@ impl Program<'_> {
     fn try_accept(&self, listener: &UnixListener, ready: &mut Vec<u64>) -> io::Result<Option<UnixStream>> {
         let _watched = self.epoll.watch(listener, SOCKET, Watch::Level)?;
         self.epoll.wait(None, ready)?;
-        if ready.contains(&ENDING) {
+        if self.is_ending(ready) {
             return Ok(None);
         }
         listener.accept().map(|(socket, _)| Some(socket))

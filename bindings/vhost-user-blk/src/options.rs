@@ -13,7 +13,8 @@ usage: vhost-user-blk --socket PATH --image FILE [--read-only] [--write-through]
        vhost-user-blk --print-capabilities | --version | --help
 
 Serves FILE as the disk of a virtio block device to a vhost-user front end, such as QEMU, that connects to PATH. When it
-disconnects, the next one can connect. SIGTERM and SIGINT stop the program. A value may also follow a =, as in --fd=3.
+disconnects, the next one can connect. SIGTERM and SIGINT stop the program; after SIGHUP the disk has the size that FILE
+has then. A value may also follow a =, as in --fd=3.
 
   --socket PATH     the Unix socket to create; --socket-path is the same
   --fd N            in place of --socket, a Unix socket that the program is started with, 3 or more. If it is connected,

@@ -259,13 +259,23 @@ pub fn socket_option(socket: &OwnedFd, option: c_int) -> io::Result<c_int> {
 
 /// A descriptor that can be read once SIGTERM or SIGINT came, which end the process no more.
 pub fn termination() -> io::Result<OwnedFd> {
+    signals(&[libc::SIGTERM, libc::SIGINT])
+}
+
+/// The same for SIGHUP. What is read from it makes it wait for the next one.
+pub fn hangups() -> io::Result<File> {
+    signals(&[libc::SIGHUP]).map(File::from)
+}
+
+fn signals(numbers: &[c_int]) -> io::Result<OwnedFd> {
     let mut signals = MaybeUninit::uninit();
     // SAFETY: the first call fills the set in, the others read and write it. The mask is this thread's, and that of the
     // threads that it starts.
     let descriptor = unsafe {
         checked(libc::sigemptyset(signals.as_mut_ptr()))?;
-        checked(libc::sigaddset(signals.as_mut_ptr(), libc::SIGTERM))?;
-        checked(libc::sigaddset(signals.as_mut_ptr(), libc::SIGINT))?;
+        for number in numbers {
+            checked(libc::sigaddset(signals.as_mut_ptr(), *number))?;
+        }
         checked(libc::sigprocmask(libc::SIG_BLOCK, signals.as_ptr(), null_mut()))?;
         checked(libc::signalfd(
             -1,

@@ -257,6 +257,9 @@ impl BzImage {
     /// `code32_start`, which may not lie below `highmem_start`. The first thing that is wrong is refused, in the order
     /// of README.md, "bzImages". `Image` if the source fails, and `Memory` if an allocation does: the first
     /// is for the header of an image that is long enough.
+    ///
+    /// Leaves open: `Memory`, whatever else the image is, if it is long enough for its header. If no clause says which
+    /// bytes an image has, as of a `File`: the plan, and any error at any time.
     pub fn plan<F: KernelImage>(
         alloc: Global,
         kernel_offset: Option<GuestAddress>,

@@ -133,6 +133,8 @@ fn line_of(alloc: Global, text: &[u8], more: &[u8]) -> Result<Vec<u8>, AllocErro
 impl Cmdline {
     /// An empty line that has room for `capacity` bytes, the last of them the terminating zero. `InvalidCapacity`
     /// if that is 0, and `Memory` if the allocation fails.
+    ///
+    /// Leaves open: `Memory` each time, and from each addition that is allowed and fits. Then the line is as before.
     pub fn new(alloc: Global, capacity: usize) -> Result<Cmdline, CmdlineError>
         ensures { MatchResult result
             (λ line. (line ≡ record { bytes = 0 ∷ []; capacity = capacity }) × (0 < capacity))

@@ -145,6 +145,9 @@ impl Elf {
     /// may not lie below `highmem_start`. The first thing that is wrong is refused, in the order of README.md,
     /// "ELF files". `Image` if the source fails, and `Memory` if an allocation does: the first is for the program
     /// headers of a header that may be loaded.
+    ///
+    /// Leaves open: `Memory`, whatever else the image is, if the header is accepted and has program headers. If no
+    /// clause says which bytes an image has, as of a `File`: the plan, and any error at any time.
     pub fn plan<F: KernelImage>(
         alloc: Global,
         kernel_offset: Option<GuestAddress>,

@@ -156,6 +156,8 @@ fn header_in(alloc: Global, limit: u64, bytes: &[u8]) -> Result<Header, Refusal>
 /// The header that these bytes are, all of them: no other options and blocks have it. The first fault from the left
 /// decides which error it is. `TooMuchMemory` if the blocks have more than `limit` bytes in all, and `Memory` if the
 /// allocation of the list fails.
+///
+/// Leaves open: `Memory` each time.
 pub fn decode_header(alloc: Global, limit: u64, bytes: &[u8]) -> Result<Header, Refusal>
     // What is read is spelled so.
     ensures found { IfOk result (λ h. IsHeader limit h.entries.items

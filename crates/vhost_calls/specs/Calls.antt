@@ -9,7 +9,7 @@ use Rattle.vhost_message.specs.declared.refusal.Refusal.{Refusal}
 use Rattle.vhost_message.specs.declared.regions.MemoryRegion.{MemoryRegion}
 use Rattle.vhost_message.specs.declared.requests.Expected.{Expected}
 use Rattle.vhost_user.specs.Connection as connection
-use Rattle.vhost_user.specs.Connection.{Connection, Connects, Steps, with_rest}
+use Rattle.vhost_user.specs.Connection.{Connection, Connects, Steps, with_base, with_changed_config}
 use Rattle.vhost_user.specs.Log.{logged}
 use Rattle.vhost_user.specs.Reply.{refused, reply_to}
 use Rattle.vhost_user.specs.Running.{running}
@@ -46,7 +46,12 @@ Opens offer config (Err code) =
 -- where a ring goes on
 abbrev pub Stops : Connection → ℕ → ℕ → ℕ → Connection → Type 0
 Stops old index base code new =
-    (r : Result (Unit {0}) Refusal) × Steps old (with_rest old index base) r new × (code ≡ code_of_step r)
+    (r : Result (Unit {0}) Refusal) × Steps old (with_base old index base) r new × (code ≡ code_of_step r)
+
+-- the device changes its configuration
+abbrev pub ChangesConfig : Connection → ℕ → List ℕ → ℕ → Connection → Type 0
+ChangesConfig old offset bytes code new = (r : Result (Unit {0}) Refusal)
+    × Steps old (with_changed_config old offset bytes) r new × (code ≡ code_of_step r)
 
 -- ---- messages
 

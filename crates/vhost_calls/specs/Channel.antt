@@ -5,7 +5,7 @@ use Rattle.vm_memory_base.specs.declared.iotlb.Permissions.TheVariants as permis
 use Rattle.vhost_message.specs.BackendReq.{backend_reply, backend_request}
 use Rattle.vhost_message.specs.Header.{header_in}
 use Rattle.vhost_message.specs.declared.backend_req.BackendReply.{BackendReply}
-use Rattle.vhost_message.specs.declared.backend_req.BackendReq.TheVariants.{IotlbMsg}
+use Rattle.vhost_message.specs.declared.backend_req.BackendReq.TheVariants.{IotlbMsg, ConfigChange}
 use Rattle.vhost_message.specs.declared.header.Header.{Header}
 use Rattle.vhost_message.specs.declared.iotlb.IotlbMessage.TheVariants.{Miss, AccessFail}
 use Rattle.vhost_message.specs.declared.refusal.Refusal.{Refusal}
@@ -26,6 +26,10 @@ miss_of iova (Some access) = backend_request (IotlbMsg (Miss iova access)) true
 abbrev pub access_fail_of : ℕ → Option Permissions → List ℕ
 access_fail_of iova None = []
 access_fail_of iova (Some access) = backend_request (IotlbMsg (AccessFail iova access)) false
+
+-- a CONFIG_CHANGE_MSG, which asks for none
+abbrev pub config_change : List ℕ
+config_change = backend_request ConfigChange false
 
 abbrev pub value_of : Result BackendReply Refusal → Result ℕ ℕ
 value_of (Ok r) = Ok r.value

@@ -1,7 +1,7 @@
 //! The calls.
 ghost use Rattle.std.specs.Prelude.{◌≡◌, Ok};
 ghost use Rattle.vhost_message.specs.Stream.{wanted};
-ghost use Rattle.vhost_calls.specs.Calls.{Gives, Handles, Opens, Sends, Stops, Takes, answer_of, pages_at, payload_reply, refusal_of, region_at, reply_if, reply_of, vring_at, wanted_of};
+ghost use Rattle.vhost_calls.specs.Calls.{ChangesConfig, Gives, Handles, Opens, Sends, Stops, Takes, answer_of, pages_at, payload_reply, refusal_of, region_at, reply_if, reply_of, vring_at, wanted_of};
 ghost use Rattle.vhost_calls.specs.Values.{connection_state};
 
 use crate::code;
@@ -158,12 +158,20 @@ pub fn refuse(backend: &BackendReqHandler, message: &[u8], output: &mut [u8]) ->
     send(backend.refuse(&header).as_slice(), output)
 }
 
-/// Sets the index at which a stopped ring goes on. `VHOST_INDEX` if there is no such ring, and `VHOST_STARTED` if it is
-/// started.
+/// Sets where a stopped ring goes on. `VHOST_INDEX` if there is no such ring, `VHOST_STARTED` if it is started, and
+/// `VHOST_BASE` if it is a split one and this is no index of 16 bits.
 pub fn stop(backend: &mut BackendReqHandler, index: u32, base: u32) -> u32
     ensures { Stops backend.old index base result backend.new }
 {
     code_of_step(backend.stop(index, base))
+}
+
+/// Replaces bytes of the configuration from an offset on, as a device does that changed. `VHOST_CONFIG_RANGE` if the
+/// configuration does not have them.
+pub fn change_config(backend: &mut BackendReqHandler, offset: u32, bytes: &[u8]) -> u32
+    ensures { ChangesConfig backend.old offset bytes.now result backend.new }
+{
+    code_of_step(backend.change_config(offset, bytes))
 }
 
 /// A ring as it is to be served, or why it is not: `VHOST_INDEX` if no ring has this number, `VHOST_STOPPED`, `VHOST_DISABLED`,

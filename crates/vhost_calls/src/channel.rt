@@ -1,7 +1,7 @@
 //! The back end's own channel.
 ghost use Rattle.std.specs.Prelude.{◌≡◌};
 ghost use Rattle.vhost_calls.specs.Calls.{Gives, Sends};
-ghost use Rattle.vhost_calls.specs.Channel.{access_at, access_fail_of, answered, miss_of, payload_value, value_of};
+ghost use Rattle.vhost_calls.specs.Channel.{access_at, access_fail_of, answered, config_change, miss_of, payload_value, value_of};
 
 use crate::calls::send;
 use crate::code;
@@ -55,6 +55,14 @@ pub fn access_fail(iova: u64, access: u32, output: &mut [u8]) -> usize
     ensures { Sends (access_fail_of iova (access_at access)) output.old result output.new }
 {
     send(access_fail_of(iova, access_of(access)).as_slice(), output)
+}
+
+/// A CONFIG_CHANGE_MSG: the front end is to read the configuration again. It asks for no reply. Its bytes go as those of
+/// a MISS do.
+pub fn config_change(output: &mut [u8]) -> usize
+    ensures { Sends config_change output.old result output.new }
+{
+    send(BackendReq::ConfigChange.encode(false).as_slice(), output)
 }
 
 // Says the number in a reply, or why it is none.

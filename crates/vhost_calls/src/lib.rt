@@ -9,9 +9,10 @@ mod refused;
 mod values;
 
 pub use calls::{
-    config, handle, logged, open, refuse, region, reply, running, state, stop, wanted,
+    change_config, config, handle, logged, open, refuse, region, reply, running, state, stop,
+    wanted,
 };
-pub use channel::{access_fail, answered, miss};
+pub use channel::{access_fail, answered, config_change, miss};
 pub use values::{
     VhostOffer, VhostPages, VhostRegion, VhostRequest, VhostState, VhostVring, VhostWanted,
 };

@@ -17,6 +17,8 @@ use vm_memory_guest::{Bytes, GuestMemory, GuestMemoryError, HostMemory, TlbId};
 /// How many bytes of an access from an address on a table allows, up to the first that it misses or forbids, and what
 /// the access comes to: it misses the first address that has no mapping, or is forbidden by the first mapping that does
 /// not permit it, whichever comes first. `Failed`, with no bytes, if an allocation fails.
+///
+/// Leaves open: `Failed` with 0 bytes, each time.
 pub fn reach(table: &Iotlb, iova: u64, len: usize, access: Permissions) -> (usize, Outcome)
     ensures reaches { Reaches (says table.now) iova len access result.0 result.1 }
     ensures most { result.0 ≤ len }
@@ -175,6 +177,8 @@ fn write_some<M: GuestMemory, B: Bitmap>(
 }
 
 /// A read of guest memory behind a table, as far as its mappings go, and on from there at the next try.
+///
+/// Leaves open: `Failed` each time, and then what lies in the buffer past what is done.
 #[derive(Drop)]
 pub struct ReadBytes<'a, M> {
     memory: &'a M,
@@ -233,6 +237,8 @@ impl<M: GuestMemory> Request for ReadBytes<'_, M> {
 }
 
 /// A write of guest memory behind a table, as far as its mappings go, and on from there at the next try.
+///
+/// Leaves open: `Failed` each time, and then how many bytes past what is done were written.
 #[derive(Drop)]
 pub struct WriteBytes<'a, M> {
     memory: &'a M,

@@ -103,6 +103,9 @@ fn write_some<M: GuestMemory, B: Bitmap>(
 
 /// A read of the readable bytes of a chain behind a table, as far as its mappings go, and on from there at the next
 /// try.
+///
+/// Leaves open: which bytes it reads, and what a try comes to; a read of any bytes may be reported as done. The host
+/// stays as it is, and a request that is not done is not reported as done.
 #[derive(Drop)]
 pub struct ReadChain<'a, M> {
     memory: &'a M,
@@ -163,6 +166,9 @@ impl<M: GuestMemory> Request for ReadChain<'_, M> {
 
 /// A write of the writable bytes of a chain behind a table, as far as its mappings go, and on from there at the next
 /// try.
+///
+/// Leaves open: which bytes it puts where, and what a try comes to; a write of any bytes may be reported as done. The
+/// host keeps its shape, and a request that is not done is not reported as done.
 #[derive(Drop)]
 pub struct WriteChain<'a, M> {
     memory: &'a M,

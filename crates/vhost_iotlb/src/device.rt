@@ -345,6 +345,9 @@ impl<F: Receive + Write, O: Receive + Write> DeviceIotlb<F, O> {
     /// another request is returned whole, and not answered: `reply` does that.
     ///
     /// If the reply cannot be sent, the message was applied or refused all the same.
+    ///
+    /// Leaves open: `Failed` each time that a reply is due. The message was served all the same, and the channel has a
+    /// beginning of the reply.
     pub fn handle<H: SharedHost>(&mut self, host: &mut H) -> Result<Handled, ChannelError>
         ensures handles { Handles F.gives F.contents H.lends self.old host.old result self.new host.new }
         ensures header { IfOk result HasHeader }
@@ -356,6 +359,8 @@ impl<F: Receive + Write, O: Receive + Write> DeviceIotlb<F, O> {
     }
 
     /// Sends the reply to a message of another request, whatever its payload: none if it has no bytes.
+    ///
+    /// Leaves open: `Failed` each time that there are bytes to send, as `tell` does.
     pub fn reply(&mut self, reply: &Message) -> Result<(), ChannelError>
         ensures others { self.new ≡ record self.old { front = self.new.front } }
         ensures sent { Sends F.contents reply.now self.old.front result self.new.front }
@@ -545,6 +550,9 @@ impl<F: Receive + Write, O: Receive + Write> DeviceIotlb<F, O> {
     /// `Refused` if the front end's reply to the MISS is not 0, `Deadline` and `Tries` past the limits, `Forbidden` if a
     /// mapping forbids the access, of which an ACCESS_FAIL informs the front end, `Failed` if the request cannot be
     /// done, and `Channel` if a channel ends or fails. Then the request may be done in part.
+    ///
+    /// Leaves open: that no MISS is sent, for whatever address, if one was sent before a message of another request
+    /// came. Then the looks end in `Deadline`, unless the front end maps something.
     pub fn with_misses<H: SharedHost, R: Request>(
         &mut self,
         host: &mut H,

@@ -46,6 +46,9 @@ impl<B: Bitmap> SharedHost for HostMemory<B> {
 }
 
 /// A host under a lock, which each step takes and releases.
+///
+/// Leaves open: what a message or a try does to the host, also nothing: no clause can name what a lock keeps. The
+/// result is one that the step has in some host, so an UPDATE that was refused for memory may be reported as done.
 #[derive(Drop)]
 pub struct LockedHost<'a, W: Wait, B> {
     pub rt: &'a W,

@@ -119,6 +119,8 @@ fn take_back_in<B>(host: &mut HostMemory<B>, table: TlbId, iova: u64, size: u64)
 impl DeviceTable {
     /// Makes a table of a host that keeps at most `limit` ranges, which has to be 1 or more, for a front end that
     /// announced this memory. `AllocError` if its allocation fails, and then nothing changes.
+    ///
+    /// Leaves open: a failed allocation each time.
     pub fn new<B>(
         alloc: Global,
         host: &mut HostMemory<B>,
@@ -145,6 +147,9 @@ impl DeviceTable {
     /// announced memory does not hold an UPDATE's. `NoTable` if the host has no such table. What is refused changes
     /// nothing, except that a malformed INVALIDATE invalidates everything: which of the front end's mappings still hold
     /// is not known then.
+    ///
+    /// Leaves open: `Memory` for each UPDATE of an announced range, and then nothing changed; and that an INVALIDATE of
+    /// a range invalidates everything, each time.
     pub fn apply<B>(&self, host: &mut HostMemory<B>, message: &IotlbMessage) -> Result<(), Refusal>
         ensures applied { (calls : List TableEvent)
             × Applies self.now.table.0 self.now.memory message.now result calls host.old host.new }

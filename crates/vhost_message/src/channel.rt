@@ -26,6 +26,9 @@ pub enum ChannelError {
 ///
 /// Its ghost member names what a read gave. So a contract can say of any channel which message its bytes are, and that
 /// a read found nothing.
+///
+/// Leaves open: for a reader of the standard library, that a read finds nothing, or fails, at any time. Then it took no
+/// byte, and if its bytes are known, `Ended` comes only at their end.
 pub trait Receive {
     /// What a read may give: the channel, the bytes that it gave or why no more comes, and the channel afterwards.
     ghost gives: { Self → Result (List ℕ) ChannelError → Self → Type 0 };

@@ -108,6 +108,9 @@ impl Message {
     }
 
     /// Writes the bytes to a channel. `Failed` if the writer fails: then it has a beginning of them.
+    ///
+    /// Leaves open: that a message of at least one byte is not sent, at any time. Then the writer has a beginning of
+    /// it.
     pub fn send<W: Write>(&self, writer: &mut W) -> Result<(), ChannelError>
         ensures { Sends W.contents self.now writer.old result writer.new }
     {

@@ -87,6 +87,7 @@ abbrev pub with_num : Connection → ℕ → ℕ → Result Connection Refusal
 with_num s i num = stopped_at s i >>= λ v. if num == 0 || nat_lt s.offer.max_queue_size num then Err QueueSize
     else Ok (with_vring s i (record v { num = num }))
 
+-- where a stopped ring goes on: a split one at an index of 16 bits
 abbrev pub with_base : Connection → ℕ → ℕ → Result Connection Refusal
 with_base s i base = stopped_at s i >>= λ v.
     if not (has s.features feature.ring_packed) && nat_lt 65535 base then Err Base
@@ -115,10 +116,6 @@ abbrev pub with_enabled : Connection → ℕ → Bool → Result Connection Refu
 with_enabled s i enable = needed s.features feature.protocol_features >>= λ _. vring_at s i
     >>= λ v. Ok (with_vring s i (record v { enabled = enable }))
 
--- where a ring that was stopped goes on
-abbrev pub with_rest : Connection → ℕ → ℕ → Result Connection Refusal
-with_rest s i base = stopped_at s i >>= λ v. Ok (with_vring s i (record v { base = base }))
-
 -- ---- configuration
 
 -- it has N bytes from a place on
@@ -138,6 +135,11 @@ abbrev pub with_config : Connection → ConfigSpace → List ℕ → Result Conn
 with_config s c bytes = in_config s c.offset (length bytes)
     >>= λ _. if is_writable s.offer c.flags c.offset (length bytes)
     then Ok (record s { config = replaced s.config c.offset bytes }) else Err ConfigReadOnly
+
+-- the device changes it: it grew, for one
+abbrev pub with_changed_config : Connection → ℕ → List ℕ → Result Connection Refusal
+with_changed_config s offset bytes = if nat_lt (length s.config) (offset + length bytes) then Err ConfigRange
+    else Ok (record s { config = replaced s.config offset bytes })
 
 -- ---- what a request makes of a connection
 

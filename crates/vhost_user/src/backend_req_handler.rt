@@ -1,6 +1,6 @@
 //! The state of a connection, and the requests that change it.
 ghost use Rattle.std.specs.Prelude.{◌≡◌, ◌<◌, ◌≤◌, length, drop, OnOk, true};
-ghost use Rattle.vhost_user.specs.Connection.{Handles, Steps, Connects, can_offer, in_config, is_any_started, is_writable, needed, served, stopped_at, vring_at, with_address, with_base, with_call, with_config, with_enabled, with_err, with_features, with_kick, with_log, with_memory, with_num, with_protocol_features, with_rest, with_vring, without_kick, vring_served};
+ghost use Rattle.vhost_user.specs.Connection.{Handles, Steps, Connects, can_offer, in_config, is_any_started, is_writable, needed, served, stopped_at, vring_at, with_address, with_base, with_call, with_changed_config, with_config, with_enabled, with_err, with_features, with_kick, with_log, with_memory, with_num, with_protocol_features, with_vring, without_kick, vring_served};
 ghost use Rattle.vhost_user.specs.Features.{has};
 ghost use Rattle.vhost_user.specs.Running.{is_disabled, log_of, place, placed_vring, running};
 
@@ -137,6 +137,8 @@ impl BackendReqHandler {
 
     /// A new connection: nothing is negotiated, and memory and rings are not known. There are `queues` rings, 1 to
     /// 256, and at most `MAX_CONFIG` bytes of configuration. `Invalid` if a back end cannot offer this.
+    ///
+    /// Leaves open: `Memory` for each offer that can be made.
     pub fn new(
         alloc: Global,
         offer: Offer,
@@ -518,13 +520,26 @@ impl BackendReqHandler {
         Ok(request)
     }
 
-    /// Sets where a stopped ring goes on. `Index` if there is no such ring, and `Started` if it is started.
-    pub fn stop(&mut self, index: u32, base: u32) -> Result<(), Refusal>
-        ensures { Steps self.old (with_rest self.old index base) result self.new }
+    /// Replaces bytes of the configuration from an offset on, as a device does that changed. `ConfigRange`, and nothing
+    /// changes, if the configuration does not have them.
+    pub fn change_config(&mut self, offset: u32, bytes: &[u8]) -> Result<(), Refusal>
+        ensures { Steps self.old (with_changed_config self.old offset bytes.now) result self.new }
     {
-        let vring = self.stopped_vring(index)?;
-        self.set_vring(index, Vring { base, ..vring });
+        let from = offset as usize;
+        if bytes.len() > self.config.len() || from > self.config.len() - bytes.len() {
+            return Err(Refusal::ConfigRange);
+        }
+        self.config[from..from + bytes.len()].copy_from_slice(bytes);
         Ok(())
+    }
+
+    /// Sets where a stopped ring goes on, as a front end does it by SET_VRING_BASE: so what is replied can come back.
+    /// `Index` if there is no such ring, `Started` if it is started, and `Base` if it is a split one and this is no index
+    /// of 16 bits.
+    pub fn stop(&mut self, index: u32, base: u32) -> Result<(), Refusal>
+        ensures { Steps self.old (with_base self.old index base) result self.new }
+    {
+        self.set_vring_base(index, base)
     }
 
     // ---- rings that are to be served

@@ -60,6 +60,8 @@ impl<D> Model for BlockDevice<D> {
 impl<D: Disk> BlockDevice<D> {
     /// A device on a disk, with a name that drivers can ask for. A read-only one refuses to write. It allocates
     /// what it needs to serve chains, once.
+    ///
+    /// Leaves open: a failed allocation each time.
     pub fn new(
         alloc: Global,
         disk: D,

@@ -100,6 +100,8 @@ fn breaks_limits(terms: Terms, segments: &[Segment]) -> bool
 /// header is read, with `VIRTIO_BLK_S_IOERR`. An error means that nothing is decided:
 /// [`GuestMemoryError::IommuError`] if the IOMMU refuses an access to the header, and [`GuestMemoryError::Memory`] if
 /// its translation fails to allocate. A device whose mappings come later makes the call again then.
+///
+/// Leaves open: `Memory` each time behind an IOMMU that is on, if there is a header to read. Then nothing changed.
 pub fn begin<M: GuestMemory, B: Bitmap>(
     terms: Terms,
     mem: &M,
@@ -139,6 +141,8 @@ pub fn begin<M: GuestMemory, B: Bitmap>(
 /// An error means that nothing changed: [`GuestMemoryError::IommuError`] if the IOMMU refuses the access, and
 /// [`GuestMemoryError::Memory`] if its translation fails to allocate. A device whose mappings come later makes the
 /// call again then.
+///
+/// Leaves open: `Memory` each time behind an IOMMU that is on, if there is a status to write. Then nothing changed.
 pub fn finish<M: GuestMemory, B: Bitmap>(
     mem: &M,
     host: &mut HostMemory<B>,

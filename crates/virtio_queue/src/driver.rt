@@ -164,6 +164,8 @@ impl DriverQueue {
 
     /// Publishes a head: it goes into the next slot of the available ring, and after it the index. `InvalidSize`
     /// if the size is 0.
+    ///
+    /// Leaves open: for a failed allocation, whether the head is stored.
     pub fn publish<M: GuestMemory, B: Bitmap>(
         &mut self,
         mem: &M,

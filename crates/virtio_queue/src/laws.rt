@@ -84,6 +84,9 @@ pub fn queues_pop_as_histories_do<B: Bitmap>()
 
 /// The entry that a history's device returns goes into the slot whose place `add_used` writes, no other slot changes,
 /// and the index goes where the queue's does.
+///
+/// Leaves open: what memory holds after `add_used`: this compares slots and indices, and no clause links memory with
+/// the used ring of a history.
 pub fn queues_return_as_histories_do()
     ensures { (q : Virtqueue) (s : Story) (entry : Entry) → s.rings.used_idx ≡ q.state.next_used
         → let t = after q.state.size (Return entry) s in let i = slot q.state.size q.state.next_used in

@@ -31,6 +31,9 @@ use vm_memory_base::GuestAddress;
 ///     }
 /// }
 /// ```
+///
+/// Leaves open: `Memory` for each access of either half through an IOMMU that is on and allows it by two pieces or
+/// more. A refused call of a device changed nothing.
 #[derive(Drop)]
 pub struct Queue {
     state: QueueState,

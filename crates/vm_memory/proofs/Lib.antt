@@ -2,6 +2,7 @@ pub mod AccessLemmas
 pub mod BitmapLemmas
 pub mod BlockLemmas
 pub mod CallLemmas
+mod ChangeLemmas
 pub mod CallsLemmas
 pub mod CopyLemmas
 pub mod EffectLemmas

@@ -266,6 +266,9 @@ impl<R: GuestMemoryRegion, I: Iommu, B: ExactBitmap> Machine<R, I, B> {
 ///
 /// The replies, the bytes of the host and its dirty pages are those of a model: docs/PROVED.md, "The main theorem",
 /// and the crate's README.md, "History" and "Images kept in rounds".
+///
+/// Leaves open: a failed allocation each time, also without commands, and the reply `Memory` each time that `MayWant`
+/// allows it.
 pub fn run<R: GuestMemoryRegion, I: Iommu, B: ExactBitmap>(
     machine: &mut Machine<R, I, B>,
     commands: &[Command],

@@ -71,6 +71,8 @@ impl DriveFault {
 /// It stops at the first bad line with `BadLine`, after the replies to the lines before it. It stops with `Read` if the
 /// input fails, with `Write` if the output fails, and with `Memory` if an allocation of its own fails. If a setup line
 /// or a command fails to allocate, its reply says so, and the script goes on.
+///
+/// Leaves open: `Read`, `Write` and `Memory` at any time, after the beginning of the answers.
 pub fn drive<R: Read, W: Write>(
     alloc: Global,
     input: &mut R,

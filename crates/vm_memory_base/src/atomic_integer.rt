@@ -9,6 +9,8 @@ use std::sync::atomic::{
 /// An integer that threads read and write in single steps.
 ///
 /// Other threads may write it between two steps, so a load says nothing of what a store left.
+///
+/// Leaves open: every value, since other threads may store between two calls.
 pub trait AtomicInteger: Send + Sync {
     /// The integer that it holds.
     type V: ByteValued;

@@ -56,6 +56,8 @@ pub trait ExactBitmap: Bitmap {
 
     /// The numbers of the dirty pages, ascending. `AllocError` if the allocation of the list fails. If no page
     /// is dirty, it allocates nothing.
+    ///
+    /// Leaves open: a failed allocation each time that a page is dirty. Then nothing changed.
     fn dirty_pages(&self, alloc: Global) -> Result<Vec<usize>, AllocError>
         ensures dirty { IfOk result (λ dirty. dirty.items ≡ page_set.dirty_pages (pages self.now)) }
         ensures refused { OnErr result (page_set.dirty_pages (pages self.now) ≢ []) }
@@ -73,6 +75,8 @@ pub trait ExactBitmap: Bitmap {
 
     /// Takes the dirty pages: gives their numbers, ascending, and makes them clean. `AllocError` if the allocation
     /// of the list fails, and then nothing changes. If no page is dirty, it allocates nothing.
+    ///
+    /// Leaves open: a failed allocation each time that a page is dirty. Then nothing changed.
     fn harvest(&mut self, alloc: Global) -> Result<Vec<usize>, AllocError>
         ensures dirty { IfOk result (λ dirty. dirty.items ≡ page_set.dirty_pages (pages self.old)) }
         ensures clean { OnOk result (pages self.new ≡ page_set.cleaned (pages self.old)) }
@@ -96,6 +100,8 @@ pub trait ExactBitmap: Bitmap {
 /// A bitmap that can be made for a length in bytes.
 pub trait NewBitmap: Bitmap {
     /// A clean bitmap for `len` bytes, which may be 0. `AllocError` if its allocation fails.
+    ///
+    /// Leaves open: a failed allocation each time.
     fn with_len(alloc: Global, len: usize) -> Result<Self, AllocError>
         ensures { IfOk result (Self.made len) };
 }

@@ -115,6 +115,8 @@ pub trait ByteValued: ByteSized + Copy {
     /// Writes the bytes of the value to a writer, at most 64 at once.
     ///
     /// An error is the writer's. How many of the bytes the writer took is not known.
+    ///
+    /// Leaves open: any error at any time, and then which bytes were moved.
     final fn write_all_to<W: Write>(&self, writer: &mut W) -> io::Result<()>
         ensures { Self.width < 2 ^ 64
             → OnOk result (Appends (W.contents writer.old) (W.contents writer.new) (bytes self.now)) }
@@ -134,6 +136,8 @@ pub trait ByteValued: ByteSized + Copy {
     ///
     /// An error is the reader's. How many bytes the reader gave is not known. If a reader ends too
     /// early, std's error is of the kind `UnexpectedEof`.
+    ///
+    /// Leaves open: any error at any time, and then which bytes were moved.
     final fn read_exact_from<R: Read>(reader: &mut R) -> io::Result<Self>
         ensures { Self.width < 2 ^ 64
             → IfOk result (λ x. Consumes (R.remaining reader.old) (R.remaining reader.new) (bytes x)) }

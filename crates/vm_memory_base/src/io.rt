@@ -139,6 +139,8 @@ pub trait ReadVolatile {
 
     /// Fills the beginning of the buffer, and returns how many bytes that is. For a buffer of some bytes, 0 is the
     /// end of the source. An error is the source's own, and may leave the buffer changed.
+    ///
+    /// Leaves open: which bytes a file or a socket gives, at most what was lent, and any I/O error at any time.
     fn read_volatile(&mut self, buf: &mut [u8]) -> VolatileMemoryResult<usize>
         ensures count { IfOk result (λ count. count ≤ length buf.old) }
         ensures tells { ReadsAs (source self.old) buf.old result buf.new (source self.new) }
@@ -225,6 +227,9 @@ pub trait WriteVolatile {
 
     /// Takes the first bytes of the buffer, and returns how many. An error is the sink's own. `Memory` says that
     /// its allocation failed, and that it took nothing.
+    ///
+    /// Leaves open: how many bytes a file, a socket or the standard output takes, at most what was offered, and any I/O
+    /// error at any time; for a vector a failed allocation each time that bytes are offered, and then it took none.
     fn write_volatile(&mut self, buf: &[u8]) -> VolatileMemoryResult<usize>
         ensures count { IfOk result (λ count. count ≤ length buf.now) }
         ensures tells { TakesAs (may_want self.old) (sink self.old) (length buf.now) result (sink self.new) }

@@ -19,6 +19,8 @@ use vm_session::{Answer, Call, Miss, Session};
 
 /// Opens a session, and puts its handle into `session`, which has to be closed or new. Returns 0, or 3 if the
 /// allocation fails, and then the handle stays.
+///
+/// Leaves open: 3, for a failed allocation, each time. Then the handle stays.
 #[unsafe(no_mangle)]
 pub extern "C" fn vmm_open(alloc: Global, session: &mut Handle) -> u32
     ensures { Opens session.old.state result session.new.state }

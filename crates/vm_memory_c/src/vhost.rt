@@ -1,8 +1,8 @@
 //! A back end's connection with a vhost-user front end, for C: opens one, calls it, and closes it.
 ghost use Rattle.std.specs.Prelude.{◌≡◌, Some, None, IsSome, Ok};
 ghost use Rattle.vhost_message.specs.Stream.{wanted};
-ghost use Rattle.vhost_calls.specs.Calls.{Gives, Handles, Sends, Stops, pages_at, refusal_of, region_at, reply_of, vring_at, wanted_of};
-ghost use Rattle.vhost_calls.specs.Channel.{access_at, access_fail_of, answered, miss_of};
+ghost use Rattle.vhost_calls.specs.Calls.{ChangesConfig, Gives, Handles, Sends, Stops, pages_at, refusal_of, region_at, reply_of, vring_at, wanted_of};
+ghost use Rattle.vhost_calls.specs.Channel.{access_at, access_fail_of, answered, config_change, miss_of};
 ghost use Rattle.vhost_calls.specs.Values.{connection_state};
 ghost use Rattle.vm_memory_c.specs.Vhost.{OpensAt, StaysOpen};
 
@@ -138,6 +138,24 @@ pub extern "C" fn vmm_vhost_stop(
     code
 }
 
+/// Replaces bytes of the configuration from an offset on.
+#[unsafe(no_mangle)]
+pub extern "C" fn vmm_vhost_change_config(
+    alloc: Global,
+    connection: &mut Backend,
+    offset: u32,
+    bytes: &[u8],
+) -> u32
+    requires { IsSome connection.old.state }
+    ensures { StaysOpen connection.old.state connection.new.state
+        (λ old new. ChangesConfig old offset bytes.now result new) }
+{
+    let mut held = take(alloc, connection);
+    let code = vhost_calls::change_config(&mut held, offset, bytes);
+    put(connection, held);
+    code
+}
+
 /// Puts a ring as it is to be served into `vring`, or says why it is not to be served.
 #[unsafe(no_mangle)]
 pub extern "C" fn vmm_vhost_running(
@@ -209,6 +227,14 @@ pub extern "C" fn vmm_vhost_access_fail(iova: u64, access: u32, output: &mut [u8
     ensures { Sends (access_fail_of iova (access_at access)) output.old result output.new }
 {
     vhost_calls::access_fail(iova, access, output)
+}
+
+/// Puts the message that the configuration changed to the front of the output, as `vmm_vhost_miss`.
+#[unsafe(no_mangle)]
+pub extern "C" fn vmm_vhost_config_change(output: &mut [u8]) -> usize
+    ensures { Sends config_change output.old result output.new }
+{
+    vhost_calls::config_change(output)
 }
 
 /// Puts the number in a reply that came on the back end's own channel into `value`, or says why it is none.

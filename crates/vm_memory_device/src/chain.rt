@@ -155,6 +155,9 @@ impl<'c> ChainReader<'c> {
     /// one access for each segment, until one fails or counts fewer bytes than it was to read. If the first access
     /// fails, its error is returned and nothing changes. If a later one fails, the result counts what came before. It
     /// is `Ok(0)` if the buffer is empty or nothing is left.
+    ///
+    /// Leaves open: behind an IOMMU that is on, that a call ends before any of its accesses, one for each segment. If
+    /// it moved nothing then, it reports `Memory`, also for another error.
     #[inline(always)]
     pub fn read<M: GuestMemory, B: Bitmap>(
         &mut self,
@@ -208,6 +211,8 @@ impl<'c> ChainWriter<'c> {
     /// number. It makes one access for each segment, until one fails or counts fewer bytes than it was to write. If the
     /// first access fails, its error is returned and nothing changes. If a later one fails, the result counts what came
     /// before. It is `Ok(0)` if the buffer is empty or nothing is left.
+    ///
+    /// Leaves open: the same as `read` of a `ChainReader`.
     #[inline(always)]
     pub fn write<M: GuestMemory, B: Bitmap>(
         &mut self,

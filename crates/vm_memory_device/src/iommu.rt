@@ -37,6 +37,8 @@ pub trait Iommu: Named + Drop {
     /// `CannotResolve`, with the whole range, if the table does not allow it: `MissingMapping` if an address is not
     /// mapped or the end is not an address, and `AccessNotAllowed` otherwise. `Memory` if the table allows the access,
     /// which has two pieces or more, but their allocation fails. There are no other errors.
+    ///
+    /// Leaves open: a failed allocation for addresses that the table allows by two pieces or more.
     fn translate(
         &self,
         alloc: Global,

@@ -36,6 +36,8 @@ impl<M: GuestMemory + Drop> Current<M> {
 ///
 /// A snapshot is shared under a lock that is held for nothing else, so it never waits for a thread that makes a
 /// layout. No clause names what a lock keeps; tests show which memory a snapshot is of.
+///
+/// Leaves open: which memory a snapshot is of, whether a replacement is made, and a failed allocation at any time.
 #[derive(Drop)]
 pub struct GuestMemoryAtomic<M: GuestMemory + Drop> {
     current: Arc<Current<M>>,
@@ -179,6 +181,8 @@ impl<M: GuestMemory + Drop> Deref for GuestMemoryLoadGuard<M> {
 ///
 /// The reader owns its snapshot, so a memory that was replaced stays until each of its readers was asked again or
 /// dropped.
+///
+/// Leaves open: which memory it lends, and a failed allocation at any time.
 #[derive(Drop)]
 pub struct GuestMemoryReader<M: GuestMemory + Drop> {
     current: Arc<Current<M>>,

@@ -24,6 +24,9 @@ use vm_memory_base::{AtomicAccess, Bitmap, ByteValued, ReadVolatile, WriteVolati
 /// let count = memory.write(&mut host, &[1, 2, 3], address)?;
 /// memory.read_slice(&host, &mut buffer, address)?;
 /// ```
+///
+/// Leaves open: of guest memory, a failed allocation for each access through an IOMMU that is on and allows it by two
+/// pieces or more. Then nothing changed. A source or a sink may report one of its own.
 pub trait Bytes<A>: Named {
     /// Why an access was refused.
     type E;
@@ -122,6 +125,8 @@ pub trait Bytes<A>: Named {
             (buf.new ≡ filled_buffer host.now.blocks (cells r.windows) buf.old) result };
 
     /// Writes a value, as `write_slice` writes its bytes.
+    ///
+    /// Leaves open: all but the shape of the host, for values of 2^64 bytes or more.
     fn write_obj<T: ByteValued, B: Bitmap>(
         &self,
         host: &mut HostMemory<B>,
@@ -136,6 +141,8 @@ pub trait Bytes<A>: Named {
         ensures shape { shape_of host.new ≡ shape_of host.old };
 
     /// Reads a value, as `read_slice` reads its bytes.
+    ///
+    /// Leaves open: the result, for values of 2^64 bytes or more.
     fn read_obj<T: ByteValued, B: Bitmap>(
         &self,
         host: &HostMemory<B>,

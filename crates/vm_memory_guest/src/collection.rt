@@ -54,6 +54,8 @@ impl<R: GuestMemoryRegion> GuestRegionCollection<R> {
 
     /// The layout of these regions, in order, as `from_arc_regions` makes it. An allocation may fail before an error in
     /// the regions is found.
+    ///
+    /// Leaves open: a failed allocation each time, also if the regions have a fault.
     pub fn from_regions(alloc: Global, regions: Vec<R>) -> Result<Self, GuestRegionCollectionError>
         ensures { MatchResult result
             (λ c. (layout_error (map R.region regions.items) ≡ None) × (c ≡ regions.items))
@@ -88,6 +90,8 @@ impl<R: GuestMemoryRegion> GuestRegionCollection<R> {
     /// A layout with one more region, which shares its bytes. The region goes before the first that starts above it;
     /// then the regions are tested as in `from_arc_regions`. An allocation may fail before that. This layout does not
     /// change.
+    ///
+    /// Leaves open: a failed allocation each time, also if the regions have a fault.
     pub fn insert_region(&self, region: Arc<R>) -> Result<Self, GuestRegionCollectionError>
         ensures { let regions = inserted R.region self.now region.value in MatchResult result
             (λ c. (layout_error (map R.region regions) ≡ None) × (c ≡ regions))

@@ -320,6 +320,8 @@ impl<B> HostMemory<B> {
 
     /// Makes a space whose pages `bitmap` tracks, and returns its number. `AllocError` if an allocation
     /// fails, and then nothing changes.
+    ///
+    /// Leaves open: a failed allocation each time, as `new_table` and `new_block` do. Then the host is as before.
     pub fn new_space(&mut self, bitmap: B) -> Result<SpaceId, AllocError>
     where
         B: Drop,

@@ -319,6 +319,9 @@ impl GuestRegionCollection<GuestRegionMmap> {
     /// blocks are made in order, as `GuestRegionMmap::from_range` does, and then the regions are tested as in
     /// `from_regions`. A failed allocation of a block is `MmapRegion(Memory)`, one of a shared region or of the
     /// collection `Collection(Memory)`. The blocks before a refusal stay in the host, and nothing names them.
+    ///
+    /// Leaves open: a failed allocation for each range without a fault, and after each block. The blocks before it
+    /// stay.
     pub fn from_ranges<B: NewBitmap + Drop>(
         alloc: Global,
         host: &mut HostMemory<B>,

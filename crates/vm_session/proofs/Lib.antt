@@ -4,6 +4,7 @@ mod ListLemmas
 mod HarvestLemmas
 mod ReadLemmas
 mod CodeLemmas
+mod CommandLemmas
 mod RetryLemmas
 mod RunLaws
 mod MessageLemmas

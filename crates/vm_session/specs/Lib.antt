@@ -1,5 +1,6 @@
 pub mod Answers
 pub mod Codes
+pub mod Commands
 pub mod Kinds
 pub mod Lists
 pub mod Messages

@@ -3,6 +3,8 @@
 
 mod answer;
 mod call;
+#[cfg(test)]
+mod calls;
 mod code;
 mod commands;
 pub mod laws;

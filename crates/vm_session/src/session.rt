@@ -58,6 +58,10 @@ impl Session {
     /// `IotlbMessage`. The session remembers it, so that it is done or refused with `IOTLB_TOO_SMALL` in the end,
     /// unless another call misses in between: behind a table with a limit, two calls that take turns may replace each
     /// other's mappings for ever. docs/BINDINGS.md, "A device's I/O table", has the rule.
+    ///
+    /// Leaves open: `MEMORY` for each call whose input is a list, for each UPDATE, and for each queue of a size that is
+    /// allowed; then nothing changed. No miss beside a refusal, if the look-up of an address finds no memory. And of
+    /// calls on queues what `virtio_queue`, chains and the steps of `virtio_blk` leave open.
     pub fn call(&mut self, call: &Call, input: &[u8], output: &mut [u8]) -> Answer
         ensures { AnswersCall self.old call.now input.now output.old result output.new self.new }
     {

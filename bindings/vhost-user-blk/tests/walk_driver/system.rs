@@ -43,11 +43,7 @@ pub fn wait(descriptors: &[RawFd], time: Duration) -> bool {
 }
 
 fn wait_for(descriptors: &[RawFd], events: i16, time: Duration) -> bool {
-    let of = |&fd: &RawFd| libc::pollfd {
-        fd,
-        events,
-        revents: 0,
-    };
+    let of = |&fd: &RawFd| libc::pollfd { fd, events, revents: 0 };
     let mut asked: Vec<_> = descriptors.iter().map(of).collect();
     // SAFETY: the pointer and the number are those of the entries.
     unsafe { libc::poll(asked.as_mut_ptr(), asked.len() as u64, time.as_millis() as i32) > 0 }
@@ -86,7 +82,10 @@ pub fn send(socket: &UnixStream, bytes: &[u8], descriptors: &[RawFd]) {
         }
         let error = Error::last_os_error();
         // A socket that waits for nothing is full if the other end has not read hundreds of parts of replies yet.
-        assert!(sent < 0 && error.kind() == ErrorKind::WouldBlock, "{sent} bytes are sent: {error}");
+        assert!(
+            sent < 0 && error.kind() == ErrorKind::WouldBlock,
+            "{sent} bytes are sent: {error}"
+        );
         let has_room = wait_for(&[socket.as_raw_fd()], libc::POLLOUT, patience());
         assert!(has_room, "the back end reads nothing");
     }

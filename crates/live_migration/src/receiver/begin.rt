@@ -129,6 +129,9 @@ impl Receiver {
     /// stream's sections may cost `limit` bytes in all; each section costs `SECTION_COST` besides its name and
     /// bytes: `TooMuchMemory` if the blocks cost more. Nothing is made before the header is accepted. If an allocation
     /// fails after that, blocks that were made stay, and no other block changes.
+    ///
+    /// Leaves open: any error at any time, with the host as before; or `Memory` after some blocks of an accepted header
+    /// were made.
     #[tactic(auto, using(crate::proofs::CostLemmas::blocks_cost))]
     pub fn begin<R: Read, B: NewBitmap + Drop>(
         alloc: Global,

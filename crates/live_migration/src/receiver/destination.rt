@@ -42,6 +42,8 @@ impl<B> Destination<B> {
     ghost use Rattle.live_migration.specs.Receiving.{Begins, BreaksMaking, TakesFrame};
 
     /// As `Receiver::begin`. If it is refused, the host comes back with the refusal.
+    ///
+    /// Leaves open: the same as `begin` of a `Receiver`.
     pub fn begin<R: Read>(
         alloc: Global,
         reader: &mut R,

@@ -57,6 +57,9 @@ impl Receiver {
     /// Takes all frames up to the permission to run the guest. After done it says that it has all, and no more: the
     /// caller reports to the sender what is refused. However it ends, blocks outside the header's stay as they were. If
     /// a frame is refused, those before it stay in effect. `Failed` also if the reply cannot be written.
+    ///
+    /// Leaves open: any error at any time, and then which sections it has and which beginning of the replies that are
+    /// due was written. The frames before it took effect whole, and no other block changed.
     pub fn receive<R: Read, W: Write, B: Bitmap>(
         &mut self,
         reader: &mut R,

@@ -60,6 +60,8 @@ impl Sender {
     /// read. On success exactly the bytes of `Reply::Ready` were read, and rounds may be sent. `Refused` with what the
     /// receiver refused, `Reply` if eight other bytes came, and `Failed` if fewer came before the stream ended or
     /// failed: then nothing more is sent.
+    ///
+    /// Leaves open: `Failed` at any time, after fewer than 8 bytes, as `accepted` does. Then the stage is `Failed`.
     pub fn ready<R: Read>(&mut self, reader: &mut R) -> Result<(), SendError>
         ensures heard { self.old.stage ≡ stages.Begun
             → Awaits replies.Ready (R.remaining reader.old) (R.remaining reader.new) result }

@@ -230,6 +230,8 @@ impl Sender {
     /// blocks ascend by their addresses and do not meet, each is tracked as a whole by a bitmap whose pages have at
     /// most 2^20 bytes, and none comes twice: else `Header`, `Untracked` or `Twice`, and `Changed` if the host has no
     /// such block.
+    ///
+    /// Leaves open: any error at any time, and then what was written.
     pub fn begin<B: ExactBitmap, W: Write>(
         alloc: Global,
         host: &HostMemory<B>,
@@ -254,6 +256,9 @@ impl Sender {
     }
 
     /// As `Rounds::harvest`.
+    ///
+    /// Leaves open: `Memory`, `Changed` or `Untracked` at any time, as `copy_batch` and `harvest_words` do. No page is
+    /// lost then.
     pub fn harvest<B: ExactBitmap>(
         &mut self,
         alloc: Global,
@@ -271,6 +276,9 @@ impl Sender {
     }
 
     /// As `Rounds::copy_batch`.
+    ///
+    /// Leaves open: how many pages are copied, also none, and which of them share a message. A round ends only if none
+    /// waits.
     pub fn copy_batch<B: Bitmap>(&mut self, host: &HostMemory<B>) -> Result<usize, SendError>
         ensures copied { IfOk result (λ count. CopiesPages count self.old.rounds self.new.rounds host.now) }
         ensures order { IsErrOf result SendError.Order → NoneHarvested self.old.rounds }
@@ -284,6 +292,9 @@ impl Sender {
 
     /// Sends what was copied. `Order` before `ready` and after the rounds, and `Failed` if the stream fails: then
     /// nothing more is sent, and what waited still waits.
+    ///
+    /// Leaves open: `Failed` or `Memory` at any time, as each call that sends does. The stream has a beginning of what
+    /// was to be sent, or nothing, and after `Failed` or `Memory` of a call but `go` the stage is `Failed`.
     pub fn send_batch<W: Write>(&mut self, writer: &mut W) -> Result<(), SendError>
         ensures sent { OnOk result (Sends self.old.rounds.batch.items (W.contents writer.old) (W.contents writer.new)
             self.old.hasher self.new.hasher) }
@@ -393,6 +404,9 @@ impl Sender {
 
     /// Ends a round in which each block was harvested and nothing waits: otherwise `Order`, as before `ready`. `Memory`
     /// if an allocation fails, and `Failed` if the stream does: then nothing more is sent.
+    ///
+    /// Leaves open: what was written, and what a refused call left, if the digest is not of known bytes, as it is from
+    /// `begin` on until a write fails.
     pub fn end_round<W: Write>(&mut self, alloc: Global, writer: &mut W) -> Result<(), SendError>
         ensures sent { (digests : Bool) (sent : List ℕ) → HasNoted digests self.old.hasher sent
             → OnOk result (Sends (spelling (RoundEnd self.old.rounds.round (digest_of digests sent)))

@@ -142,6 +142,8 @@ impl Rounds {
 impl Sender {
     /// As `begin`, for blocks that `TrackedBitmap`s track, each with its address and the size of its pages. The bitmaps
     /// of the host are not looked at.
+    ///
+    /// Leaves open: any error at any time, and then what was written.
     pub fn begin_tracked<B: Bitmap, W: Write>(
         alloc: Global,
         host: &HostMemory<B>,

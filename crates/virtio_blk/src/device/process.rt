@@ -107,6 +107,10 @@ impl<D: Disk> BlockDevice<D> {
     /// The owner calls it when the driver notifies the device, and again whenever it returns that there is `more`.
     /// So no request waits without a notification. The bound is for a guest that keeps publishing, or whose requests
     /// overwrite the ring: the owner serves its other devices before it calls again.
+    ///
+    /// Leaves open: that a header, data or a status is given up for a failed allocation each time behind an IOMMU that
+    /// is on, so that a request fails or has no status; `starved` counts it. And how much an IN has read of the disk
+    /// that it does not send, up to the end of a piece of 65,536 bytes.
     pub fn process<M: GuestMemory, B: Bitmap>(
         &mut self,
         queue: &mut AnyQueue,

@@ -10,6 +10,8 @@ use std::io::{self, Read, Seek, SeekFrom, Write};
 ///
 /// It has as many sectors as the file has whole ones when the disk is made; bytes after them are not part of it. If
 /// the file was opened only for reading, writes fail.
+///
+/// Leaves open: that a call fails at any time, or is done and does nothing, and how many sectors there are.
 #[derive(Drop)]
 pub struct FileDisk {
     file: File,

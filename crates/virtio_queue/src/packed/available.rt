@@ -24,6 +24,9 @@ impl PackedQueue {
     ///
     /// The first thing that is wrong is refused, in the order of README.md, "Packed queues". After an error a device
     /// has to be reset: the next call finds the same error as long as the driver leaves it there.
+    ///
+    /// Leaves open: `Memory` for each chain whose first descriptor can be read. The position stays, so the chain is not
+    /// lost.
     #[inline(always)]
     pub fn pop_descriptor_chain<M: GuestMemory, B: Bitmap>(
         &mut self,

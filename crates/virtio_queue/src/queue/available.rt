@@ -81,6 +81,9 @@ impl Queue {
     ///
     /// The first thing that is wrong is refused, in the order of README.md, "Popping". After an error a device
     /// has to be reset: the next call finds the same error as long as the driver leaves it there.
+    ///
+    /// Leaves open: `Memory` for each chain whose head's descriptor, or the first one of its indirect table, has a
+    /// segment. The place stays, so the chain is not lost.
     pub fn pop_descriptor_chain<M: GuestMemory, B: Bitmap>(
         &mut self,
         alloc: Global,

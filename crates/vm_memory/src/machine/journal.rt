@@ -62,6 +62,8 @@ impl<R: GuestMemoryRegion, I: Iommu, B: ExactBitmap> Journal<R, I, B> {
 
     /// Runs a command, and returns the number of its entry: the number of entries before it. `AllocError` if the
     /// allocation of the entry fails, and then nothing ran.
+    ///
+    /// Leaves open: a failed allocation each time. Then nothing ran.
     pub fn serve(&mut self, command: Command) -> Result<usize, AllocError>
         ensures served { let state = state_of R.region I.number B.pages in
             IfOk result (λ n. (reply : Reply) × Serves state self.old n command reply self.new) }

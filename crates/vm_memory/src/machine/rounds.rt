@@ -25,6 +25,8 @@ impl<R: GuestMemoryRegion, I: Iommu, B: ExactBitmap> Machine<R, I, B> {
     ///
     /// An image that was a copy of the block at some time, and was patched with the pages of each harvest
     /// since, is the block then. The premises: the crate's README.md, "Images kept in rounds".
+    ///
+    /// Leaves open: a failed allocation each time that a page of the block is dirty.
     pub fn sync(&mut self, block: BlockId, image: &mut [u8]) -> Result<(), AllocError>
         requires there { Holds (shape_of self.old.host) (names.Block block.0 ∷ []) }
         requires len { length image.old ≡ length (block_at self.old.host.blocks block.0) }

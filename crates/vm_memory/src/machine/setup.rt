@@ -96,6 +96,8 @@ impl Machine<GuestRegionMmap, TableIommu, ExclusiveBitmap> {
     }
 
     /// Makes what a setup asks for, or changes nothing and returns why.
+    ///
+    /// Leaves open: the reply `Memory` each time that something is to be made. Then nothing changed.
     pub fn make(&mut self, setup: Setup) -> SetupReply
         ensures { SetsUp (state_made self.old) setup result (state_made self.new) }
     {

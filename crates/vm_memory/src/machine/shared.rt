@@ -14,6 +14,9 @@ use vm_memory_guest::GuestMemoryRegion;
 ///
 /// Whenever the lock is free, it keeps a `Journal`: the commands of all threads and the replies to them are a run of
 /// the model. A contract cannot name a locked journal; tests check what a call does to it.
+///
+/// Leaves open: which journal, and which entry of it, a reply is from, or that `fetch` finds none; errors at any time,
+/// whatever ran; and which journal `into_journal` returns. The reply of `call` is that of its command in some run.
 #[derive(Drop)]
 pub struct SharedMachine<R: GuestMemoryRegion, I: Iommu, B: ExactBitmap> {
     journal: Mutex<Journal<R, I, B>>,

@@ -32,6 +32,9 @@ pub trait SharedBitmap: Bitmap {
 /// assert!(rt; bitmap.get_and_reset(rt.alloc())?.as_slice() == [0b110].as_slice());
 /// assert!(rt; !bitmap.is_addr_set(128));
 /// ```
+///
+/// Leaves open: which bits a call sets or clears, which pages it lists up to the last, and a failed allocation each
+/// time.
 #[derive(Drop)]
 pub struct AtomicBitmap {
     map: Vec<AtomicU64>,

@@ -160,6 +160,8 @@ impl TrackedBitmap {
 
     /// Whether the page of the byte at `addr` was set at some moment. It takes no marker, and promises only that it is
     /// false past the last page.
+    ///
+    /// Leaves open: whether a page is set, except past the last one.
     pub fn glance(&self, addr: usize) -> bool
         ensures { count_of (paging_of self.now) ≤ addr / page_size_of (paging_of self.now) → result ≡ false }
     {
@@ -190,6 +192,9 @@ impl TrackedBitmap {
     /// Takes the pages of every word, in order: page `n` is bit `n % 32` of number `n / 32`. One step takes a word
     /// and opens its next round. `RoundsSpent` if there is a word that was harvested 2^32 - 1 times, `Memory`
     /// if the allocation of the result fails, and then nothing changes. The harvester has to be this bitmap's.
+    ///
+    /// Leaves open: a failed allocation each time, also without pages, but not if the rounds are spent. Then the
+    /// harvester is as before.
     pub fn get_and_reset(
         &self,
         harvester: &mut Harvester,
@@ -288,6 +293,9 @@ impl TrackedBitmap {
     /// Ends the bitmap, and returns the pages that are set, as `get_and_reset` does. If each marker was joined before,
     /// these are pages that markers marked, and no others. If the allocation of the result fails, bitmap and harvester
     /// come back. The harvester has to be this bitmap's.
+    ///
+    /// Leaves open: pages that nobody marked, if a marker was dropped or is not joined yet: it may have marked them.
+    /// And a failed allocation each time, also without pages, which gives harvester and bitmap back.
     pub fn close(
         self,
         harvester: Harvester,

@@ -83,6 +83,8 @@ impl Iotlb {
     /// evicts is a miss from then on.
     ///
     /// `Memory` if an allocation fails, and then nothing is changed or evicted.
+    ///
+    /// Leaves open: a failed allocation for each change of at least one address. Then nothing changed.
     pub fn set_mapping(
         &mut self,
         iova: GuestAddress,
@@ -148,6 +150,8 @@ impl Iotlb {
     /// on.
     ///
     /// `Memory` if an allocation fails, and then nothing is changed or evicted.
+    ///
+    /// Leaves open: a failed allocation for each change of at least one address. Then nothing changed.
     pub fn invalidate_mapping(
         &mut self,
         iova: GuestAddress,
@@ -189,6 +193,8 @@ impl Iotlb {
     /// `Fails` if an address is not mapped or its mapping does not permit the access: the parts that are missed
     /// and those that fail, each in order. If the sum of `iova` and `length` is not an address, the whole range is
     /// missed. `Memory` if the allocation of these parts fails.
+    ///
+    /// Leaves open: a failed allocation for each look-up that the table does not allow.
     #[inline]
     pub fn lookup(
         &self,

@@ -1,8 +1,8 @@
 use Rattle.std.proofs.Common.{ℕ, List, inl, inr, ap, ◌∙◌}
 use Rattle.vm_memory_guest.specs.Dirt.{after_write, path_cells}
 use Rattle.vm_memory_guest.specs.Host.{byte_at}
-use Rattle.vhost_log.proofs.ChangeLemmas.{changed_cell}
-use Rattle.vhost_log.proofs.laws.changed_bytes_are_marked.Goals as goal
+use Rattle.vm_memory.proofs.ChangeLemmas.{changed_cell}
+use Rattle.vm_memory.proofs.laws.log.changed_bytes_are_marked.Goals as goal
 
 pub returns : goal.returns
 returns c = λ xs bytes host cell p differs short there inside.

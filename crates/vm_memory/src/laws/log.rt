@@ -8,7 +8,7 @@ ghost use Rattle.vm_memory_guest.specs.Copy.{dirtied_cells};
 ghost use Rattle.vm_memory_guest.specs.Dirt.{after_write, pages_at, path_cells};
 ghost use Rattle.vm_memory_guest.specs.Host.{Cell, Host, byte_at};
 
-use vm_memory::laws::machine::marks_change_bitmaps_alone;
+use crate::laws::machine::marks_change_bitmaps_alone;
 use vm_memory_guest::laws::effects::dirt_stays;
 
 /// A write goes through an I/O table or not, and then the pages that it reached are marked in the bitmaps of their blocks,

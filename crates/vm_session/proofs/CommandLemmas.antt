@@ -17,7 +17,7 @@ use Rattle.vhost_iotlb.specs.declared.table.Refusal.{Refusal}
 use Rattle.vhost_message.specs.declared.iotlb.IotlbMessage.{IotlbMessage}
 use Rattle.vhost_message.specs.declared.regions.MemoryRegion.{MemoryRegion}
 use Rattle.vhost_iotlb.proofs.CallLemmas.{IsCall, MadeOf, made_of}
-use Rattle.vhost_commands.specs.Commands.{all_done, command_of, commands_of, done_by}
+use Rattle.vm_session.specs.Commands.{all_done, command_of, commands_of, done_by}
 
 -- a change of a table that is there, in a range that ends at an address
 change_is : (number iova len : ℕ) (call : TableEvent) (old new : Host PageSet) → overruns iova len ≡ false

@@ -10,7 +10,7 @@ ghost use Rattle.vhost_iotlb.specs.Changes.{Applies, Handles};
 ghost use Rattle.vhost_iotlb.specs.declared.table.Refusal.{Refusal};
 ghost use Rattle.vhost_message.specs.declared.iotlb.IotlbMessage.{IotlbMessage};
 ghost use Rattle.vhost_message.specs.declared.regions.MemoryRegion.{MemoryRegion};
-ghost use Rattle.vhost_commands.specs.Commands.{all_done, commands_of};
+ghost use Rattle.vm_session.specs.Commands.{all_done, commands_of};
 
 /// What a message makes of a table of a host are commands of a machine, each of which is done. So what holds of every
 /// run of a machine holds of messages, whatever it does between them; and of a list of messages the table has the events

@@ -1,5 +1,5 @@
-use Rattle.vhost_commands.proofs.CommandLemmas.{events_are, run_of}
-use Rattle.vhost_commands.proofs.laws.messages_are_commands.Goals as goal
+use Rattle.vm_session.proofs.CommandLemmas.{events_are, run_of}
+use Rattle.vm_session.proofs.laws.messages.messages_are_commands.Goals as goal
 
 pub returns : goal.returns
 returns c = record {

@@ -1,4 +1,0 @@
-//! What the log of a vhost back end has of its writes: theorems alone.
-#![tactic(auto)]
-
-pub mod laws;
