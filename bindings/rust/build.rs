@@ -1,9 +1,9 @@
 //! Finds the static library of the proved machine, and links it.
 //!
-//! `VM_MEMORY_C_LIB` names a `libvm_memory_c.a` that is built already. Without it the library is the one in `lib/` of this
-//! crate, as a release has it, or else the one that `tools/build` leaves in the folder of its crate, if that was made from
-//! the sources that are there; else this stops and says so. With `VM_MEMORY_BUILD=1` this runs `tools/build` then. The
-//! allocator that the library wants is a module of this crate.
+//! `VM_MEMORY_C_LIB` names a `libvm_memory_c.a` that is built already. Without it the library is the one in `lib/` of
+//! this crate, as a release has it, or else the one that `tools/build` leaves in the folder of its crate, if that was
+//! made from the sources that are there; else this stops and says so. With `VM_MEMORY_BUILD=1` this runs `tools/build`
+//! then. The allocator that the library wants is a module of this crate.
 
 use std::env;
 use std::path::{Path, PathBuf};
