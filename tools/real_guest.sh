@@ -89,12 +89,12 @@ missing() {
 # The newest kernel that has its modules here.
 kernel() {
     local file
-    for file in $(ls -1 /boot/vmlinuz-*-amd64 2> /dev/null | sort -rV); do
+    while read -r file; do
         if [ -d "/lib/modules/${file#/boot/vmlinuz-}" ]; then
             echo "$file"
             return
         fi
-    done
+    done < <(printf '%s\n' /boot/vmlinuz-*-amd64 | sort -rV)
 }
 
 install_packages() {
@@ -109,6 +109,7 @@ modules_of() {
     for name in "$@"; do
         file=$(find "$MODULES" -name "${name//[-_]/[-_]}.ko*" | head -n 1)
         [ -n "$file" ] || continue
+        # shellcheck disable=SC2046
         modules_of $(modinfo -F depends "$file" | tr ',' ' ')
         echo "$file"
     done
@@ -116,27 +117,27 @@ modules_of() {
 
 # An initial RAM disk: busybox, modules, mke2fs with its libraries, and the pattern that the guest writes pieces of.
 build_initrd() {
-    local root=$1/root file
-    mkdir -p "$root"/{bin,sbin,dev,modules}
-    cp /bin/busybox "$root/bin/busybox"
-    cp "$TOP/tools/real_guest_init.sh" "$root/init"
-    chmod 755 "$root/init"
+    local tree=$1/root file
+    mkdir -p "$tree"/{bin,sbin,dev,modules}
+    cp /bin/busybox "$tree/bin/busybox"
+    cp "$TOP/tools/real_guest_init.sh" "$tree/init"
+    chmod 755 "$tree/init"
     for file in $(modules_of virtio_pci virtio_blk crc32c_generic ext4 | awk '!seen[$0]++'); do
-        cp "$file" "$root/modules/"
-        basename "$file" >> "$root/modules/list"
+        cp "$file" "$tree/modules/"
+        basename "$file" >> "$tree/modules/list"
     done
     for file in /sbin/mke2fs $(ldd /sbin/mke2fs | grep -o '/[^ ]*'); do
-        mkdir -p "$root$(dirname "$file")"
-        cp -L "$file" "$root$file"
+        mkdir -p "$tree$(dirname "$file")"
+        cp -L "$file" "$tree$file"
     done
-    cp "$1/pattern" "$root/pattern"
-    (cd "$root" && find . | /bin/busybox cpio -o -H newc 2> /dev/null | gzip -1) > "$1/initrd"
+    cp "$1/pattern" "$tree/pattern"
+    (cd "$tree" && find . | /bin/busybox cpio -o -H newc 2> /dev/null | gzip -1) > "$1/initrd"
 }
 
 build_backend() {
     [ -n "${VHOST_USER_BLK:-}" ] && return
     "$TOP/bindings/vhost-user-blk/build" || exit 1
-    VHOST_USER_BLK=$TOP/bindings/vhost-user-blk/target/release/vhost-user-blk
+    VHOST_USER_BLK=${CARGO_TARGET_DIR:-$TOP/bindings/target}/release/vhost-user-blk
 }
 
 # While a guest moves, both back ends have its image, and the first one has locked it.
@@ -171,7 +172,7 @@ start_qemu() {
     local disk=(-chardev "socket,id=disk,path=$room/socket$part${ending:+,reconnect=1}") place=""
     if [ -n "$iommu" ]; then
         # The device has to keep a copy of mappings of its own, and to be told what is taken back: behind a root port.
-        disk=(-device intel-iommu,device-iotlb=on "${disk[@]}" -device pcie-root-port,id=root,chassis=1,slot=1)
+        disk=(-device "intel-iommu,device-iotlb=on" "${disk[@]}" -device "pcie-root-port,id=root,chassis=1,slot=1")
         place=,bus=root,iommu_platform=on,ats=on,disable-legacy=on
         words+=" intel_iommu=on iommu.passthrough=0 iommu.strict=$([ "$iommu" = strict ] && echo 1 || echo 0)"
     fi
@@ -449,8 +450,8 @@ compare_reads() {
 compare_counts() {
     local said flushes syncs
     said=$(grep -a '^served' "$room/backend" | tail -n 1)
-    flushes=$(sed 's/.* \([0-9]*\) flushes.*/\1/' <<< "$said")
-    syncs=$(sed 's/.* \([0-9]*\) syncs.*/\1/' <<< "$said")
+    flushes=${said% flushes*} syncs=${said% syncs*}
+    flushes=${flushes##* } syncs=${syncs##* }
     grep -q ' 0 errors$' <<< "$said" || echo "the back end had errors" >> "$room/why"
     [ "$work" = read ] && return
     if [ "$flush" = 1 ]; then
@@ -563,6 +564,7 @@ report() {
     return "$status"
 }
 
+# shellcheck disable=SC2317
 clean_up() {
     # shellcheck disable=SC2086
     kill -KILL ${watch_pid:-} ${qemu_pid:-} ${backend_pid:-} 2> /dev/null

@@ -1,4 +1,5 @@
 #!/bin/busybox sh
+# shellcheck shell=dash disable=SC2154,SC3028
 # The first process of the guest that tools/real_guest.sh boots. It uses its disk, says on the console what it writes, and
 # ends with a line "guest ok" or "guest FAILED: why". The kernel hands on these words of its command line:
 #   disk=NAME    the disk's name in /dev
@@ -123,7 +124,7 @@ write_files() {
     for file in $(seq "$files"); do
         local name="$1/$2$file" said=""
         : > "/mnt/$name"
-        for part in 1 2 3; do
+        for _ in 1 2 3; do
             local from=$(((RANDOM * 32768 + RANDOM) % (PATTERN - 262144))) len=$((1 + RANDOM * 8))
             dd if=/pattern bs="$len" count=1 skip="$from" iflag=skip_bytes,fullblock status=none >> "/mnt/$name" || fail "writing $name"
             said="$said $from $len"
@@ -167,7 +168,7 @@ check_disk() {
     local cache="write through"
     [ "$flush" = 1 ] && cache="write back"
     [ "$(cat "$sys/queue/write_cache")" = "$cache" ] || fail "the cache is $(cat "$sys/queue/write_cache")"
-    echo "queues $(ls "$sys/mq" | wc -l)"
+    echo "queues $(find "$sys/mq" -mindepth 1 -maxdepth 1 | wc -l)"
 }
 
 # The driver lets go of the device and takes it again. Then the PCI device is taken away and found again.

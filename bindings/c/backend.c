@@ -4,8 +4,16 @@
 
 #include <string.h>
 
-enum { GET_FEATURES = 1, SET_FEATURES = 2, SET_MEM_TABLE = 5, SET_VRING_NUM = 8, SET_VRING_ADDR = 9, GET_VRING_BASE = 11,
-       SET_VRING_KICK = 12, GET_CONFIG = 24 };
+enum {
+    GET_FEATURES = 1,
+    SET_FEATURES = 2,
+    SET_MEM_TABLE = 5,
+    SET_VRING_NUM = 8,
+    SET_VRING_ADDR = 9,
+    GET_VRING_BASE = 11,
+    SET_VRING_KICK = 12,
+    GET_CONFIG = 24
+};
 
 /* The address of the front end's memory. The guest sees 64 KiB of it, from 1 MiB on. */
 #define USER 0x7f0000000000u

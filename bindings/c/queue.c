@@ -38,7 +38,8 @@ static int parts(void) {
         !is(vmm_queue(&session, 16, 3), VMM_DONE, 0, 0, 0)) {
         return 10;
     }
-    if (vmm_set_queue_size(&session, 0, 5).code != VMM_INVALID_QUEUE_SIZE || !done(vmm_set_queue_size(&session, 0, 8))) {
+    if (vmm_set_queue_size(&session, 0, 5).code != VMM_INVALID_QUEUE_SIZE ||
+        !done(vmm_set_queue_size(&session, 0, 8))) {
         return 11;
     }
     if (vmm_set_desc_table(&session, 0, 8).code != VMM_INVALID_DESC_TABLE_ALIGN ||
@@ -169,7 +170,6 @@ static vmm_answer begin(int read_only, uint64_t features) {
     terms.read_only = read_only;
     return vmm_begin_request(&session, 0, 0, 0, terms);
 }
-
 
 /* Whether a status is written, and whether the length is this. */
 static int finishes(uint8_t status, size_t moved, uint32_t room, uint64_t length) {
@@ -321,7 +321,8 @@ static int messages(void) {
     answer = vmm_writex(&session, 1, 0x100, "ab", 2);
     if (answer.code != VMM_IOMMU_MISSING || answer.miss.access != VMM_W || answer.miss.address != 0x100 ||
         answer.miss.length != 2 || !done(vmm_iotlb_message(&session, 1, &map, sizeof map)) ||
-        !done(vmm_writex(&session, 1, 0x100, "ab", 2)) || !is(vmm_load(&session, 0, 2, 0x3000), VMM_DONE, 0, 0x6261, 0)) {
+        !done(vmm_writex(&session, 1, 0x100, "ab", 2)) ||
+        !is(vmm_load(&session, 0, 2, 0x3000), VMM_DONE, 0, 0x6261, 0)) {
         return 72;
     }
     /* Two pages that are not mapped to neighbours need two ranges. */
@@ -344,8 +345,8 @@ static int messages(void) {
 
 /* Each code has a text of its own. */
 static int texts(void) {
-    static const uint32_t ranges[][2] = {{0, 6}, {16, 16}, {18, 22}, {32, 54}, {57, 61}, {64, 67}, {70, 86},
-                                         {100, 118}, {120, 125}};
+    static const uint32_t ranges[][2] = {{0, 6},   {16, 16}, {18, 22},   {32, 54},  {57, 61},
+                                         {64, 67}, {70, 86}, {100, 118}, {120, 125}};
     const char *none = vmm_code_text(1000);
     for (size_t i = 0; i < sizeof ranges / sizeof *ranges; i++) {
         for (uint32_t code = ranges[i][0]; code <= ranges[i][1]; code++) {

@@ -18,8 +18,8 @@ static int refusals(vmm_session *session, size_t page) {
         uint64_t offset;
         uint32_t code;
     } rows[] = {
-        {0, 0, 1, 0, VMM_INVALID_SIZE},   {1, 1, 1, 0, VMM_NOT_PAGED},  {1, 0, 1, 8, VMM_NOT_PAGED},
-        {4, 0, 1, 0, VMM_FILE_SHORT},     {1, 0, 2, 0, VMM_NO_FILE},    {1, 0, 3, 0, VMM_NOT_MAPPED},
+        {0, 0, 1, 0, VMM_INVALID_SIZE},        {1, 1, 1, 0, VMM_NOT_PAGED}, {1, 0, 1, 8, VMM_NOT_PAGED},
+        {4, 0, 1, 0, VMM_FILE_SHORT},          {1, 0, 2, 0, VMM_NO_FILE},   {1, 0, 3, 0, VMM_NOT_MAPPED},
         {SIZE_MAX, 0, 0, 0, VMM_INVALID_SIZE},
     };
     int file = memfd_create("guest", MFD_CLOEXEC), ends[2];
@@ -131,8 +131,7 @@ static int own_bytes(void) {
 static int given_back(size_t page) {
     vmm_session session = {0};
     vmm_shared stays, shared;
-    if (vmm_open(&session) != VMM_DONE ||
-        vmm_shared_block(&session, page, page, -1, 0, &stays).code != VMM_DONE) {
+    if (vmm_open(&session) != VMM_DONE || vmm_shared_block(&session, page, page, -1, 0, &stays).code != VMM_DONE) {
         return 60;
     }
     stays.address[page - 1] = 9;

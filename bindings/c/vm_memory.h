@@ -7,8 +7,9 @@
  *
  * The caller opens a session before it calls it, and closes it once. It makes one call at a time of a session, from any
  * thread, keeps no pointer into it except those that vmm_shared_block gives, does not copy its handle, and gives true
- * lengths. Build a program with vm_memory_heap.c, which has the allocator that the static library calls, and one with
- * shared blocks also with vm_memory_shared.c.
+ * lengths. An installed library is whole. Over libvm_memory_c.a alone build a program with vm_memory_heap.c, which has the
+ * allocator that it calls, one with shared blocks also with vm_memory_shared.c, and one that asks for the version also
+ * with vm_memory_version.c.
  */
 #ifndef VM_MEMORY_H
 #define VM_MEMORY_H
@@ -20,11 +21,16 @@
 extern "C" {
 #endif
 
+/* The version of this header, a port of vm-memory 0.18.0, and that of the library that a program is linked with. */
+#define VMM_VERSION "0.1.0"
+const char *vmm_version(void);
+
 /* The handle of a session. One that is zero is closed. */
 typedef struct vmm_session {
     unsigned char *at;
 } vmm_session;
 
+/* clang-format off */
 /* What is called, in the order of the lines of a script, and then what no script has a line for. These are the rows of
  * bindings/commands.txt. */
 enum vmm_kind {
@@ -97,6 +103,8 @@ enum vmm_step {
     VMM_GIVES = 256, VMM_INTERRUPTED = 257, VMM_SOURCE_FAILS = 258
 };
 
+/* clang-format on */
+
 /* A call: its kind, and the fields that its kind names. */
 typedef struct vmm_request {
     uint32_t kind, width, access;
@@ -132,8 +140,8 @@ typedef struct vmm_place {
  * four members of `answer`, and `miss` if a table refused the call. `vmm_lend` writes these four, too, and is called
  * through vmm_block_at. */
 uint32_t vmm_open(vmm_session *session);
-void vmm_call(vmm_session *session, const vmm_request *call, const uint8_t *input, size_t input_size,
-              uint8_t *output, size_t output_size, vmm_answer *answer, vmm_miss *miss);
+void vmm_call(vmm_session *session, const vmm_request *call, const uint8_t *input, size_t input_size, uint8_t *output,
+              size_t output_size, vmm_answer *answer, vmm_miss *miss);
 void vmm_lend(vmm_session *session, vmm_place place, size_t page, vmm_answer *answer);
 void vmm_close(vmm_session *session);
 
@@ -147,8 +155,8 @@ void vmm_forget_regions(vmm_session *session);
 uint32_t vmm_give_back(vmm_session *session, size_t block);
 
 /* A call with an input and an output, either of which may be of no bytes and null. */
-static inline vmm_answer vmm_asked(vmm_session *session, const vmm_request *call, const void *input,
-                                   size_t input_size, void *output, size_t output_size) {
+static inline vmm_answer vmm_asked(vmm_session *session, const vmm_request *call, const void *input, size_t input_size,
+                                   void *output, size_t output_size) {
     vmm_answer answer = {0, 0, 0, 0, {0, 0, 0}};
     uint8_t none[1] = {0};
     vmm_call(session, call, input ? (const uint8_t *)input : none, input ? input_size : 0,
@@ -388,8 +396,8 @@ static inline vmm_answer vmm_iotlb_message(vmm_session *s, size_t memory, const 
 }
 
 /* Ranges go to `list`, sixteen bytes each: where one begins, and how long it is. */
-static inline vmm_answer vmm_lookup(vmm_session *s, size_t table, uint64_t address, size_t size,
-                                    enum vmm_access access, void *list, size_t list_size) {
+static inline vmm_answer vmm_lookup(vmm_session *s, size_t table, uint64_t address, size_t size, enum vmm_access access,
+                                    void *list, size_t list_size) {
     vmm_request call = vmm_at(VMM_LOOKUP, table, address, size);
     call.access = (uint32_t)access;
     return vmm_asked(s, &call, NULL, 0, list, list_size);

@@ -4,57 +4,74 @@
 #[path = "../build.rs"]
 mod build;
 
-use std::fs::{self, File};
+use std::fs;
 use std::path::{Path, PathBuf};
-use std::time::{Duration, SystemTime};
+use std::process::Command;
 
 const LIST: &str = "\
 # A comment: NAME
 base: thiserror
-guest: base
+guest: base # a comment
 aside: guest
 vm_memory_c staticlib: core guest
 ";
 
-// A repository in a folder of its own, whose files changed an hour ago.
+fn tool() -> PathBuf {
+    Path::new(env!("CARGO_MANIFEST_DIR")).join("../../tools/sources")
+}
+
+// What the tool prints, of the repository that it lies in.
+fn said_by(tool: &Path, words: &[&str]) -> String {
+    let ran = Command::new(tool).args(words).output().unwrap();
+    assert!(ran.status.success(), "{ran:?}");
+    String::from_utf8(ran.stdout).unwrap()
+}
+
+// The names of the crates whose code is watched.
+fn crates_of(tool: &Path) -> Vec<String> {
+    let list = said_by(tool, &["--list"]);
+    let lines = list.lines().filter_map(|line| line.strip_suffix("/src"));
+    let mut names: Vec<_> = lines
+        .map(|line| line.strip_prefix("crates/").unwrap().to_string())
+        .collect();
+    names.sort_unstable();
+    names
+}
+
+// A repository in a folder of its own, with a library that is made from it.
 fn repository(name: &str) -> PathBuf {
     let folder = Path::new(env!("CARGO_TARGET_TMPDIR")).join(name);
     let _ = fs::remove_dir_all(&folder);
-    for place in ["base/src", "guest/src", "guest/specs", "aside/src", "vm_memory_c/src"] {
+    for place in [
+        "base/src",
+        "guest/src",
+        "guest/specs",
+        "aside/src",
+        "vm_memory_c/src",
+        "vm_memory_c/out",
+    ] {
         fs::create_dir_all(folder.join("crates").join(place)).unwrap();
     }
+    fs::create_dir_all(folder.join("tools")).unwrap();
+    fs::copy(tool(), folder.join("tools/sources")).unwrap();
     fs::write(folder.join("crates.txt"), LIST).unwrap();
     for file in [
         "base/src/lib.rt",
         "guest/src/lib.rt",
         "guest/specs/Lib.antt",
         "aside/src/lib.rt",
+        "vm_memory_c/src/lib.rt",
     ] {
-        fs::write(folder.join("crates").join(file), "").unwrap();
+        fs::write(folder.join("crates").join(file), file).unwrap();
     }
-    age(&folder, 3600);
     folder
-}
-
-// Makes all files and folders from here on a number of seconds old.
-fn age(path: &Path, seconds: u64) {
-    if path.is_dir() {
-        for entry in fs::read_dir(path).unwrap() {
-            age(&entry.unwrap().path(), seconds);
-        }
-    }
-    let time = SystemTime::now() - Duration::from_secs(seconds);
-    File::open(path).unwrap().set_modified(time).unwrap();
 }
 
 // The names of the library's crates, of the repository itself.
 #[test]
 fn all_crates_below_are_watched() {
-    let list = fs::read_to_string(Path::new(env!("CARGO_MANIFEST_DIR")).join("../../crates.txt")).unwrap();
-    let mut names = build::crates_below(&list);
-    names.sort_unstable();
     assert_eq!(
-        names,
+        crates_of(&tool()),
         [
             "vhost_calls",
             "vhost_iotlb",
@@ -70,45 +87,59 @@ fn all_crates_below_are_watched() {
             "vm_session"
         ]
     );
-    let mut names = build::crates_below(LIST);
-    names.sort_unstable();
-    assert_eq!(names, ["base", "guest", "vm_memory_c"]);
+    let repository = repository("watched");
+    assert_eq!(
+        crates_of(&repository.join("tools/sources")),
+        ["base", "guest", "vm_memory_c"]
+    );
 }
 
 #[test]
 fn a_library_is_missing_new_or_stale() {
     let repository = repository("stale");
     let library = build::built(&repository);
-    let state = || build::expect_new(&library, &build::sources_of(&repository).unwrap());
+    let state = || build::expect_new(&repository, &library);
     assert!(state()
         .unwrap_err()
         .starts_with("there is no library of the proved machine, "));
-    fs::create_dir_all(library.parent().unwrap()).unwrap();
     fs::write(&library, "").unwrap();
-    age(&library, 1800);
+    assert!(state().unwrap_err().ends_with("libvm_memory_c.made is missing"));
+    said_by(
+        &repository.join("tools/sources"),
+        &["--record", library.to_str().unwrap()],
+    );
     assert_eq!(state(), Ok(()));
-    // An edit, a new file or a removed one in any crate below, and in none beside.
+    // An edit, a new file, a name or a removed one in any crate below, and in none beside.
+    let stale = "the library of the proved machine is stale: it was made from other sources: ";
     for place in [
-        "base/src/lib.rt",
-        "guest/src/lib.rt",
-        "guest/specs/Lib.antt",
-        "guest/src",
-        "vm_memory_c/src",
+        "crates/base/src/lib.rt",
+        "crates/guest/specs/Lib.antt",
+        "crates/vm_memory_c/src/lib.rt",
+        "crates.txt",
     ] {
-        let path = repository.join("crates").join(place);
-        age(&path, 600);
-        let text = state().unwrap_err();
-        assert!(
-            text.starts_with("the library of the proved machine is stale: "),
-            "{text}"
-        );
-        assert!(text.ends_with(&format!("is older than {}", path.display())), "{text}");
-        age(&path, 3600);
+        let path = repository.join(place);
+        let (text, other) = (fs::read(&path).unwrap(), path.with_extension("other"));
+        fs::write(&path, [text.as_slice(), b"\n"].concat()).unwrap();
+        assert!(state().unwrap_err().starts_with(stale), "{place}");
+        // The same bytes are the same sources, whenever they were written.
+        fs::write(&path, &text).unwrap();
         assert_eq!(state(), Ok(()), "{place}");
+        if place != "crates.txt" {
+            fs::rename(&path, &other).unwrap();
+            assert!(state().unwrap_err().starts_with(stale), "{place}");
+            fs::copy(&other, &path).unwrap();
+            assert!(state().unwrap_err().starts_with(stale), "{place}");
+            fs::remove_file(&other).unwrap();
+            assert_eq!(state(), Ok(()), "{place}");
+        }
     }
-    age(&repository.join("crates.txt"), 600);
-    assert!(state().is_err());
-    age(&repository.join("crates.txt"), 3600);
-    age(&repository.join("crates/aside/src/lib.rt"), 600);
+    fs::write(repository.join("crates/aside/src/lib.rt"), "other").unwrap();
     assert_eq!(state(), Ok(()));
+    // A library of another kit, if there is one to compare with.
+    let record = build::record_of(&library);
+    let text = fs::read_to_string(&record).unwrap();
+    if text.starts_with("kit ") {
+        fs::write(&record, format!("kit another{}", &text[text.find('\n').unwrap()..])).unwrap();
+        assert!(state().unwrap_err().contains("made from other kit: "));
+    }
 }
