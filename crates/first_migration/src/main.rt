@@ -76,7 +76,7 @@ fn send<B: ExactBitmap, I: Read, O: Write>(
     sender.go(output)
 }
 
-// Takes a guest. Its blocks come behind those that the host has.
+// Takes a guest. Its blocks come after those that the host has.
 fn receive<B: NewBitmap + Drop, I: Read, O: Write>(
     alloc: Global,
     host: &mut HostMemory<B>,
