@@ -18,7 +18,7 @@ static uint32_t answer_chain(vmm_session *session, size_t queue, size_t memory, 
     return written.code == VMM_DONE ? (uint32_t)written.count : 0;
 }
 
-/* Serves all that the driver has published. If the code is VMM_DONE, `value` is 1 if the driver is to be interrupted. */
+/* Serves all that the driver has published. If the code is VMM_DONE, `value` is 1 to interrupt the driver. */
 static vmm_answer process(vmm_session *session, size_t queue, size_t memory) {
     vmm_answer answer;
     do {

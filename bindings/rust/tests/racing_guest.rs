@@ -225,7 +225,7 @@ impl Shared {
         self.guest
             .store(place, [0, 0, 1, 1, 1, 4, 8, 11][numbers.below(8) as usize]);
         for turn in 0..u64::from(TURNS) {
-            let sector = NAMED[numbers.below(4) as usize] | (turn % 2 ^ 1) << 40;
+            let sector = NAMED[numbers.below(4) as usize] | ((turn % 2) ^ 1) << 40;
             self.guest.store(place + 8, sector);
         }
     }
@@ -235,7 +235,7 @@ impl Shared {
         let next = self.next.load(Relaxed) as u16;
         for turn in 0..16 {
             let slot = DRIVER + 4 + 2 * usize::from((next.wrapping_add(turn / 4)) % ENTRIES);
-            let head = HEADS[numbers.below(4) as usize] + ENTRIES * (turn % 2 ^ 1);
+            let head = HEADS[numbers.below(4) as usize] + ENTRIES * ((turn % 2) ^ 1);
             self.guest.word(slot).store(head, Relaxed);
         }
         if numbers.one_in(8) {

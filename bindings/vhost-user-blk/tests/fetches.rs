@@ -157,10 +157,11 @@ fn serve_one(is_packed: bool, is_translated: bool, event_idx: bool, is_indirect:
     } else {
         (LOAD, DRIVER + 2..DRIVER + 4)
     };
-    expect(&accesses, &[index.clone()], &what("pop of nothing"));
+    expect(&accesses, std::slice::from_ref(&index), &what("pop of nothing"));
     let (more, accesses) = it.trace(|queue, memory| queue.enable_notification(memory).unwrap());
     assert!(!more);
     // Whether there is memory is tried by loads, whose values do not count, before anything is stored.
+    #[allow(clippy::single_range_in_vec_init)]
     let told = match (is_packed, event_idx) {
         (true, _) => vec![DEVICE..DEVICE + 2, DEVICE + 2..DEVICE + 4],
         (false, true) => vec![DEVICE + 4 + 64..DEVICE + 6 + 64],
@@ -170,6 +171,7 @@ fn serve_one(is_packed: bool, is_translated: bool, event_idx: bool, is_indirect:
     let stored = told.iter().map(|part| (STORE, part.clone())).chain([index.clone()]);
     expect(&accesses, &tried.chain(stored).collect::<Vec<_>>(), &what("enable"));
     let (_, accesses) = it.trace(|queue, memory| queue.disable_notification(memory).unwrap());
+    #[allow(clippy::single_range_in_vec_init)]
     let told = match (is_packed, event_idx) {
         (true, _) => vec![(STORE, DEVICE + 2..DEVICE + 4)],
         (false, true) => vec![],

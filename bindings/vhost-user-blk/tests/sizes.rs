@@ -77,7 +77,10 @@ fn a_front_end_is_told_of_each_new_size() {
     let (data, _) = front.places(0, 0);
     front.write(data, &[0x5a; SECTOR as usize]);
     assert_eq!(status_of(&mut front, 1, 69_999), 0);
-    assert_eq!(fs::read(&program.image).unwrap()[69_999 * SECTOR as usize..], [0x5a; SECTOR as usize]);
+    assert_eq!(
+        fs::read(&program.image).unwrap()[69_999 * SECTOR as usize..],
+        [0x5a; SECTOR as usize]
+    );
     assert_eq!(left_on(channel), 0);
 }
 

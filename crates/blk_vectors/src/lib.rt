@@ -18,6 +18,8 @@ mod packed;
 #[cfg(test)]
 mod queues;
 #[cfg(test)]
+mod racing;
+#[cfg(test)]
 mod random;
 #[cfg(test)]
 mod requests;

@@ -21,7 +21,7 @@ const SIZE: usize = 0x10_0000;
 // What a sender may ask for: the memory, and some states of devices.
 const LIMIT: u64 = 0x11_0000;
 
-// How many rounds are sent. The guest stands in the last one.
+// How many rounds are sent. The guest is stopped in the last one.
 const ROUNDS: u8 = 4;
 
 // Writes a byte of the guest's memory, which marks its page.
@@ -53,7 +53,7 @@ fn send_pages<B: ExactBitmap, O: Write>(
     Ok(())
 }
 
-// Sends a guest, which runs between the rounds and stands in the last one.
+// Sends a guest, which runs between the rounds and is stopped in the last one.
 fn send<B: ExactBitmap, I: Read, O: Write>(
     alloc: Global,
     host: &mut HostMemory<B>,
@@ -76,7 +76,7 @@ fn send<B: ExactBitmap, I: Read, O: Write>(
     sender.go(output)
 }
 
-// Takes a guest. Its blocks come behind those that the host has.
+// Takes a guest. Its blocks come after those that the host has.
 fn receive<B: NewBitmap + Drop, I: Read, O: Write>(
     alloc: Global,
     host: &mut HostMemory<B>,

@@ -4,7 +4,7 @@ use std::sync::Arc;
 use std::test::Fail;
 use test_regions::TestRegion;
 use vm_memory_base::GuestAddress;
-use vm_memory_guest::{GuestMemoryBackend, GuestMemoryRegion, GuestRegionCollection};
+use vm_memory_guest::{GuestMemoryBackend, GuestMemoryRegion, GuestRegionCollection, Hinted};
 
 // Whether searches for the first and the last of each 0x1000 addresses find each of the thousand regions but one, and
 // none between, by at most ten probes.
@@ -54,6 +54,82 @@ fn a_layout_of_a_thousand_regions_is_searched_and_changed(rt: HostRuntime) -> Re
         );
     }
     assert!(rt; layout.num_regions() == 1000 && finds_all_but(&layout, 1000));
+    Ok(())
+}
+
+// Where an address is: the start of its region, and the offset there.
+fn place_in<M: GuestMemoryBackend>(backend: &M, addr: GuestAddress) -> Option<(u64, u64)> {
+    let (region, offset) = backend.to_region_addr(addr)?;
+    Some((region.start_addr().0, offset.0))
+}
+
+// Whether a hinted layout answers as the layout does for the first and the last of 0x1000 addresses.
+fn answers_alike(
+    layout: &GuestRegionCollection<TestRegion>,
+    hinted: &Hinted<'_, GuestRegionCollection<TestRegion>>,
+    page: u64,
+) -> bool {
+    [0u64, 0xfff].iter().all(|offset| {
+        let addr = GuestAddress(page.wrapping_mul(0x1000).wrapping_add(*offset));
+        let found = hinted.find_region(addr).map(|region| region.last_addr().0);
+        let wanted = layout.find_region(addr).map(|region| region.last_addr().0);
+        found == wanted && place_in(hinted, addr) == place_in(layout, addr)
+    })
+}
+
+// The regions of the addresses lie near one another at first, and then far apart.
+#[test]
+fn a_hint_changes_no_answer(rt: HostRuntime) -> Result<(), Fail> {
+    let all = (0..1000u64).filter_map(|number| TestRegion::bare(
+        GuestAddress(number.wrapping_mul(0x2000)),
+        0x1000,
+    ));
+    let regions: Vec<TestRegion> = all.collect(rt.alloc())?;
+    let layout = GuestRegionCollection::from_regions(rt.alloc(), regions)?;
+    let hinted = Hinted::new(&layout);
+    assert!(rt; (0..2002u64).all(|page| answers_alike(&layout, &hinted, page)));
+    assert!(rt;
+        (0..2002u64).all(|page| answers_alike(&layout, &hinted, page.wrapping_mul(1999) % 2002))
+    );
+    assert!(rt; hinted.num_regions() == 1000 && hinted.last_addr() == layout.last_addr());
+    Ok(())
+}
+
+// The region of the last access is asked alone, however many there are; one that does not hold the address is asked
+// once before a search, which asks none.
+#[test]
+fn a_hint_asks_one_region(rt: HostRuntime) -> Result<(), Fail> {
+    let mut regions = Vec::with_capacity(rt.alloc(), 1000)?;
+    let mut again = Vec::with_capacity(rt.alloc(), 1000)?;
+    for number in 0..1000u64 {
+        let region = TestRegion::bare(GuestAddress(number.wrapping_mul(0x2000)), 0x1000);
+        let region = Arc::new(rt.alloc(), region.ok_or("the region does not fit")?)?;
+        again.push(region.clone()?)?;
+        regions.push(region)?;
+    }
+    let layout = GuestRegionCollection::from_arc_regions(again)?;
+    let hinted = Hinted::new(&layout);
+    let before: Vec<usize> = regions
+        .iter()
+        .map(|region| region.asked())
+        .collect(rt.alloc())?;
+    let all_found = (0..0x1000u64).all(|offset| {
+        let addr = GuestAddress(offset.wrapping_add(0x2000 * 777));
+        hinted.find_region(addr).is_some()
+    });
+    assert!(rt; all_found);
+    for (number, region) in regions.iter().enumerate() {
+        let asked_before = before.get(number).copied().unwrap_or(0);
+        let asked = region.asked().wrapping_sub(asked_before);
+        let wanted = if number == 777 {
+            0xfff
+        } else if number == 0 {
+            1
+        } else {
+            0
+        };
+        assert!(rt; asked == wanted, "{number} {asked}");
+    }
     Ok(())
 }
 

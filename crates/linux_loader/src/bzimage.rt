@@ -278,6 +278,8 @@ impl BzImage {
     }
 
     /// Loads an image as `plan` says, and `KernelPlan::load`. If there is no plan, memory is as it was.
+    ///
+    /// Leaves open: the same as `plan` and `KernelPlan::load`.
     pub fn load<M: GuestMemory, F: KernelImage, B: Bitmap>(
         alloc: Global,
         mem: &M,

@@ -214,6 +214,8 @@ impl Cmdline {
 /// Writes a command line for a kernel, with its terminating zero, to an address. `CommandLineOverflow` if it passes the
 /// greatest address, or `RuntimeAreaOverlap` if it shares a byte with the kernel's run time area: then nothing changes.
 /// Otherwise it is written as far as there is memory, and `GuestMemory` says why it ends there.
+///
+/// Leaves open: `Memory` for an access as in `KernelPlan::load`. Then nothing changed.
 pub fn load_cmdline<M: GuestMemory, B: Bitmap>(
     mem: &M,
     host: &mut HostMemory<B>,

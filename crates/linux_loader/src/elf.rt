@@ -169,6 +169,8 @@ impl Elf {
 
     /// Loads an image as `plan` says. If there is no plan, memory is as it was. Otherwise segment after segment is
     /// loaded, up to the first that is refused, as `KernelPlan::load` says.
+    ///
+    /// Leaves open: the same as `plan` and `KernelPlan::load`.
     pub fn load<M: GuestMemory, F: KernelImage, B: Bitmap>(
         alloc: Global,
         mem: &M,

@@ -13,6 +13,8 @@ use vhost_user::{BackendReqHandler, FrontendReq, Header, Message, Refusal, expec
 
 /// A connection with nothing negotiated, with this configuration of at most 256 bytes. `VHOST_OFFER` if no back end
 /// offers this, and `MEMORY` if an allocation fails.
+///
+/// Leaves open: `MEMORY` for each offer that can be made.
 pub fn open(alloc: Global, offer: &VhostOffer, config: &[u8]) -> Result<BackendReqHandler, u32>
     ensures { Opens offer.now config.now result }
 {

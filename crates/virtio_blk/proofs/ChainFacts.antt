@@ -1,5 +1,5 @@
 -- What chains ask for, and that they were served.
-use Rattle.std.proofs.Common.{◌≡◌, ◌∙◌, ◌==◌, ◌⊎◌, inl, inr, ℕ, ◌+◌, ◌-◌, ◌*◌, ◌%◌, ◌<◌, ◌≤◌, ◌^◌, Bool, true, false, not, ◌&&◌, ◌||◌, if◌then◌else◌, List, [], ◌∷◌, length, take, drop, min, Option, Some, None, Result, Ok, Err, MatchBool, is_none, is_ok, nat_le, nat_lt, refl, sym, ap, subst, arith, length-drop, length-take, take_all}
+use Rattle.std.proofs.Common.{◌≡◌, ◌∙◌, ◌==◌, ◌⊎◌, inl, inr, ℕ, ◌+◌, ◌-◌, ◌*◌, ◌%◌, ◌<◌, ◌≤◌, ◌^◌, Bool, true, false, not, ◌&&◌, ◌||◌, if◌then◌else◌, List, [], ◌∷◌, length, take, drop, min, Option, Some, None, Result, Ok, Err, IfOk, MatchBool, is_none, is_ok, nat_le, nat_lt, refl, sym, ap, subst, arith, length-drop, length-take, take_all}
 use Rattle.std.proofs.lemmas.Bool.{cases_lt, eqb-false, eqb-true, leb-true, lt-ltb, ltb-false, ltb-true}
 use Rattle.std.proofs.lemmas.List.{drop-take, drop_all}
 use Rattle.vm_memory_base.specs.Table.{Table}
@@ -16,6 +16,7 @@ use Rattle.vm_memory_device.specs.declared.chain.Segment.{Segment}
 use Rattle.virtio_blk.specs.Config.{Device, counted, must_stay, terms_of}
 use Rattle.virtio_blk.specs.Disk.{Call}
 use Rattle.virtio_blk.specs.Inside.{CanDo, Did, asked_of, length_of}
+use Rattle.virtio_blk.specs.Looks.{failed}
 use Rattle.virtio_blk.specs.Request.{fits, kind_of, request_of, sector_of}
 use Rattle.virtio_blk.specs.Served.{Does, NoHeader, Performs, ServesTexts, Tells, TellsStatus}
 use Rattle.virtio_blk.specs.Steps.{Begins, Finishes, FitsOn, Told, breaks_limits, gapless, header_fault, status_fault}
@@ -68,6 +69,23 @@ fits_of terms header given room =
     each_kind (FitsOn terms.sectors) terms header given room
     (fits-parts terms.sectors (sector_of header) room) (fits-parts terms.sectors (sector_of header) given) tt
     (omega arith) tt tt
+
+-- also if the header was not found
+pub fits_failed : (terms : Terms) (e : GuestMemoryError) (answer : Result Request GuestMemoryError)
+    → answer ≡ failed e (Refused 1) → IfOk answer (FitsOn terms.sectors)
+fits_failed terms e answer is =
+    subst (λ (a : Result Request GuestMemoryError). IfOk a (FitsOn terms.sectors)) (sym is) (go e)
+  where
+    go : (e : GuestMemoryError) → IfOk (failed e (Refused 1)) (FitsOn terms.sectors)
+    go (errors.InvalidGuestAddress a) = tt
+    go (errors.IOError e) = tt
+    go (errors.PartialBuffer expected completed) = tt
+    go errors.InvalidBackendAddress = tt
+    go errors.HostAddressNotAvailable = tt
+    go errors.CallbackOutOfRange = tt
+    go errors.GuestAddressOverflow = tt
+    go (errors.IommuError e) = tt
+    go errors.Memory = tt
 
 can_of-request : (terms : Terms) (header : List ℕ) (given room size : ℕ) → room + 1 ≡ size → terms.sectors < 2 ^ 55
     → CanDo terms.sectors (request_of terms header given room) given size

@@ -1,7 +1,7 @@
 -- The header and the status of a request: what the accesses to them meet.
 use Rattle.std.proofs.Common.{◌≡◌, ◌≢◌, ◌==◌, ◌∙◌, ◌⊎◌, inl, inr, ℕ, zero, suc, ◌+◌, ◌-◌, ◌<◌, ◌≤◌, ◌^◌, Bool, true, false, not, ◌&&◌, ◌||◌, if◌then◌else◌, List, [], ◌∷◌, ◌++◌, length, take, drop, min, Option, Some, None, option_map, Result, Ok, Err, MatchBool, MatchOption, MatchResult, is_none, is_ok, nat_lt, refl, sym, ap, subst, arith, add-one, append-nil, length-append, length-drop, length-take, take_all, take-add}
 use Rattle.std.specs.Result.{result_unwrap_or}
-use Rattle.std.proofs.lemmas.Bool.{eq-eqb, eqb-false, eqb-true, le-ltb, ne_eqb}
+use Rattle.std.proofs.lemmas.Bool.{eq-eqb, eqb-false, eqb-true, le-ltb, lt-ltb, ltb-false, ne_eqb}
 use Rattle.std.proofs.lemmas.List.{drop-drop, drop-take, drop_all, drop_at, length-map, length-take-le, map-append, take_at}
 use borrow.Rule.Slice.PartMut.{put_mid}
 use Rattle.vm_memory_base.specs.Table.{Says, Table, each, grants, is_allowed, overruns}
@@ -10,7 +10,7 @@ use Rattle.vm_memory_base.specs.declared.iotlb.Permissions.TheVariants as permis
 use Rattle.vm_memory_guest.specs.Access.{AccessFault, Meets, NoHostBytes, NoRegion, Reached, Reaches, Refused, Stops, allowed, meets, onto, or_fault, refusal}
 use Rattle.vm_memory_guest.specs.Dirt.{path_cells}
 use Rattle.vm_memory_guest.specs.Error.{error_of}
-use Rattle.vm_memory_guest.specs.Host.{Host, byte_at, bytes_at}
+use Rattle.vm_memory_guest.specs.Host.{Host, byte_at, bytes_at, shape_of}
 use Rattle.vm_memory_guest.specs.Memory.{Direct, Memory, Route, IsOn, Through, route}
 use Rattle.vm_memory_guest.specs.Region.{Region}
 use Rattle.vm_memory_guest.specs.Transfer.{ended}
@@ -18,7 +18,9 @@ use Rattle.vm_memory_guest.specs.declared.region.error.GuestMemoryError.{GuestMe
 use Rattle.vm_memory_guest.specs.declared.region.error.GuestMemoryError.TheVariants as errors
 use Rattle.vm_memory_device.specs.Chain.{Entry, Extends, Extent, ReadsText, WritesText, access_len, entries_from, meets_entry, text, text_fault, text_path}
 use Rattle.vm_memory_device.specs.declared.chain.Segment.{Segment}
-use Rattle.virtio_blk.specs.Inside.{failed}
+use Rattle.virtio_blk.specs.Disk.{joined}
+use Rattle.virtio_blk.specs.Inside.{FoundBy, PutBy}
+use Rattle.virtio_blk.specs.Looks.{BeginsBy, Finds, FindsAll, FinishesBy, by_access, failed}
 use Rattle.virtio_blk.specs.Request.{request_of}
 use Rattle.virtio_blk.specs.Steps.{Begins, Finishes, Told, answer_of, gapless, header_fault, status_fault}
 use Rattle.virtio_blk.specs.Texts.{WritesAt, reached, text_bytes}
@@ -284,9 +286,6 @@ module _ {B : Type 0} (m : Memory) (host : Host B) (es : List Entry) where
     pub front : take filled header ≡ bytes_of (take filled header_path)
     pub place : left ≡ drop filled es
 
-  pub header_none : (header : List ℕ) → length header ≡ 16 → HeaderSoFar 0 header es
-  header_none header size = record { within = omega arith; size = size; front = refl; place = refl }
-
   most_path : length header_path ≤ 16
   most_path =
       let a = path_ends m host.tables permissions.Read true (take 16 es) in
@@ -391,23 +390,6 @@ module _ {B : Type 0} (m : Memory) (host : Host B) (es : List Entry) where
       go (Err e) told f r =
           why_not m (header_fault m host.tables es) e x.error (ended_error e (length x.path) x.error told) r.why
 
-  pub header_came : (filled count : ℕ) (header : List ℕ) (left after : List Entry) (got : List ℕ)
-      (answer : Result ℕ GuestMemoryError) → Goes es → 16 ≤ length es → HeaderSoFar filled header left → filled < 16
-      → ReadsText m host left (buffer_of filled header) answer after got → answer ≡ Ok count
-      → (0 < count) × HeaderSoFar (filled + count) (put_mid filled (16 - filled) header got) after
-  header_came filled count header left after got answer goes enough h short read is =
-      header_read filled header left after got (Ok count) goes enough h short
-      (subst (λ (r : Result ℕ GuestMemoryError). ReadsText m host left (buffer_of filled header) r after got) is read)
-
-  pub header_failed : (filled : ℕ) (header : List ℕ) (left after : List Entry) (got : List ℕ)
-      (answer : Result ℕ GuestMemoryError) (e : GuestMemoryError) → Goes es → 16 ≤ length es
-      → HeaderSoFar filled header left → filled < 16
-      → ReadsText m host left (buffer_of filled header) answer after got → answer ≡ Err e
-      → WhyNot m (header_fault m host.tables es) e
-  header_failed filled header left after got answer e goes enough h short read is =
-      header_read filled header left after got (Err e) goes enough h short
-      (subst (λ (r : Result ℕ GuestMemoryError). ReadsText m host left (buffer_of filled header) r after got) is read)
-
   -- all of it came
   pub header_all : (filled : ℕ) (header : List ℕ) (left : List Entry) → 16 ≤ length es
       → HeaderSoFar filled header left → 16 ≤ filled
@@ -432,6 +414,100 @@ module _ {B : Type 0} (m : Memory) (host : Host B) (es : List Entry) where
               → EndsAt m host.tables o (length header_path) (length (take 16 es)) → o ≡ None
           go None ends = refl
           go (Some f) ends = absurd (omega (arith, all, ends, length-take 16 es))
+
+  -- ---- the header by looks
+
+  module _ {S : Type 0} (look : S → List Entry → ℕ → Result (List ℕ) GuestMemoryError → S → Type 0) (s : S)
+      (still : (ls : List Entry) (n : ℕ) (found : Result (List ℕ) GuestMemoryError) (after : S)
+      → look s ls n found after → FoundBy m host ls n found × (after ≡ s)) (goes : Goes es) (enough : 16 ≤ length es)
+    where
+      -- what was found of it lies there
+      record Came (bytes : List ℕ) : Type 0 where
+        within : length bytes ≤ length header_path
+        front : bytes ≡ bytes_of (take (length bytes) header_path)
+
+      -- it is the front of a buffer, with whatever lies behind it
+      so_far : (bytes buffer : List ℕ) → Came bytes → length buffer ≡ 16 - length bytes
+          → HeaderSoFar (length bytes) (bytes ++ buffer) (drop (length bytes) es)
+      so_far bytes buffer h size = record {
+        within = h.within;
+        size = omega (arith, length-append bytes buffer, size, h.within, most_path);
+        front = take_at bytes buffer (length bytes) refl ∙ h.front;
+        place = refl;
+      }
+
+      rest_is : (bytes buffer : List ℕ) → length buffer ≡ 16 - length bytes
+          → take (16 - length bytes) (drop (length bytes) (bytes ++ buffer)) ≡ buffer
+      rest_is bytes buffer size = ap (take (16 - length bytes)) (drop_at bytes buffer (length bytes) refl)
+          ∙ take_all (16 - length bytes) buffer (omega (arith, size))
+
+      came_more : (bytes p : List ℕ) → Came bytes → length bytes < 16
+          → FoundBy m host (drop (length bytes) es) (16 - length bytes) (Ok p) → Came (bytes ++ p)
+      came_more bytes p h short (buffer, Err e, left, got, size, reads, is) = absurd (cc)
+      came_more bytes p h short (buffer, Ok count, left, got, size, reads, is) =
+          let k = length bytes in
+          let header = bytes ++ buffer in
+          let (some, next) = header_read k header (drop k es) left got (Ok count) goes enough (so_far bytes buffer h size)
+          short (subst (λ (b : List ℕ). ReadsText m host (drop k es) b (Ok count) left got) (sym (rest_is bytes buffer size))
+          reads) in
+          let part : put_mid k (16 - k) header got ≡ bytes ++ got =
+          ap (λ (xs : List ℕ). take k header ++ (got ++ xs))
+          (drop_all (16 - k) (drop k header) (omega (arith, length-drop k header, length-append bytes buffer, size)))
+          ∙ ap (λ (xs : List ℕ). take k header ++ xs) (append-nil got)
+          ∙ ap (λ (xs : List ℕ). xs ++ got) (take_at bytes buffer k refl) in
+          let whole : length (bytes ++ got) ≡ 16 = ap length (sym part) ∙ next.size in
+          let few : count ≤ length got =
+          omega (arith, whole, length-append bytes got, next.within, most_path, short) in
+          let p_is : p ≡ take count got = cc in
+          let count_is : length p ≡ count = ap length p_is ∙ length-take-le count got few in
+          let all : length (bytes ++ p) ≡ k + count = omega (arith, length-append bytes p, count_is) in
+          record {
+            within = omega (arith, all, next.within);
+            front = ap (λ (xs : List ℕ). bytes ++ xs) p_is
+                ∙ sym (take-add k count (bytes ++ got)
+                ∙ ap (λ (xs : List ℕ). xs ++ take count (drop k (bytes ++ got))) (take_at bytes got k refl)
+                ∙ ap (λ (xs : List ℕ). bytes ++ take count xs) (drop_at bytes got k refl))
+                ∙ sym (ap (take (k + count)) part) ∙ next.front ∙ ap (λ j. bytes_of (take j header_path)) (sym all);
+          }
+
+      found_part : (ps : List (List ℕ)) (now : S) → Finds look es 16 ps s now → (now ≡ s) × Came (joined ps)
+      found_part [] now same = (same, record { within = omega arith; front = refl })
+      found_part (p ∷ ps) now (short, (mid, found, looked)) =
+          let (same, h) = found_part ps mid found in
+          let k = length (joined ps) in
+          let (by, stays) = still (drop k es) (16 - k) (Ok p) now
+          (subst (λ t. look t (drop k es) (16 - k) (Ok p) now) same looked) in
+          (stays, came_more (joined ps) p h short by)
+
+      -- all of it was found, or this is why not
+      pub header_found : (found : Result (List ℕ) GuestMemoryError) (now : S) → FindsAll look es 16 s found now
+          → MatchResult found
+          (λ bytes. Told m (header_fault m host.tables es) (Some (text_bytes m host es 16)) None (Ok (Some bytes)))
+          (WhyNot m (header_fault m host.tables es))
+      header_found (Ok bytes) now (ps, found, is, all) =
+          let h = subst Came (sym is) (found_part ps now found).1 in
+          header_all 16 bytes (drop 16 es) enough (record {
+            within = omega (arith, h.within, all);
+            size = all;
+            front = take_all 16 bytes (omega (arith, all)) ∙ h.front ∙ ap (λ j. bytes_of (take j header_path)) all;
+            place = refl;
+          }) (omega arith)
+      header_found (Err e) now (ps, mid, found, (short, looked)) =
+          let (same, h) = found_part ps mid found in
+          let k = length (joined ps) in
+          failed_by (joined ps) h short (still (drop k es) (16 - k) (Err e) now
+          (subst (λ t. look t (drop k es) (16 - k) (Err e) now) same looked)).0
+        where
+          failed_by : (bytes : List ℕ) → Came bytes → length bytes < 16
+              → FoundBy m host (drop (length bytes) es) (16 - length bytes) (Err e) → WhyNot m (header_fault m host.tables es) e
+          failed_by bytes h short (buffer, Ok count, left, got, size, reads, is) = absurd (cc)
+          failed_by bytes h short (buffer, Err d, left, got, size, reads, is) =
+              let k = length bytes in
+              let same : d ≡ e = cc in
+              subst (λ (x : GuestMemoryError). WhyNot m (header_fault m host.tables es) x) same
+              (header_read k (bytes ++ buffer) (drop k es) left got (Err d) goes enough (so_far bytes buffer h size) short
+              (subst (λ (b : List ℕ). ReadsText m host (drop k es) b (Err d) left got) (sym (rest_is bytes buffer size))
+              reads))
 
 -- ---- the status
 
@@ -502,20 +578,6 @@ module _ {B : Type 0} (marks : B → ℕ → ℕ → B → Type 0) (m : Memory) 
                 stays_none marks m last_of old new w.1,
               )
 
-  pub status_came : (left after : List Entry) (answer : Result ℕ GuestMemoryError) (count : ℕ) → 0 < length es
-      → left ≡ last_of → WritesText marks m left (status ∷ []) old answer after new → answer ≡ Ok count
-      → (status_fault m old.tables es ≡ None) × WritesAt marks m last_of (status ∷ []) old new
-  status_came left after answer count some place wrote is =
-      status_written left after (Ok count) some place
-      (subst (λ (r : Result ℕ GuestMemoryError). WritesText marks m left (status ∷ []) old r after new) is wrote)
-
-  pub status_failed : (left after : List Entry) (answer : Result ℕ GuestMemoryError) (e : GuestMemoryError)
-      → 0 < length es → left ≡ last_of → WritesText marks m left (status ∷ []) old answer after new → answer ≡ Err e
-      → WhyNot m (status_fault m old.tables es) e × (new ≡ old)
-  status_failed left after answer e some place wrote is =
-      status_written left after (Err e) some place
-      (subst (λ (r : Result ℕ GuestMemoryError). WritesText marks m left (status ∷ []) old r after new) is wrote)
-
   finishes : (moved : ℕ) (answer : Result ℕ GuestMemoryError) → 0 < length es
       → Told m (status_fault m old.tables es) (gapless es (min moved (length es - 1))) (min moved (length es - 1)) answer
       → MatchBool (is_ok answer && is_none (status_fault m old.tables es))
@@ -580,32 +642,188 @@ told_map m (Some NoHostBytes) x y f without (inl is) = absurd (cc)
 told_map m (Some (Refused iova len reason)) x y f without (inl is) = absurd (cc)
 told_map m fault x y f without (inr (is, on)) = absurd (cc)
 
--- so it is of a chain that keeps the limits
-begun_within : {B : Type 0} (m : Memory) (host : Host B) (terms : Terms) (given room : List Entry) (header : List ℕ)
-    (request : Request) → length room ≢ 0 → 16 ≤ length given
-    → Told m (header_fault m host.tables given) (Some (text_bytes m host given 16)) None (Ok (Some header))
-    → request ≡ request_of terms header (length given - 16) (length room - 1)
-    → Begins m host terms false given room (Ok request)
-begun_within m host terms given room header request some enough told is =
-    let asked = λ (bs : List ℕ). request_of terms bs (length given - 16) (length room - 1) in
-    let refused = requests.Refused 1 in
-    let same = λ (x y : Result Request GuestMemoryError). x ≡ y in
-    subst (λ b. MatchBool b (same (Ok request) (Ok requests.Unserved))
-    (MatchBool (nat_lt (length given) 16) (same (Ok request) (Ok refused))
-    (Told m (header_fault m host.tables given) (asked (text_bytes m host given 16)) refused (Ok request))))
-    (sym (ne_eqb (length room) 0 some))
-    (subst (λ b. MatchBool b (same (Ok request) (Ok refused))
-    (Told m (header_fault m host.tables given) (asked (text_bytes m host given 16)) refused (Ok request)))
-    (sym (le-ltb (length given) 16 enough))
-    (subst (λ (r : Request). Told m (header_fault m host.tables given) (asked (text_bytes m host given 16)) refused
-    (Ok r)) (sym is)
-    (told_map m (header_fault m host.tables given) (text_bytes m host given 16) header asked refused told)))
+or-false : (b c : Bool) → (b || c) ≡ false → c ≡ false
+or-false true c h = absurd (cc)
+or-false false c h = h
 
-pub begun_of : {B : Type 0} (m : Memory) (host : Host B) (terms : Terms) (is_broken : Bool) (given room : List Entry)
-    (header : List ℕ) (request : Request) → length room ≢ 0 → is_broken ≡ false → 16 ≤ length given
-    → Told m (header_fault m host.tables given) (Some (text_bytes m host given 16)) None (Ok (Some header))
-    → request ≡ request_of terms header (length given - 16) (length room - 1)
-    → Begins m host terms is_broken given room (Ok request)
-begun_of m host terms is_broken given room header request some kept enough told is =
-    subst (λ b. Begins m host terms b given room (Ok request)) (sym kept)
-    (begun_within m host terms given room header request some enough told is)
+module _ {S : Type 0} (look : S → List Entry → ℕ → Result (List ℕ) GuestMemoryError → S → Type 0) (terms : Terms)
+    (is_broken : Bool) (given room : List Entry) where
+  abbrev request_by : List ℕ → Request
+  request_by bytes = request_of terms bytes (length given - 16) (length room - 1)
+
+  abbrev Looked : S → Result Request GuestMemoryError → S → Type 0
+  Looked old answer new = (header : Result (List ℕ) GuestMemoryError) × FindsAll look given 16 old header new
+      × (answer ≡ by_access header request_by (requests.Refused 1))
+
+  -- a chain with no byte for the status is not looked at, and neither is one that is refused for what it is
+  pub begun_unserved : (s : S) → length room ≡ 0 → BeginsBy look terms is_broken given room s (Ok requests.Unserved) s
+  unfolding BeginsBy
+  begun_unserved s none =
+      let refused = (◌≡◌ {A = Result Request GuestMemoryError} (Ok requests.Unserved) (Ok (requests.Refused 1))) × (s ≡ s) in
+      let unserved = (◌≡◌ {A = Result Request GuestMemoryError} (Ok requests.Unserved) (Ok requests.Unserved)) × (s ≡ s) in
+      subst (λ b. MatchBool b unserved (MatchBool (is_broken || nat_lt (length given) 16) refused (Looked s (Ok requests.Unserved) s)))
+      (sym (eq-eqb (length room) 0 none)) (refl, refl)
+
+  pub begun_refused : (s : S) → length room ≢ 0 → (is_broken ≡ true) ⊎ (length given < 16)
+      → BeginsBy look terms is_broken given room s (Ok (requests.Refused 1)) s
+  unfolding BeginsBy
+  begun_refused s some is =
+      let unserved = (◌≡◌ {A = Result Request GuestMemoryError} (Ok (requests.Refused 1)) (Ok requests.Unserved)) × (s ≡ s) in
+      let refused = (◌≡◌ {A = Result Request GuestMemoryError} (Ok (requests.Refused 1)) (Ok (requests.Refused 1))) × (s ≡ s) in
+      subst (λ b. MatchBool b unserved (MatchBool (is_broken || nat_lt (length given) 16) refused
+      (Looked s (Ok (requests.Refused 1)) s))) (sym (ne_eqb (length room) 0 some))
+      (subst (λ b. MatchBool b refused (Looked s (Ok (requests.Refused 1)) s)) (sym (either is_broken is)) (refl, refl))
+    where
+      either : (b : Bool) → (b ≡ true) ⊎ (length given < 16) → (b || nat_lt (length given) 16) ≡ true
+      either true h = refl
+      either false (inl h) = absurd (cc)
+      either false (inr h) = lt-ltb (length given) 16 h
+
+  -- a chain that keeps the limits is looked at
+  pub begun_by : (old new : S) (answer : Result Request GuestMemoryError) (header : Result (List ℕ) GuestMemoryError)
+      → length room ≢ 0 → is_broken ≡ false → 16 ≤ length given → FindsAll look given 16 old header new
+      → answer ≡ by_access header request_by (requests.Refused 1)
+      → BeginsBy look terms is_broken given room old answer new
+  unfolding BeginsBy
+  begun_by old new answer header some kept enough found is =
+      let refused = (answer ≡ Ok (requests.Refused 1)) × (new ≡ old) in
+      subst (λ b. MatchBool b ((answer ≡ Ok requests.Unserved) × (new ≡ old))
+      (MatchBool (is_broken || nat_lt (length given) 16) refused (Looked old answer new)))
+      (sym (ne_eqb (length room) 0 some))
+      (subst (λ b. MatchBool (b || nat_lt (length given) 16) refused (Looked old answer new)) (sym kept)
+      (subst (λ b. MatchBool b refused (Looked old answer new)) (sym (le-ltb (length given) 16 enough))
+      (header, found, is)))
+
+-- on memory that stands still this is the answer that it holds
+module _ {S B : Type 0} (look : S → List Entry → ℕ → Result (List ℕ) GuestMemoryError → S → Type 0) (terms : Terms)
+    (is_broken : Bool) (given room : List Entry) (s new : S) (answer : Result Request GuestMemoryError)
+    (begins : BeginsBy look terms is_broken given room s answer new) (m : Memory) (host : Host B)
+    (still : (ls : List Entry) (n : ℕ) (found : Result (List ℕ) GuestMemoryError) (after : S)
+    → look s ls n found after → FoundBy m host ls n found × (after ≡ s)) (goes : Goes given) where
+  pub begins_still : Begins m host terms is_broken given room answer
+  unfolding BeginsBy
+  begins_still = go (length room == 0) (is_broken || nat_lt (length given) 16) refl begins
+    where
+      told : 16 ≤ length given → Looked look terms is_broken given room s answer new
+          → Told m (header_fault m host.tables given) (request_by look terms is_broken given room (text_bytes m host given 16))
+          (requests.Refused 1) answer
+      told enough (Ok bytes, found, is) =
+          subst (λ (a : Result Request GuestMemoryError). Told m (header_fault m host.tables given)
+          (request_by look terms is_broken given room (text_bytes m host given 16)) (requests.Refused 1) a) (sym is)
+          (told_map m (header_fault m host.tables given) (text_bytes m host given 16) bytes
+          (request_by look terms is_broken given room) (requests.Refused 1)
+          (header_found m host given look s still goes enough (Ok bytes) new found))
+      told enough (Err e, found, is) =
+          subst (λ (a : Result Request GuestMemoryError). Told m (header_fault m host.tables given)
+          (request_by look terms is_broken given room (text_bytes m host given 16)) (requests.Refused 1) a) (sym is)
+          (told_failed m (request_by look terms is_broken given room (text_bytes m host given 16)) (requests.Refused 1)
+          (header_fault m host.tables given) e
+          (header_found m host given look s still goes enough (Err e) new found))
+
+      go : (a b : Bool) → (is_broken || nat_lt (length given) 16) ≡ b
+          → MatchBool a ((answer ≡ Ok requests.Unserved) × (new ≡ s))
+          (MatchBool b ((answer ≡ Ok (requests.Refused 1)) × (new ≡ s))
+          (Looked look terms is_broken given room s answer new))
+          → MatchBool a (answer ≡ Ok requests.Unserved) (MatchBool b (answer ≡ Ok (requests.Refused 1))
+          (Told m (header_fault m host.tables given)
+          (request_by look terms is_broken given room (text_bytes m host given 16)) (requests.Refused 1) answer))
+      go true b is h = h.0
+      go false true is h = h.0
+      go false false is h =
+          told (ltb-false (length given) 16 (or-false is_broken (nat_lt (length given) 16) is)) h
+
+-- ---- how a status is told
+
+-- a writer that skipped all but the last byte
+module _ (es all left : List Entry) (len passed : ℕ) (is : all ≡ es) (size : len ≡ length all) (some : len ≢ 0)
+    (count : passed ≡ min (len - 1) (length all)) (place : left ≡ drop passed all) where
+  pub last_place : left ≡ drop (length es - 1) es
+  last_place =
+      let so : passed ≡ length es - 1 = omega (arith, count, size, ap length is) in
+      place ∙ ap (drop passed) is ∙ ap (λ k. drop k es) so
+
+  pub last_size : 1 ≤ length left
+  last_size = omega (arith, ap length last_place, length-drop (length es - 1) es, some, size, ap length is)
+
+module _ {S : Type 0} (store : S → List Entry → List ℕ → Result ℕ GuestMemoryError → S → Type 0) (es : List Entry)
+    (status moved : ℕ) where
+  pub finished_none : (s : S) → length es ≡ 0 → FinishesBy store es status moved s (Ok 0) s
+  unfolding FinishesBy
+  finished_none s none =
+      subst (λ b. MatchBool b ((◌≡◌ {A = Result ℕ GuestMemoryError} (Ok 0) (Ok 0)) × (s ≡ s))
+      ((r : Result ℕ GuestMemoryError) × store s (drop (length es - 1) es) (status ∷ []) r s
+      × (◌≡◌ {A = Result ℕ GuestMemoryError} (Ok 0) (by_access r (λ count. gapless es (min moved (length es - 1))) (min moved (length es - 1))))))
+      (sym (eq-eqb (length es) 0 none)) (refl, refl)
+
+  pub finished_by : (old new : S) (answer stored : Result ℕ GuestMemoryError) → length es ≢ 0
+      → store old (drop (length es - 1) es) (status ∷ []) stored new
+      → answer ≡ by_access stored (λ count. gapless es (min moved (length es - 1))) (min moved (length es - 1))
+      → FinishesBy store es status moved old answer new
+  unfolding FinishesBy
+  finished_by old new answer stored some put is =
+      subst (λ b. MatchBool b ((answer ≡ Ok 0) × (new ≡ old))
+      ((r : Result ℕ GuestMemoryError) × store old (drop (length es - 1) es) (status ∷ []) r new
+      × (answer ≡ by_access r (λ count. gapless es (min moved (length es - 1))) (min moved (length es - 1)))))
+      (sym (ne_eqb (length es) 0 some)) (stored, put, is)
+
+module _ {S : Type 0} (store : S → List Entry → List ℕ → Result ℕ GuestMemoryError → S → Type 0) (es : List Entry)
+    (status moved : ℕ) (old new : S) (answer : Result ℕ GuestMemoryError)
+    (finishes : FinishesBy store es status moved old answer new) where
+  -- what a store keeps is kept
+  pub keeps_name : {N : Type 0} (name : S → N)
+      → ((ls : List Entry) (bytes : List ℕ) (stored : Result ℕ GuestMemoryError) → store old ls bytes stored new
+      → name new ≡ name old) → name new ≡ name old
+  unfolding FinishesBy
+  keeps_name {N} name kept = go (length es == 0) finishes
+    where
+      go : (b : Bool) → MatchBool b ((answer ≡ Ok 0) × (new ≡ old))
+          ((stored : Result ℕ GuestMemoryError) × store old (drop (length es - 1) es) (status ∷ []) stored new
+          × (answer ≡ by_access stored (λ count. gapless es (min moved (length es - 1))) (min moved (length es - 1))))
+          → name new ≡ name old
+      go true (told, same) = ap name same
+      go false (stored, put, is) = kept (drop (length es - 1) es) (status ∷ []) stored put
+
+  -- in memory that only this writes the status is told
+  pub finishes_still : {B : Type 0} (at : S → Host B) (marks : B → ℕ → ℕ → B → Type 0) (m : Memory)
+      → ((ls : List Entry) (bytes : List ℕ) (stored : Result ℕ GuestMemoryError)
+      → store old ls bytes stored new → PutBy marks m ls bytes (at old) stored (at new))
+      → Finishes marks m es status moved (at old) answer (at new) × (shape_of (at new) ≡ shape_of (at old))
+  unfolding FinishesBy
+  finishes_still {B} at marks m still = go (length es == 0) refl finishes
+    where
+      go : (b : Bool) → (length es == 0) ≡ b → MatchBool b ((answer ≡ Ok 0) × (new ≡ old))
+          ((stored : Result ℕ GuestMemoryError) × store old (drop (length es - 1) es) (status ∷ []) stored new
+          × (answer ≡ by_access stored (λ count. gapless es (min moved (length es - 1))) (min moved (length es - 1))))
+          → Finishes marks m es status moved (at old) answer (at new) × (shape_of (at new) ≡ shape_of (at old))
+      go true none (is, same) = (
+        subst (λ b. MatchBool b ((answer ≡ Ok 0) × (at new ≡ at old))
+            (Told m (status_fault m (at old).tables es) (gapless es (min moved (length es - 1)))
+            (min moved (length es - 1)) answer
+            × MatchBool (is_ok answer && is_none (status_fault m (at old).tables es))
+            (WritesAt marks m (drop (length es - 1) es) (status ∷ []) (at old) (at new)) (at new ≡ at old))) (sym none)
+            (is, ap at same),
+        ap (λ s. shape_of (at s)) same,
+      )
+      go false none (Ok count, put, is) =
+          let some : 0 < length es = let not = eqb-false (length es) 0 none in omega (arith, not) in
+          let ((left, wrote), shape) = still (drop (length es - 1) es) (status ∷ []) (Ok count) put in (
+            subst (λ (a : Result ℕ GuestMemoryError). Finishes marks m es status moved (at old) a (at new)) (sym is)
+                (finished marks m es (at old) (at new) status moved (gapless es (min moved (length es - 1))) some
+                (status_written marks m es (at old) (at new) status (drop (length es - 1) es) left (Ok count) some refl
+                wrote) refl),
+            shape,
+          )
+      go false none (Err e, put, is) =
+          let some : 0 < length es = let not = eqb-false (length es) 0 none in omega (arith, not) in
+          let ((left, wrote), shape) = still (drop (length es - 1) es) (status ∷ []) (Err e) put in (
+            subst (λ (a : Result ℕ GuestMemoryError). Finishes marks m es status moved (at old) a (at new)) (sym is)
+                (not_finished marks m es (at old) (at new) status moved (min moved (length es - 1)) e some
+                (status_written marks m es (at old) (at new) status (drop (length es - 1) es) left (Err e) some refl
+                wrote) refl),
+            shape,
+          )
+
+-- what a reference that a call kept holds then is what its caller finds
+module _ {X N : Type 0} {was is : N} {x : X} (left : X) (same : is ≡ was) where
+  pub left_behind : (P : X → Type 0) → (was ≡ is → x ≡ left) → P left → P x
+  left_behind P follows h = subst P (sym (follows (sym same))) h

@@ -1,5 +1,5 @@
 -- Texts: what calls over them reach, address by address.
-use Rattle.std.proofs.Common.{◌≡◌, ◌==◌, ◌∙◌, inl, inr, ℕ, zero, suc, ◌+◌, ◌-◌, ◌<◌, ◌≤◌, Bool, true, false, not, ◌&&◌, if◌then◌else◌, List, [], ◌∷◌, ◌++◌, length, take, drop, sum_by, Option, Some, None, option_map, Result, Ok, Err, MatchBool, MatchOption, nat_lt, ◌^◌, refl, sym, ap, subst, arith, length-append, length-drop, length-take, append-nil, take_all}
+use Rattle.std.proofs.Common.{◌≡◌, ◌==◌, ◌∙◌, inl, inr, ℕ, zero, suc, ◌+◌, ◌-◌, ◌<◌, ◌≤◌, Bool, true, false, not, ◌&&◌, if◌then◌else◌, List, [], ◌∷◌, ◌++◌, length, take, drop, sum_by, Option, Some, None, option_map, Result, Ok, Err, IfOk, MatchBool, MatchOption, nat_lt, ◌^◌, refl, sym, ap, subst, arith, length-append, length-drop, length-take, append-nil, take_all}
 use Rattle.std.proofs.lemmas.List.{drop-drop, drop_all, drop_at, length-map, length-take-le, map-append, take-take, take_at}
 use borrow.Rule.Slice.PartMut.{put_mid}
 use Rattle.std.proofs.lemmas.List.Sums.{sum_by-append, sum_by-cons}
@@ -265,6 +265,18 @@ module _ (m : Memory) (tables : List Table) where
           told true is h = absurd (cc)
           told false is h = let more = eqb-false (length x.path) 0 is in omega (arith, more)
 
+  -- a call reaches no more than it was to
+  path_most : (access : Permissions) (ls : List Entry) (k : ℕ)
+      → length (text_path m.regions (route m tables) access true (take k ls)) ≤ k
+  path_most access ls k = go (text_fault m.regions (route m tables) access true (take k ls))
+      (path_ends access true (take k ls))
+    where
+      go : (o : Option AccessFault)
+          → EndsAt o (length (text_path m.regions (route m tables) access true (take k ls))) (length (take k ls))
+          → length (text_path m.regions (route m tables) access true (take k ls)) ≤ k
+      go None h = omega (arith, h, length-take k ls)
+      go (Some f) h = omega (arith, h, length-take k ls)
+
 -- ---- allowed accesses
 
 module _ (m : Memory) (tables : List Table) (access : Permissions) where
@@ -366,7 +378,7 @@ module _ {B : Type 0} (m : Memory) (host : Host B) (es : List Entry) where
         let behind : reached m host.tables left ≡ drop filled r =
         ap (reached m host.tables) h.place ∙ reached-drop m host.tables filled es h.within in
         let all : length (text_path m.regions (route m host.tables) Read true (take k left)) ≤ k =
-        path_most Read left k in
+        path_most m host.tables Read left k in
         let few : count ≤ k = omega (arith, count_is, f.allowed, all) in
         let cells : length (path_cells x.path) ≡ count = length-map x.path (λ (y : Reached). y.cell) ∙ count_is in
         let came : bytes_at host.blocks (path_cells x.path) ≡ text_bytes m host left count =
@@ -413,17 +425,6 @@ module _ {B : Type 0} (m : Memory) (host : Host B) (es : List Entry) where
                 ∙ drop-drop count filled es;
           }),
         )
-      where
-        path_most : (access : Permissions) (ls : List Entry) (k : ℕ)
-            → length (text_path m.regions (route m host.tables) access true (take k ls)) ≤ k
-        path_most access ls k = go (text_fault m.regions (route m host.tables) access true (take k ls))
-            (path_ends m host.tables access true (take k ls))
-          where
-            go : (o : Option AccessFault) → EndsAt m host.tables o
-                (length (text_path m.regions (route m host.tables) access true (take k ls))) (length (take k ls))
-                → length (text_path m.regions (route m host.tables) access true (take k ls)) ≤ k
-            go None h = omega (arith, h, length-take k ls)
-            go (Some f) h = omega (arith, h, length-take k ls)
 
     pub read_stop : (e : GuestMemoryError) → ReadsText m host left (rest_of filled buffer) (Err e) after got
         → StopsWithin m host.tables Read es n (is_memory e)
@@ -450,6 +451,23 @@ module _ {B : Type 0} (m : Memory) (host : Host B) (es : List Entry) where
         sym (take_all filled buffer (omega (arith, h.size, all))) ∙ h.front ∙ ap (text_bytes m host es) all,
         h.place ∙ ap (λ k. drop k es) all,
       )
+
+-- a call for as many bytes as there are, and more than none, moves some and advances by them
+pub read_some : {B : Type 0} (m : Memory) (host : Host B) (es left : List Entry) (buffer filled : List ℕ)
+    (answer : Result ℕ GuestMemoryError) → 0 < length buffer → length buffer ≤ length es
+    → ReadsText m host es buffer answer left filled
+    → IfOk answer (λ n. (0 < n) × (n ≤ length buffer) × (left ≡ drop n es))
+read_some m host es left buffer filled (Err e) some enough reads = tt
+read_some m host es left buffer filled (Ok count) some enough (x, moves, is) =
+    let n = length buffer in
+    let f = extends-front m host.tables Read es n x enough moves.reached in
+    let count_is = answered_count m host.tables Read es n count x f moves.answered in
+    let more = answered_some m host.tables Read es n count x f moves.answered some in
+    let most = path_most m host.tables Read es n in (
+      omega (arith, count_is, more),
+      omega (arith, count_is, f.allowed, most),
+      moves.place ∙ ap (λ k. drop k es) count_is,
+    )
 
 -- ---- writes
 

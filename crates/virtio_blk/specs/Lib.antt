@@ -1,6 +1,7 @@
 pub mod Config
 pub mod Disk
 pub mod Inside
+pub mod Looks
 pub mod lemmas
 pub mod MemoryDisk
 pub mod Process

@@ -62,6 +62,14 @@ pub trait Disk: Drop {
         None
     }
 
+    /// Whether `write` takes guest memory where it lies. A guest may write that memory while the call reads it, so a byte
+    /// that comes to the disk may be any that lies there during the call. A disk that takes it has to read each byte once
+    /// and decide nothing by it, as one that only moves bytes. For any other one `write` gets a copy, which no guest
+    /// writes: it returns false, as this does.
+    fn takes_guest_memory(&self) -> bool {
+        false
+    }
+
     /// Writes whole sectors from one on. After an error no byte of the disk has changed.
     fn write(&mut self, sector: u64, content: &[u8]) -> Result<(), DiskError>
         requires whole { length content.now % 512 ≡ 0 }

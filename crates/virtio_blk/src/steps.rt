@@ -1,12 +1,12 @@
 //! A request in two steps, for a device whose disk is its own: the crate's README.md, "A disk of your own".
-ghost use Rattle.std.specs.Prelude.{◌≡◌, ◌≤◌, nat_lt, Some, None, IfOk, length};
+ghost use Rattle.std.specs.Prelude.{◌≡◌, nat_lt, IfOk};
 ghost use Rattle.std.specs.List.{list_any};
 ghost use Rattle.vm_memory_device.specs.Chain.{readable, text, writable};
 ghost use Rattle.vm_memory_guest.specs.Host.{shape_of, Holds};
-ghost use Rattle.virtio_blk.specs.Inside.{failed};
-ghost use Rattle.virtio_blk.specs.Steps.{Begins, Finishes, FitsOn, Told, breaks_limits, has_longer, header_fault, is_over};
-ghost use Rattle.virtio_blk.specs.Texts.{text_bytes};
+ghost use Rattle.virtio_blk.specs.Looks.{BeginsBy, FinishesBy, failed};
+ghost use Rattle.virtio_blk.specs.Steps.{Begins, Finishes, FitsOn, breaks_limits, has_longer, is_over};
 
+use crate::looks::{Fetches, Lent, LentMut, Puts, fetch_all};
 use crate::request::{Request, Terms, VIRTIO_BLK_S_IOERR, request_of};
 use vm_memory_base::Bitmap;
 use vm_memory_device::{Chain, Segment};
@@ -22,30 +22,6 @@ fn failed<T: Drop>(error: GuestMemoryError, without: T) -> GuestMemoryResult<T>
         GuestMemoryError::Memory => Err(GuestMemoryError::Memory),
         _ => Ok(without),
     }
-}
-
-// The header of a chain that has one, or none if one of its addresses has no memory. A read ends before an access that
-// fails, so the next one begins with that access and returns its error.
-fn read_header<M: GuestMemory, B: Bitmap>(
-    mem: &M,
-    host: &HostMemory<B>,
-    chain: &Chain,
-) -> GuestMemoryResult<Option<[u8; 16]>>
-    requires held { Holds (shape_of host.now) (M.names mem.now) }
-    requires enough { 16 ≤ length (text (readable chain.now)) }
-    ensures { let m = M.memory mem.now in let es = text (readable chain.now) in
-        Told m (header_fault m host.now.tables es) (Some (text_bytes m host.now es 16)) None result }
-{
-    let mut reader = chain.reader();
-    let mut header = [0; 16];
-    let mut filled = 0;
-    while filled < 16 {
-        match reader.read(mem, host, &mut header[filled..]) {
-            Ok(count) => filled += count,
-            Err(error) => return failed(error, None),
-        }
-    }
-    Ok(Some(header))
 }
 
 // Whether a number is above a limit, if there is one.
@@ -113,6 +89,20 @@ pub fn begin<M: GuestMemory, B: Bitmap>(
         (text (readable chain.now)) (text (writable chain.now)) result }
     ensures fits { IfOk result (λ request. FitsOn terms.sectors request) }
 {
+    let mut lent = Lent { mem, host };
+    begin_from(terms, &mut lent, chain)
+}
+
+/// As `begin`, from memory that a driver may write meanwhile.
+pub fn begin_from<F: Fetches>(
+    terms: Terms,
+    guest: &mut F,
+    chain: &Chain,
+) -> GuestMemoryResult<Request>
+    ensures begun { BeginsBy F.fetches terms (breaks_limits terms chain.now) (text (readable chain.now))
+        (text (writable chain.now)) guest.old result guest.new }
+    ensures fits { IfOk result (λ request. FitsOn terms.sectors request) }
+{
     let room = chain.writer().left();
     let len = chain.reader().left();
     if room == 0 {
@@ -124,9 +114,11 @@ pub fn begin<M: GuestMemory, B: Bitmap>(
     if breaks_limits(terms, chain.segments()) || len < 16 {
         return Ok(refused);
     }
-    match read_header(mem, host, chain)? {
-        Some(header) => Ok(request_of(terms, &header, len - 16, room - 1)),
-        None => Ok(refused),
+    let mut reader = chain.reader();
+    let mut header = [0; 16];
+    match fetch_all(guest, &mut reader, &mut header) {
+        Ok(()) => Ok(request_of(terms, &header, len - 16, room - 1)),
+        Err(error) => failed(error, refused),
     }
 }
 
@@ -155,6 +147,19 @@ pub fn finish<M: GuestMemory, B: Bitmap>(
         host.new }
     ensures shape { shape_of host.new ≡ shape_of host.old }
 {
+    let mut lent = LentMut { mem, host };
+    finish_from(&mut lent, chain, status, moved)
+}
+
+/// As `finish`, to memory that a driver may write meanwhile.
+pub fn finish_from<P: Puts>(
+    guest: &mut P,
+    chain: &Chain,
+    status: u8,
+    moved: usize,
+) -> GuestMemoryResult<u32>
+    ensures { FinishesBy P.puts (text (writable chain.now)) status moved guest.old result guest.new }
+{
     let mut writer = chain.writer();
     let len = writer.left();
     if len == 0 {
@@ -162,7 +167,7 @@ pub fn finish<M: GuestMemory, B: Bitmap>(
     }
     writer.skip(len - 1);
     let moved = moved.min(len - 1);
-    match writer.write(mem, host, &[status]) {
+    match guest.put(&mut writer, &[status]) {
         Ok(_) if moved + 1 == len => Ok(len as u32),
         Ok(_) => Ok(moved as u32),
         Err(error) => failed(error, moved as u32),

@@ -6,7 +6,7 @@ use Rattle.vm_memory_guest.specs.Memory.{Memory}
 use Rattle.virtio_queue.specs.Asking.{by_flags, index_of, needing, packed_needing, packed_wanting, wanting}
 use Rattle.virtio_queue.specs.Descriptor.{has_flag}
 use Rattle.virtio_queue.specs.Fields.{Answers, MayWant, word_at}
-use Rattle.virtio_queue.specs.Looks.{MayWantAny, answer, gives, looks, word}
+use Rattle.virtio_queue.specs.Looks.{MayWantAny, answer, gives, takes, word}
 use Rattle.virtio_queue.specs.Notification as split
 use Rattle.virtio_queue.specs.Notification.{is_among}
 use Rattle.virtio_queue.specs.Packed as packed
@@ -48,8 +48,8 @@ module _ {B : Type 0} (m : Memory) (host : Host B) where
   -- notifications of split queues
   module _ (q : QueueState) (n : ℕ) where
     by_rule : (on : Bool) → answer m host (if on
-        then looks (word q.avail_ring (4 + 2 * q.size)) (λ event. gives (Ok (is_among n q.next_used event)))
-        else looks (word q.avail_ring 0) (λ flags. gives (Ok (not (has_flag flags 1)))))
+        then takes (word q.avail_ring (4 + 2 * q.size)) (λ event. gives (Ok (is_among n q.next_used event)))
+        else takes (word q.avail_ring 0) (λ flags. gives (Ok (not (has_flag flags 1)))))
         ≡ (if on
         then and_then (word_at m host q.avail_ring (4 + 2 * q.size)) (λ event. Ok (is_among n q.next_used event))
         else and_then (word_at m host q.avail_ring 0) (λ flags. Ok (not (has_flag flags 1))))
@@ -57,8 +57,8 @@ module _ {B : Type 0} (m : Memory) (host : Host B) where
     by_rule false = refl
 
     wants_rule : (on : Bool) → MayWantAny m host (if on
-        then looks (word q.avail_ring (4 + 2 * q.size)) (λ event. gives (Ok (is_among n q.next_used event)))
-        else looks (word q.avail_ring 0) (λ flags. gives (Ok (not (has_flag flags 1)))))
+        then takes (word q.avail_ring (4 + 2 * q.size)) (λ event. gives (Ok (is_among n q.next_used event)))
+        else takes (word q.avail_ring 0) (λ flags. gives (Ok (not (has_flag flags 1)))))
         → MayWant m host q.avail_ring (if on then 4 + 2 * q.size else 0) 2 Read
     wants_rule true (inl w) = w
     wants_rule true (inr (v, is, w)) = absurd w
@@ -98,14 +98,14 @@ module _ {B : Type 0} (m : Memory) (host : Host B) where
   -- notifications of packed queues
   module _ (q : PackedState) (n : ℕ) where
     by_kind : (flags : ℕ) (kind : Bool) → answer m host (if kind
-        then looks (word q.driver_area 0) (λ event. gives (Ok (is_passed q.size n q.next_used (of_bits event))))
+        then takes (word q.driver_area 0) (λ event. gives (Ok (is_passed q.size n q.next_used (of_bits event))))
         else gives (Ok (not (is_disabled flags))))
         ≡ (if kind then events.wants_by_offset m host q n else Ok (not (is_disabled flags)))
     by_kind flags true = refl
     by_kind flags false = refl
 
     wants_kind : (flags : ℕ) (kind : Bool) → MayWantAny m host (if kind
-        then looks (word q.driver_area 0) (λ event. gives (Ok (is_passed q.size n q.next_used (of_bits event))))
+        then takes (word q.driver_area 0) (λ event. gives (Ok (is_passed q.size n q.next_used (of_bits event))))
         else gives (Ok (not (is_disabled flags)))) → (kind ≡ true) × MayWant m host q.driver_area 0 2 Read
     wants_kind flags true (inl w) = (refl, w)
     wants_kind flags true (inr (v, is, w)) = absurd w

@@ -5,7 +5,7 @@ use Rattle.vm_memory_device.specs.Chain.{chain_fault}
 use Rattle.vm_memory_device.specs.declared.chain.ChainFault.{ChainFault}
 use Rattle.virtio_queue.specs.Available.{Followed, direct, if_chain, indirect_len}
 use Rattle.virtio_queue.specs.Descriptor.{has_next, is_indirect, segment_of}
-use Rattle.virtio_queue.specs.Looks.{Asks, Follows, Found, Place, and_asks, gives, if_ok, keeps, looks, row}
+use Rattle.virtio_queue.specs.Looks.{Asks, Follows, Found, Place, and_asks, gives, if_ok, keeps, takes, row}
 use Rattle.virtio_queue.specs.Popping.{chain_behind, chain_from, following, next_head, popping, segments_from, table_behind, with_table}
 use Rattle.virtio_queue.specs.declared.state.QueueState.{QueueState}
 use Rattle.virtio_queue.specs.declared.descriptor.Descriptor.{Descriptor}
@@ -19,9 +19,9 @@ module _ {S : Type 0} (look : S → (p : Place) → Result (Found p) QueueError 
       → Follows look (and_asks t f) old result new
   then_follows (gives r) f old mid new x result (is, same) rest =
       subst (λ r. Follows look (if_ok f r) old result new) is (subst (λ s. Follows look (f x) s result new) same rest)
-  then_follows (looks p k) f old mid new x result (Ok v, next, looked, more) rest =
+  then_follows (takes p k) f old mid new x result (Ok v, next, looked, more) rest =
       (Ok v, next, looked, then_follows (k v) f next mid new x result more rest)
-  then_follows (looks p k) f old mid new x result (Err e, next, looked, more) rest = let bad = more.0 in absurd (cc)
+  then_follows (takes p k) f old mid new x result (Err e, next, looked, more) rest = let bad = more.0 in absurd (cc)
   then_follows (keeps t) f old mid new x result (inl more) rest =
       inl (then_follows t f old mid new x result more rest)
   then_follows (keeps t) f old mid new x result (inr more) rest = let bad = more.0 in absurd (cc)
@@ -31,9 +31,9 @@ module _ {S : Type 0} (look : S → (p : Place) → Result (Found p) QueueError 
       → Follows look t old (Err e) new → Follows look (and_asks t f) old (Err e) new
   then_fails (gives r) f old new e (is, same) =
       subst (λ r. Follows look (if_ok f r) old (Err e) new) is (refl, same)
-  then_fails (looks p k) f old new e (Ok v, next, looked, more) =
+  then_fails (takes p k) f old new e (Ok v, next, looked, more) =
       (Ok v, next, looked, then_fails (k v) f next new e more)
-  then_fails (looks p k) f old new e (Err d, next, looked, more) =
+  then_fails (takes p k) f old new e (Err d, next, looked, more) =
       let is = more.0 in let same : e ≡ d = cc in (Err d, next, looked, (ap Err same, more.1))
   then_fails (keeps t) f old new e (inl more) = inl (then_fails t f old new e more)
   then_fails (keeps t) f old new e (inr more) =
@@ -47,7 +47,7 @@ module _ {S : Type 0} (look : S → (p : Place) → Result (Found p) QueueError 
 
     -- the next turn
     turn : turns < len → following table len (len - turns) front index
-        ≡ if nat_lt index len then looks (row table index) (on (len - (turns + 1)))
+        ≡ if nat_lt index len then takes (row table index) (on (len - (turns + 1)))
         else gives (Err errors.InvalidDescriptorIndex)
     unfolding following
     turn h = let more : len - turns ≡ suc (len - (turns + 1)) = omega arith in rw more refl

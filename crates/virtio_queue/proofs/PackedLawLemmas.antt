@@ -85,12 +85,12 @@ bits_come_back p small = go p.wrap p.slot small
         rw (s, n) refl
 
 -- a position is one of the slots from it on
-pub waiting_is_passed : (size n : ℕ) (p : RingPosition) → p.slot < size → 0 < n → n ≤ size
-    → is_passed size n (moved size p n) p ≡ true
-waiting_is_passed size n p inside some most = go p.wrap p.slot (nat_lt (p.slot + n) size) refl inside
+pub waiting_is_passed : (size n count : ℕ) (p : RingPosition) → p.slot < size → 0 < n → n ≤ size → n ≤ count
+    → is_passed size count (moved size p n) p ≡ true
+waiting_is_passed size n count p inside some most among = go p.wrap p.slot (nat_lt (p.slot + n) size) refl inside
   where
     go : (w : Bool) (slot : ℕ) (b : Bool) → nat_lt (slot + n) size ≡ b → slot < size
-        → is_passed size n (moved size (record { slot = slot; wrap = w }) n) (record { slot = slot; wrap = w }) ≡ true
+        → is_passed size count (moved size (record { slot = slot; wrap = w }) n) (record { slot = slot; wrap = w }) ≡ true
     go true slot true e h = rw e (grind (arith, nat_tests))
     go true slot false e h = rw e (grind (arith, nat_tests))
     go false slot true e h = rw e (grind (arith, nat_tests))

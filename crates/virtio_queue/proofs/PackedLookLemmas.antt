@@ -4,7 +4,7 @@ use Rattle.vm_memory_device.specs.Chain.{chain_fault}
 use Rattle.vm_memory_device.specs.declared.chain.ChainFault.{ChainFault}
 use Rattle.vm_memory_device.specs.declared.chain.Segment.{Segment}
 use Rattle.virtio_queue.specs.Available.{if_chain}
-use Rattle.virtio_queue.specs.Looks.{Asks, Follows, Found, Place, and_asks, gives, keeps, looks, row, word}
+use Rattle.virtio_queue.specs.Looks.{Asks, Follows, Found, Place, and_asks, gives, keeps, takes, row, word}
 use Rattle.virtio_queue.specs.Packed.{slot_after, slots_out}
 use Rattle.virtio_queue.specs.PackedPopping.{Taken, chain_behind, chain_known, chain_made, chain_taken, last_behind, listing, popping, rows_behind, with_known}
 use Rattle.virtio_queue.specs.PackedRing.{is_available, is_last, packed_of, segment_of}
@@ -25,7 +25,7 @@ module _ {S : Type 0} (look : S → (p : Place) → Result (Found p) QueueError 
 
     -- the next turn
     turn : turns < room → listing ring size (room - turns) front turns slot known
-        ≡ looks (row ring slot) (λ d. on (room - (turns + 1)) (with_known known (packed_of d)))
+        ≡ takes (row ring slot) (λ d. on (room - (turns + 1)) (with_known known (packed_of d)))
     unfolding listing
     turn h = let more : room - turns ≡ suc (room - (turns + 1)) = omega arith in rw more refl
 
@@ -94,7 +94,7 @@ module _ {S : Type 0} (look : S → (p : Place) → Result (Found p) QueueError 
     abbrev kept : Descriptor → Asks (List Segment)
     kept d = keeps (rows_behind table (len - (index + 1)) (front ++ segment_of (packed_of d) ∷ []) (index + 1))
 
-    next_row : index < len → rows_behind table (len - index) front index ≡ looks (row table index) kept
+    next_row : index < len → rows_behind table (len - index) front index ≡ takes (row table index) kept
     unfolding rows_behind
     next_row h = let more : len - index ≡ suc (len - (index + 1)) = omega arith in rw more refl
 

@@ -6,7 +6,7 @@ use Rattle.vm_memory_guest.specs.Host.{Host}
 use Rattle.vm_memory_guest.specs.Memory.{Memory}
 use Rattle.virtio_queue.specs.Available.{if_chain, indirect_len}
 use Rattle.virtio_queue.specs.Fields.{Answers, descriptor_at, word_at}
-use Rattle.virtio_queue.specs.Looks.{Asks, MayWantAny, and_asks, answer, gives, if_ok, keeps, looks, word}
+use Rattle.virtio_queue.specs.Looks.{Asks, MayWantAny, and_asks, answer, gives, if_ok, keeps, takes, word}
 use Rattle.virtio_queue.specs.Packed.{slot_after, slots_out}
 use Rattle.virtio_queue.specs.PackedPopping.{Taken, chain_behind, chain_known, chain_made, chain_taken, last_behind, listing, popping, rows_behind, with_known}
 use Rattle.virtio_queue.specs.PackedRing as held
@@ -240,7 +240,7 @@ module _ {B : Type 0} (m : Memory) (host : Host B) where
     by_flags (Err e) there = refl
 
     by_ready : (ready : Bool) → answer m host
-        (if ready then looks (word q.desc_ring (16 * q.next_avail.slot + 14)) (chain_behind q)
+        (if ready then takes (word q.desc_ring (16 * q.next_avail.slot + 14)) (chain_behind q)
         else gives (Err errors.QueueNotReady))
         ≡ and_then (and_then (if ready then flags_at else Err errors.QueueNotReady)
         (λ flags. Ok (is_available flags q.next_avail.wrap))) (if_next m host q)
@@ -260,7 +260,7 @@ module _ {B : Type 0} (m : Memory) (host : Host B) where
     wants_available flags there false w = absurd w
 
     wants_ready : (ready : Bool) → q.ready ≡ ready → MayWantAny m host
-        (if ready then looks (word q.desc_ring (16 * q.next_avail.slot + 14)) (chain_behind q)
+        (if ready then takes (word q.desc_ring (16 * q.next_avail.slot + 14)) (chain_behind q)
         else gives (Err errors.QueueNotReady))
         → MayWantChain m host q
     wants_ready true is (inl w) = inl (is, w)

@@ -1,8 +1,8 @@
 -- Where a queue writes its used ring, and where it finds the driver's index.
-use Rattle.std.proofs.Common.{◌≡◌, ◌⊎◌, ◌∙◌, ℕ, ◌%◌, ◌==◌, ◌&&◌, Bool, true, false, not, if◌then◌else◌, List, [], ◌∷◌, Option, Some, None, Result, Ok, Err, All, IfOk, ap, inl, inr, refl, sym, subst}
+use Rattle.std.proofs.Common.{◌≡◌, ◌⊎◌, ◌∙◌, ℕ, ◌%◌, ◌==◌, ◌&&◌, Bool, true, false, if◌then◌else◌, List, [], ◌∷◌, Option, Some, None, Result, Ok, Err, All, IfOk, ap, inl, inr, refl, sym, subst}
 use Rattle.std.proofs.lemmas.Bool.{eqb-true}
 use Rattle.std.proofs.lemmas.List.Elements.{All-head}
-use Rattle.std.specs.Int.{w16, from_le_bytes, to_le_bytes}
+use Rattle.std.specs.Int.{w16, from_le_bytes}
 use Rattle.vm_memory_base.specs.declared.iotlb.Permissions.{Permissions}
 use Rattle.vm_memory_base.specs.declared.iotlb.Permissions.TheVariants as permissions
 use Rattle.vm_memory_guest.specs.Access.{Access, AccessFault, allowed, first_fault, meets, path, refusal, stretches}
@@ -12,17 +12,13 @@ use Rattle.vm_memory_guest.specs.Host.{Host, bytes_at}
 use Rattle.vm_memory_guest.specs.Memory.{Memory, Route, route}
 use Rattle.vm_memory_guest.specs.Typed.{answered, first_aligned, place_of, typed_path}
 use Rattle.vm_memory_guest.specs.Walk.{RefusesAccess, WantsMemory, items_of}
-use Rattle.vm_memory_guest.specs.Window.{Window, Writes, cells_of}
+use Rattle.vm_memory_guest.specs.Window.{Window, cells_of}
 use Rattle.vm_memory_guest.specs.declared.region.error.GuestMemoryError.{GuestMemoryError}
 use Rattle.vm_memory_guest.specs.declared.region.error.GuestMemoryError.TheVariants.{InvalidBackendAddress}
 use Rattle.virtio_queue.specs.Error.{of_access}
-use Rattle.virtio_queue.specs.Fields.{Answers, MayWant, WritesBytes, is_word, loaded, place, reached_at, stored_at, told, window_at, word_at, word_window}
-use Rattle.virtio_queue.specs.Notification.{EnablesIfReady, Waits, kick_offset, kick_places, kick_value}
-use Rattle.virtio_queue.specs.Available.{avail_idx}
-use Rattle.virtio_queue.specs.Rings.{and_then, behind}
-use Rattle.virtio_queue.specs.Used.{AddsUsed, entry_bytes, entry_place, used_places}
+use Rattle.virtio_queue.specs.Fields.{Answers, MayWant, is_word, loaded, place, reached_at, told, window_at, word_at}
+use Rattle.virtio_queue.specs.Rings.{and_then}
 use Rattle.virtio_queue.specs.declared.error.QueueError.{QueueError}
-use Rattle.virtio_queue.specs.declared.state.QueueState.{QueueState}
 
 -- ---- windows of walks
 
@@ -79,27 +75,6 @@ pub answer_is : {T : Type 0} (may_want : Type 0) (expected : Result T QueueError
 answer_is may_want expected x (inl is) = sym is
 answer_is may_want expected x (inr (is, wants)) = absurd (cc)
 
--- of two places that were found, each was found
-pub both_found : {X Y : Type 0} (r : Result X QueueError) (s : Result Y QueueError) (x : X) (y : Y)
-    → ◌≡◌ {A = Result (X × Y) QueueError} (and_then r (λ a. and_then s (λ b. Ok (a, b)))) (Ok (x, y))
-    → (r ≡ Ok x) × (s ≡ Ok y)
-both_found {X} {Y} (Ok a) (Ok b) x y is =
-    let same : ◌≡◌ {A = X × Y} (a, b) (x, y) = cc in
-    (ap (λ (p : X × Y). Ok p.0) same, ap (λ (p : X × Y). Ok p.1) same)
-both_found (Ok a) (Err e) x y is = absurd (cc)
-both_found (Err e) s x y is = absurd (cc)
-
-module _ {B : Type 0} (m : Memory) (host : Host B) (q : QueueState) where
-  pub used_found : (head a : ℕ) (w : Window) → used_places m host q head ≡ Ok (a, w)
-      → (entry_place m host q head ≡ Ok a) × (word_window m host q.used_ring 2 ≡ Ok w)
-  used_found head a w is = both_found (entry_place m host q head) (word_window m host q.used_ring 2) a w is
-
-  pub kick_found : (kick idx : Window) → kick_places m host q ≡ Ok (kick, idx)
-      → (word_window m host q.used_ring (kick_offset q) ≡ Ok kick)
-      × (window_at m host q.avail_ring 2 permissions.Read ≡ Ok idx)
-  kick_found kick idx is = both_found (word_window m host q.used_ring (kick_offset q))
-      (window_at m host q.avail_ring 2 permissions.Read) kick idx is
-
 -- a window does not depend on bytes
 pub window_stays : {B : Type 0} (m : Memory) (old new : Host B) (base offset : ℕ) (w : Window)
     → new.tables ≡ old.tables → (access : _) → window_at m old base offset access ≡ Ok w
@@ -130,61 +105,9 @@ module _ {B : Type 0} (m : Memory) (host : Host B) (base offset : ℕ) (w : Wind
       go (Ok a) is = found (place_of 2 (reached_at m host a 2 permissions.Read)) (loaded m host a 2) (loads a) is
       go (Err e) is = absurd (cc)
 
--- an entry that was written, and then the index
-pub added : {B : Type 0} (marks : B → ℕ → ℕ → B → Type 0) (m : Memory) (q : QueueState) (head len : ℕ)
-    (old mid new : Host B) (a : ℕ) (w : Window) → used_places m old q head ≡ Ok (a, w)
-    → WritesBytes marks m a (entry_bytes head len) old mid → mid.tables ≡ old.tables
-    → Writes marks (w ∷ []) (to_le_bytes w16 (behind q.next_used)) mid new → AddsUsed marks m q head len old (Ok tt) new
-added marks m q head len old mid new a w places writes tables stores =
-    let found = used_found m old q head a w places in (
-      mid,
-      (a, found.0, writes),
-      (w, window_stays m old mid q.used_ring 2 w tables permissions.Write found.1, stores),
-    )
-
 pub word_size : (w : Window) → is_word w ≡ true → w.size ≡ 2
 word_size w is = go (w.size == 2) refl is
   where
     go : (b : Bool) → (w.size == 2) ≡ b → (b && w.offset % 2 == 0) ≡ true → w.size ≡ 2
     go true e is = eqb-true w.size 2 e
     go false e is = absurd (cc)
-
--- ---- what is asked for to be notified
-
-module _ {B : Type 0} (marks : B → ℕ → ℕ → B → Type 0) (m : Memory) (q : QueueState) (old new : Host B)
-    (kick idx : Window) (value : ℕ)
-    (loads : (a : ℕ) → let x = reached_at m new a 2 permissions.Read in
-    answered (λ w. bytes_at new.blocks (cells_of w)) (place_of 2 x)
-    ≡ answered (λ xs. bytes_at new.blocks (path_cells xs)) (typed_path 2 x)) where
-  word_is : kick_places m old q ≡ Ok (kick, idx) → new.tables ≡ old.tables
-      → value ≡ from_le_bytes w16 (bytes_at new.blocks (cells_of idx)) → word_at m new q.avail_ring 2 ≡ Ok value
-  word_is places tables value_is =
-      let there = window_stays m old new q.avail_ring 2 idx tables permissions.Read
-      (kick_found m old q kick idx places).1 in
-      word_in_window m new q.avail_ring 2 idx loads there ∙ ap Ok (sym value_is)
-
-  -- the driver's index
-  pub index_is : q.ready ≡ true → kick_places m old q ≡ Ok (kick, idx) → new.tables ≡ old.tables
-      → value ≡ from_le_bytes w16 (bytes_at new.blocks (cells_of idx)) → avail_idx m new q ≡ Ok value
-  index_is ready places tables value_is = rw ready (word_is places tables value_is)
-
-  pub enabled : q.ready ≡ true → kick_places m old q ≡ Ok (kick, idx) → new.tables ≡ old.tables
-      → value ≡ from_le_bytes w16 (bytes_at new.blocks (cells_of idx))
-      → Writes marks (kick ∷ []) (to_le_bytes w16 (kick_value q)) old new
-      → EnablesIfReady marks m q old (Ok (not (value == q.next_avail))) new
-  enabled ready places tables value_is writes =
-      let more = ap (λ (r : Result ℕ QueueError). and_then r (λ i. Ok (not (i == q.next_avail))))
-      (word_is places tables value_is) in
-      rw ready ((kick, (kick_found m old q kick idx places).0, writes), more)
-
-  pub waits : stored_at m new q.used_ring (kick_offset q) ≡ Ok (kick_value q) → avail_idx m new q ≡ Ok value
-      → ◌≡◌ {A = Result Bool QueueError} (Ok (not (value == q.next_avail))) (Ok false) → Waits m new q
-  waits asks index none = record {
-    asks = asks;
-    none = index ∙ ap Ok (same (value == q.next_avail) refl none);
-  }
-    where
-      same : (b : Bool) → (value == q.next_avail) ≡ b → ◌≡◌ {A = Result Bool QueueError} (Ok (not b)) (Ok false)
-          → value ≡ q.next_avail
-      same true e is = eqb-true value q.next_avail e
-      same false e is = absurd (cc)

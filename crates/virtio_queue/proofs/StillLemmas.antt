@@ -10,7 +10,7 @@ use Rattle.virtio_queue.specs.Available as held
 use Rattle.virtio_queue.specs.Available.{Followed, MayWantChain, MayWantFollow, MayWantFound, MayWantHead, MayWantIndirect, MayWantSegments, MayWantTable, direct, entry, followed, followed_in, if_chain, indirect_len, indirect_segments, prefixed, with_indirect}
 use Rattle.virtio_queue.specs.Descriptor.{has_next, is_indirect, segment_of}
 use Rattle.virtio_queue.specs.Fields.{Answers, MayWant, descriptor_at, word_at}
-use Rattle.virtio_queue.specs.Looks.{Asks, Finds, Follows, Found, MayWantAny, MayWantLook, Place, and_asks, answer, found_in, gives, if_ok, keeps, looks, row, word}
+use Rattle.virtio_queue.specs.Looks.{Asks, Finds, Follows, Found, MayWantAny, MayWantLook, Place, and_asks, answer, found_in, gives, if_ok, keeps, takes, row, word}
 use Rattle.virtio_queue.specs.Popping.{chain_behind, chain_from, following, head_behind, head_in_slot, next_head, popping, segments_from, with_table}
 use Rattle.virtio_queue.specs.Rings.{WantsThen, ahead, and_then, next_in, slot}
 use Rattle.virtio_queue.specs.declared.descriptor.Descriptor.{Descriptor}
@@ -49,11 +49,11 @@ module _ {B : Type 0} (m : Memory) (host : Host B) where
     pub still : {T : Type 0} (t : Asks T) (new : S) (result : Result T QueueError) → Follows look t old result new
         → Answers (MayWantAny m host t) (answer m host t) result
     still (gives r) new result (is, stays) = inl is
-    still (looks p k) new result (Ok v, mid, looked, more) =
+    still (takes p k) new result (Ok v, mid, looked, more) =
         let (finds, stays) = same p (Ok v) mid looked in
         look_gave (found_in m host p) (MayWantLook m host p) (λ v. answer m host (k v)) (λ v. MayWantAny m host (k v))
         result v finds (still (k v) new result (subst (λ s. Follows look (k v) s result new) stays more))
-    still (looks p k) new result (Err e, mid, looked, more) =
+    still (takes p k) new result (Err e, mid, looked, more) =
         let (finds, stays) = same p (Err e) mid looked in
         look_failed (found_in m host p) (MayWantLook m host p) (λ v. answer m host (k v)) (λ v. MayWantAny m host (k v))
         result e finds more.0
@@ -79,7 +79,7 @@ module _ {B : Type 0} (m : Memory) (host : Host B) where
       → answer m host (and_asks t f) ≡ and_then (answer m host t) (λ x. answer m host (f x))
   answer_then (gives (Ok x)) f = refl
   answer_then (gives (Err e)) f = refl
-  answer_then (looks p k) f = twice (found_in m host p) (λ v. answer m host (k v)) (λ x. answer m host (f x))
+  answer_then (takes p k) f = twice (found_in m host p) (λ v. answer m host (k v)) (λ x. answer m host (f x))
       (λ v. answer m host (and_asks (k v) f)) (λ v. answer_then (k v) f)
   answer_then (keeps t) f = answer_then t f
 
@@ -87,8 +87,8 @@ module _ {B : Type 0} (m : Memory) (host : Host B) where
       → WantsThen (MayWantAny m host t) (answer m host t) (λ x. MayWantAny m host (f x))
   wants_then (gives (Ok x)) f w = inr (x, refl, w)
   wants_then (gives (Err e)) f w = absurd w
-  wants_then (looks p k) f (inl w) = inl (inl w)
-  wants_then (looks p k) f (inr (v, is, w)) = elim (wants_then (k v) f w) [
+  wants_then (takes p k) f (inl w) = inl (inl w)
+  wants_then (takes p k) f (inr (v, is, w)) = elim (wants_then (k v) f w) [
     | inl a ↦ inl (inr (v, is, a))
     | inr (x, gave, b) ↦ inr (x, ap (λ r. and_then r (λ v. answer m host (k v))) is ∙ gave, b)
   ]
@@ -127,7 +127,7 @@ module _ {B : Type 0} (m : Memory) (host : Host B) where
       by_found (Err e) = refl
 
       by_index : (b : Bool) → answer m host
-          (if b then looks (row table i) (λ d. asked most front d (is_indirect d) (has_next d))
+          (if b then takes (row table i) (λ d. asked most front d (is_indirect d) (has_next d))
           else gives (Err errors.InvalidDescriptorIndex))
           ≡ prefixed front (and_then (if b then at i else Err errors.InvalidDescriptorIndex)
           (λ d. made most d (is_indirect d) (has_next d)))
@@ -157,7 +157,7 @@ module _ {B : Type 0} (m : Memory) (host : Host B) where
     direct_kept most front d false next w = refl
 
     wants_at : (most : ℕ) (front : List Segment) (i : ℕ) (b : Bool) → nat_lt i len ≡ b → MayWantAny m host
-        (if b then looks (row table i) (λ d. asked most front d (is_indirect d) (has_next d))
+        (if b then takes (row table i) (λ d. asked most front d (is_indirect d) (has_next d))
         else gives (Err errors.InvalidDescriptorIndex))
         → MayWantFollow m host table len i
     wants_at most front i true is (inl w) = (ltb-true i len is, inl w)
@@ -267,7 +267,7 @@ module _ {B : Type 0} (m : Memory) (host : Host B) where
     by_ahead false false = refl
 
     by_ready : (ready : Bool) → answer m host
-        (if ready then looks (word q.avail_ring 2) (head_behind q) else gives (Err errors.QueueNotReady))
+        (if ready then takes (word q.avail_ring 2) (head_behind q) else gives (Err errors.QueueNotReady))
         ≡ and_then (if ready then word_at m host q.avail_ring 2 else Err errors.QueueNotReady) ring
     by_ready true = same_then (word_at m host q.avail_ring 2) (λ idx. answer m host (head_behind q idx)) ring
         (λ idx. by_ahead (ahead idx q.next_avail == 0) (nat_lt q.size (ahead idx q.next_avail)))
@@ -293,7 +293,7 @@ module _ {B : Type 0} (m : Memory) (host : Host B) where
     wants_ahead idx false false some within (inr (v, is, w)) = absurd w
 
     wants_ready : (ready : Bool) → q.ready ≡ ready → MayWantAny m host
-        (if ready then looks (word q.avail_ring 2) (head_behind q) else gives (Err errors.QueueNotReady))
+        (if ready then takes (word q.avail_ring 2) (head_behind q) else gives (Err errors.QueueNotReady))
         → MayWantHead m host q
     wants_ready true is (inl w) = inl (is, w)
     wants_ready true is (inr (idx, there, w)) = inr (

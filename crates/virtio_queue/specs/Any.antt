@@ -5,6 +5,7 @@ use Rattle.vm_memory_guest.specs.Host.{Host}
 use Rattle.vm_memory_guest.specs.Memory.{Memory}
 use Rattle.virtio_queue.specs.Asking.{needing, packed_needing}
 use Rattle.virtio_queue.specs.Available as split_available
+use Rattle.virtio_queue.specs.Fields.{stored_at}
 use Rattle.virtio_queue.specs.Looks.{Asks, and_asks, gives}
 use Rattle.virtio_queue.specs.Notification as split_notification
 use Rattle.virtio_queue.specs.Packed as packed
@@ -15,6 +16,8 @@ use Rattle.virtio_queue.specs.PackedUsed as packed_used
 use Rattle.virtio_queue.specs.Popping as split_popping
 use Rattle.virtio_queue.specs.Rings.{behind}
 use Rattle.virtio_queue.specs.State as split
+use Rattle.virtio_queue.specs.Stores as stores
+use Rattle.virtio_queue.specs.Stores.{Does}
 use Rattle.virtio_queue.specs.Used as split_used
 use Rattle.virtio_queue.specs.declared.any.AnyQueue.{AnyQueue}
 use Rattle.virtio_queue.specs.declared.any.AnyQueue.TheVariants.{Split, Packed}
@@ -98,6 +101,19 @@ abbrev pub asking : AnyQueue → Asks Bool
 asking (Split q) = needing q
 asking (Packed q) = packed_needing q
 
+-- what a return does, and asking to notify and not to notify
+abbrev pub returning : AnyQueue → PackedBuffer → ℕ → Does (Unit {0})
+returning (Split q) buffer len = stores.returning q.state buffer.id len
+returning (Packed q) buffer len = stores.packed_returning q.state buffer len
+
+abbrev pub enabling : AnyQueue → Does Bool
+enabling (Split q) = stores.enabling q.state
+enabling (Packed q) = stores.packed_enabling q.state
+
+abbrev pub disabling : AnyQueue → Does (Unit {0})
+disabling (Split q) = stores.disabling q.state
+disabling (Packed q) = stores.packed_disabling q.state
+
 module _ {B : Type 0} (m : Memory) (host : Host B) where
   -- what is popped: the next chain, with what it is returned by, if there is one
   abbrev pub popped : AnyQueue → Result (Option (PackedBuffer × List Segment)) QueueError
@@ -135,6 +151,12 @@ module _ {B : Type 0} (m : Memory) (host : Host B) where
   abbrev pub Waits : AnyQueue → Type 0
   Waits (Split q) = split_notification.Waits m host q.state
   Waits (Packed q) = packed_events.Waits m host q.state
+
+-- the driver finds in memory which chain the device waits for, whether there is one by now or not
+abbrev pub Offers : {B : Type 0} → Memory → Host B → AnyQueue → Type 0
+Offers m host (Split q) = stored_at m host q.state.used_ring (split_notification.kick_offset q.state)
+    ≡ Ok (split_notification.kick_value q.state)
+Offers m host (Packed q) = packed_events.Offers m host q.state
 
 module _ {B : Type 0} (marks : B → ℕ → ℕ → B → Type 0) (m : Memory) where
   -- a chain is returned

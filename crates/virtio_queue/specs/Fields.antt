@@ -3,7 +3,7 @@ use Rattle.std.specs.Prelude.{◌≡◌, ◌⊎◌, ℕ, ◌+◌, ◌*◌, ◌%�
 use Rattle.std.specs.Int.{w16, w32, w64, from_le_bytes, to_le_bytes}
 use Rattle.vm_memory_base.specs.declared.iotlb.Permissions.{Permissions}
 use Rattle.vm_memory_base.specs.declared.iotlb.Permissions.TheVariants as permissions
-use Rattle.vm_memory_guest.specs.Access.{Access, access_of, windows}
+use Rattle.vm_memory_guest.specs.Access.{Access, access_of, allowed, refusal, windows}
 use Rattle.vm_memory_guest.specs.Dirt.{path_cells}
 use Rattle.vm_memory_guest.specs.Error.{error_of}
 use Rattle.vm_memory_guest.specs.Host.{Host, bytes_at}
@@ -94,6 +94,16 @@ pair_at m host base offset = and_then (place base offset 8) (λ a. told (answere
 abbrev pub lies_whole : {B : Type 0} → Memory → Host B → ℕ → ℕ → Permissions → Bool
 lies_whole m host a n access =
     nat_le (a + n) (2 ^ 64) && is_whole (reached_at m host a n access).path n
+
+-- why n bytes cannot be written at an address: its translation is refused, or they do not lie whole in memory
+abbrev pub room_fault : {B : Type 0} → Memory → Host B → ℕ → ℕ → QueueError
+room_fault m host a n = let way = route m host.tables in
+    if allowed way a n permissions.Write then errors.InvalidUsedEntry else of_access (error_of (refusal way a n))
+
+-- the address of n bytes at an offset from an address, if they can be written there
+abbrev pub room_at : {B : Type 0} → Memory → Host B → ℕ → ℕ → ℕ → Result ℕ QueueError
+room_at m host base offset n = and_then (place base offset n) (λ a.
+    if lies_whole m host a n permissions.Write then Ok a else Err (room_fault m host a n))
 
 -- the window that an access of a number of 16 bits takes at an offset from an address
 abbrev pub window_at : {B : Type 0} → Memory → Host B → ℕ → ℕ → Permissions → Result Window QueueError

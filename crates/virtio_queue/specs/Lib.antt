@@ -7,6 +7,7 @@ pub mod Error
 pub mod Fields
 pub mod History
 pub mod Holding
+pub mod InFlight
 pub mod Linked
 pub mod Looks
 pub mod Notification
@@ -21,4 +22,5 @@ pub mod PackedUsed
 pub mod Popping
 pub mod Rings
 pub mod State
+pub mod Stores
 pub mod Used

@@ -83,22 +83,23 @@ MayWantKick m host q = WantsThen (MayWant m host q.device_area 0 2 permissions.W
     WantsThen (MayWant m host q.device_area 2 2 permissions.Write) (word_window m host q.device_area 2) (λ flags.
     MayWant m host q.desc_ring (16 * q.next_avail.slot + 14) 2 permissions.Read))
 
--- what a device waits for: the driver finds in memory that it has to notify, and has made no chain available beyond
--- those that were popped
-pub record Waits {B : Type 0} (m : Memory) (host : Host B) (q : PackedState) : Type 0 where
-  pub asks : stored_at m host q.device_area 2 ≡ Ok (kick_flags q)
-  pub none : has_next m host q ≡ Ok false
-
 -- no byte is in both windows
 abbrev pub AreApart : Window → Window → Type 0
 AreApart w v = All (λ c. Contains (cells_of v) c → ⊥) (cells_of w)
 
 -- the driver finds in memory which slot the device waits for. Where an IOMMU leads both fields to the same bytes, it finds
 -- the one that was written last
-abbrev pub Offers : {B : Type 0} → Memory → Host B → Host B → PackedState → Type 0
-Offers m old new q = (w v : Window) → word_window m old q.device_area 0 ≡ Ok w
-    → word_window m old q.device_area 2 ≡ Ok v → AreApart w v
-    → stored_at m new q.device_area 0 ≡ Ok (to_bits q.next_avail)
+abbrev pub Offers : {B : Type 0} → Memory → Host B → PackedState → Type 0
+Offers m host q = (w v : Window) → word_window m host q.device_area 0 ≡ Ok w
+    → word_window m host q.device_area 2 ≡ Ok v → AreApart w v
+    → stored_at m host q.device_area 0 ≡ Ok (to_bits q.next_avail)
+
+-- what a device waits for: the driver finds in memory that it has to notify, and of which slot, and has made no chain
+-- available beyond those that were popped
+pub record Waits {B : Type 0} (m : Memory) (host : Host B) (q : PackedState) : Type 0 where
+  pub asks : stored_at m host q.device_area 2 ≡ Ok (kick_flags q)
+  pub offers : Offers m host q
+  pub none : has_next m host q ≡ Ok false
 
 module _ {B : Type 0} (marks : B → ℕ → ℕ → B → Type 0) (m : Memory) (q : PackedState) where
   -- the offset was written, and then the flags, and then whether there is a chain by now is returned. Or one of the

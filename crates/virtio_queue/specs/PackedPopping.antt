@@ -3,7 +3,7 @@ use Rattle.std.specs.Prelude.{ℕ, zero, suc, ◌+◌, ◌-◌, ◌*◌, if◌th
 use Rattle.vm_memory_device.specs.Chain.{chain_fault}
 use Rattle.vm_memory_device.specs.declared.chain.Segment.{Segment}
 use Rattle.virtio_queue.specs.Available.{if_chain, indirect_len}
-use Rattle.virtio_queue.specs.Looks.{Asks, and_asks, gives, if_ok, keeps, looks, row, word}
+use Rattle.virtio_queue.specs.Looks.{Asks, and_asks, gives, if_ok, keeps, takes, row, word}
 use Rattle.virtio_queue.specs.Packed.{slot_after, slots_out}
 use Rattle.virtio_queue.specs.PackedRing.{is_available, is_indirect, is_last, packed_of, plain, segment_of}
 use Rattle.virtio_queue.specs.Rings.{and_then}
@@ -28,7 +28,7 @@ pub record Taken : Type 0 where
 -- loop. The flags of the first one are known, if it was found to be available
 unfoldable pub listing : ℕ → ℕ → ℕ → List Segment → ℕ → ℕ → Option ℕ → Asks Taken
 listing ring size zero front slots i known = gives (Err errors.DescriptorLoop)
-listing ring size (suc most) front slots i known = looks (row ring i) (λ d.
+listing ring size (suc most) front slots i known = takes (row ring i) (λ d.
     let p = with_known known (packed_of d) in
     if is_last p then gives (Ok (record { segments = front; last = p; slots = slots + 1 }))
     else keeps (listing ring size most (front ++ segment_of p ∷ []) (slots + 1) (slot_after size i) None))
@@ -36,7 +36,7 @@ listing ring size (suc most) front slots i known = looks (row ring i) (λ d.
 -- the segments of N descriptors of an indirect table from an index on, behind these: one look at each
 unfoldable pub rows_behind : ℕ → ℕ → List Segment → ℕ → Asks (List Segment)
 rows_behind table zero front i = gives (Ok front)
-rows_behind table (suc n) front i = looks (row table i) (λ d.
+rows_behind table (suc n) front i = takes (row table i) (λ d.
     keeps (rows_behind table n (front ++ segment_of (packed_of d) ∷ []) (i + 1)))
 
 -- the segments of the last descriptor behind these: its own, or those of its table
@@ -65,5 +65,5 @@ chain_behind q flags = if is_available flags q.next_avail.wrap
     else gives (Ok None)
 
 abbrev pub popping : PackedState → Asks (Option (PackedBuffer × List Segment))
-popping q = if q.ready then looks (word q.desc_ring (16 * q.next_avail.slot + 14)) (chain_behind q)
+popping q = if q.ready then takes (word q.desc_ring (16 * q.next_avail.slot + 14)) (chain_behind q)
     else gives (Err errors.QueueNotReady)

@@ -2,14 +2,11 @@
 use Rattle.std.specs.Prelude.{◌≡◌, ◌⊎◌, ℕ, ◌+◌, ◌*◌, ◌^◌, nat_le, nat_lt, true, not, ◌&&◌, min, if◌then◌else◌, List, ◌++◌, option_map, Bool, Result, Ok, Err, MatchResult}
 use Rattle.std.specs.Int.{w16, w32, to_le_bytes}
 use Rattle.vm_memory_base.specs.declared.iotlb.Permissions.TheVariants as permissions
-use Rattle.vm_memory_guest.specs.Access.{allowed, refusal}
-use Rattle.vm_memory_guest.specs.Error.{error_of}
 use Rattle.vm_memory_guest.specs.Host.{Host}
-use Rattle.vm_memory_guest.specs.Memory.{Memory, route}
+use Rattle.vm_memory_guest.specs.Memory.{Memory}
 use Rattle.vm_memory_guest.specs.Walk.{NeedsPieces}
 use Rattle.vm_memory_guest.specs.Window.{Window}
-use Rattle.virtio_queue.specs.Error.{of_access}
-use Rattle.virtio_queue.specs.Fields.{lies_whole, place, word_window, MayWant, Refuses, StoresWord, WritesBytes}
+use Rattle.virtio_queue.specs.Fields.{lies_whole, room_at, word_window, MayWant, Refuses, StoresWord, WritesBytes}
 use Rattle.virtio_queue.specs.Packed.{PackedVirtqueue, moved, slots_out}
 use Rattle.virtio_queue.specs.Rings.{WantsThen, and_then}
 use Rattle.virtio_queue.specs.declared.error.QueueError.{QueueError}
@@ -50,17 +47,11 @@ module _ {B : Type 0} (m : Memory) (host : Host B) where
   abbrev pub MayWantValid : PackedState → Type 0
   MayWantValid q = (q.ready ≡ true) × MayWantAreas q
 
-  -- why length and id cannot be written at an address: its translation is refused, or they do not lie whole in memory
-  abbrev pub rest_fault : ℕ → QueueError
-  rest_fault a = let way = route m host.tables in
-      if allowed way a 6 permissions.Write then errors.InvalidUsedEntry else of_access (error_of (refusal way a 6))
-
   -- the address of length and id in the slot that is used next, if they can be written for a buffer that is out
   abbrev pub rest_place : PackedState → PackedBuffer → Result ℕ QueueError
   rest_place q buffer = if not q.ready then Err errors.QueueNotReady
       else if not (is_out q buffer) then Err errors.InvalidDescriptorIndex
-      else and_then (place q.desc_ring (16 * q.next_used.slot + 8) 6) (λ a.
-      if lies_whole m host a 6 permissions.Write then Ok a else Err (rest_fault a))
+      else room_at m host q.desc_ring (16 * q.next_used.slot + 8) 6
 
   -- where these and the flags go
   abbrev pub used_places : PackedState → PackedBuffer → Result (ℕ × Window) QueueError

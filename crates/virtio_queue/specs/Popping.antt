@@ -4,7 +4,7 @@ use Rattle.vm_memory_device.specs.Chain.{chain_fault}
 use Rattle.vm_memory_device.specs.declared.chain.Segment.{Segment}
 use Rattle.virtio_queue.specs.Available.{Followed, direct, if_chain, indirect_len}
 use Rattle.virtio_queue.specs.Descriptor.{has_next, is_indirect, segment_of}
-use Rattle.virtio_queue.specs.Looks.{Asks, and_asks, gives, if_ok, keeps, looks, row, word}
+use Rattle.virtio_queue.specs.Looks.{Asks, and_asks, gives, if_ok, keeps, takes, row, word}
 use Rattle.virtio_queue.specs.Rings.{ahead, slot}
 use Rattle.virtio_queue.specs.declared.descriptor.Descriptor.{Descriptor}
 use Rattle.virtio_queue.specs.declared.error.QueueError.TheVariants as errors
@@ -16,7 +16,7 @@ unfoldable pub following : ℕ → ℕ → ℕ → List Segment → ℕ → Asks
 following table len zero front i =
     if nat_lt i len then gives (Err errors.DescriptorLoop) else gives (Err errors.InvalidDescriptorIndex)
 following table len (suc most) front i = if nat_lt i len
-    then looks (row table i) (λ d.
+    then takes (row table i) (λ d.
     if is_indirect d then gives (Ok (record { segments = front; indirect = Some d }))
     else keeps (if has_next d then following table len most (front ++ segment_of d ∷ []) d.next
     else gives (Ok (record { segments = front ++ segment_of d ∷ []; indirect = None }))))
@@ -40,7 +40,7 @@ chain_from q head = and_asks (segments_from q head) (λ ss. gives (if_chain ss (
 
 -- the next head, if the driver has published one: a look at the driver's index, and one at the slot
 abbrev pub head_in_slot : QueueState → Asks (Option ℕ)
-head_in_slot q = looks (word q.avail_ring (4 + 2 * slot q.size q.next_avail)) (λ head. gives (Ok (Some head)))
+head_in_slot q = takes (word q.avail_ring (4 + 2 * slot q.size q.next_avail)) (λ head. gives (Ok (Some head)))
 
 abbrev pub head_behind : QueueState → ℕ → Asks (Option ℕ)
 head_behind q idx = if ahead idx q.next_avail == 0 then gives (Ok None)
@@ -48,7 +48,7 @@ head_behind q idx = if ahead idx q.next_avail == 0 then gives (Ok None)
     else head_in_slot q
 
 abbrev pub next_head : QueueState → Asks (Option ℕ)
-next_head q = if q.ready then looks (word q.avail_ring 2) (head_behind q) else gives (Err errors.QueueNotReady)
+next_head q = if q.ready then takes (word q.avail_ring 2) (head_behind q) else gives (Err errors.QueueNotReady)
 
 -- what is popped: the chain of that head, with the head
 abbrev pub chain_behind : QueueState → Option ℕ → Asks (Option (ℕ × List Segment))

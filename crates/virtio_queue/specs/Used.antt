@@ -2,14 +2,11 @@
 use Rattle.std.specs.Prelude.{◌≡◌, ◌⊎◌, ℕ, ◌+◌, ◌*◌, ◌<◌, nat_le, true, not, ◌&&◌, min, if◌then◌else◌, List, ◌++◌, option_map, Bool, Result, Ok, Err, MatchResult}
 use Rattle.std.specs.Int.{w32, to_le_bytes}
 use Rattle.vm_memory_base.specs.declared.iotlb.Permissions.TheVariants as permissions
-use Rattle.vm_memory_guest.specs.Access.{allowed, refusal}
-use Rattle.vm_memory_guest.specs.Error.{error_of}
 use Rattle.vm_memory_guest.specs.Host.{Host}
-use Rattle.vm_memory_guest.specs.Memory.{Memory, route}
+use Rattle.vm_memory_guest.specs.Memory.{Memory}
 use Rattle.vm_memory_guest.specs.Walk.{NeedsPieces}
 use Rattle.vm_memory_guest.specs.Window.{Window}
-use Rattle.virtio_queue.specs.Error.{of_access}
-use Rattle.virtio_queue.specs.Fields.{lies_whole, place, word_at, word_window, MayWant, Refuses, StoresWord, WritesBytes}
+use Rattle.virtio_queue.specs.Fields.{lies_whole, room_at, word_at, word_window, MayWant, Refuses, StoresWord, WritesBytes}
 use Rattle.virtio_queue.specs.Rings.{WantsThen, and_then, behind, slot}
 use Rattle.virtio_queue.specs.State.{Virtqueue}
 use Rattle.virtio_queue.specs.declared.error.QueueError.{QueueError}
@@ -44,17 +41,11 @@ module _ {B : Type 0} (m : Memory) (host : Host B) where
   abbrev pub MayWantUsedIdx : QueueState → Type 0
   MayWantUsedIdx q = (q.ready ≡ true) × MayWant m host q.used_ring 2 2 permissions.Read
 
-  -- why an entry cannot be written at an address: its translation is refused, or it does not lie whole in memory
-  abbrev pub entry_fault : ℕ → QueueError
-  entry_fault a = let way = route m host.tables in
-      if allowed way a 8 permissions.Write then errors.InvalidUsedEntry else of_access (error_of (refusal way a 8))
-
   -- the address of the entry of the next index, if it can be written for a head, which has to be below the size
   abbrev pub entry_place : QueueState → ℕ → Result ℕ QueueError
   entry_place q head = if not q.ready then Err errors.QueueNotReady
       else if nat_le q.size head then Err errors.InvalidDescriptorIndex
-      else and_then (place q.used_ring (4 + 8 * slot q.size q.next_used) 8) (λ a.
-      if lies_whole m host a 8 permissions.Write then Ok a else Err (entry_fault a))
+      else room_at m host q.used_ring (4 + 8 * slot q.size q.next_used) 8
 
   -- where the entry and the index go
   abbrev pub used_places : QueueState → ℕ → Result (ℕ × Window) QueueError

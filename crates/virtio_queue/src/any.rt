@@ -1,7 +1,7 @@
 //! Queues of either kind.
-ghost use Rattle.std.specs.Prelude.{◌≡◌, None, Ok, false};
+ghost use Rattle.std.specs.Prelude.{◌≡◌, None, Ok, false, OnOk};
 ghost use Rattle.vm_memory_guest.specs.Host.{shape_of, Holds};
-ghost use Rattle.virtio_queue.specs.Any.{AddsUsed, Disables, Enables, HasNone, MayWantChain, MayWantNeeds, MayWantValid, Waits, after_asked, after_pop, after_used, asking, at_next, has_event_idx, max_size_of, needs_notification, next_avail_of, past, popped, popping, unset, valid, with_event_idx, with_ready};
+ghost use Rattle.virtio_queue.specs.Any.{AddsUsed, Disables, Enables, HasNone, MayWantChain, MayWantNeeds, MayWantValid, Offers, Waits, after_asked, after_pop, after_used, asking, at_next, disabling, enabling, has_event_idx, max_size_of, needs_notification, next_avail_of, past, popped, popping, returning, unset, valid, with_event_idx, with_ready};
 ghost use Rattle.virtio_queue.specs.Fields.{Answers};
 ghost use Rattle.virtio_queue.specs.Looks.{Follows};
 ghost use Rattle.virtio_queue.specs.declared.packed.state.PackedBuffer.{PackedBuffer};
@@ -10,6 +10,7 @@ use crate::error::QueueError;
 use crate::looks::Looks;
 use crate::packed::{PackedBuffer, PackedQueue, RingPosition};
 use crate::queue::Queue;
+use crate::stores::Stores;
 use std::alloc::Global;
 use vm_memory_base::Bitmap;
 use vm_memory_device::Chain;
@@ -168,6 +169,26 @@ impl AnyQueue {
         }
     }
 
+    /// As `add_used`, in memory that a driver may write meanwhile.
+    #[inline(always)]
+    pub fn add_used_in<H, S: Stores<H>>(
+        &mut self,
+        mem: &S,
+        host: &mut H,
+        buffer: PackedBuffer,
+        len: u32,
+    ) -> Result<(), QueueError>
+        requires { S.held mem.now host.old }
+        ensures stores { Follows (S.steps mem.now) (returning self.old buffer len) host.old result host.new }
+        ensures moved { self.new ≡ after_used self.old buffer result }
+        ensures held { S.held mem.now host.new }
+    {
+        match self {
+            AnyQueue::Split(queue) => queue.add_used_in(mem, host, buffer.id, len),
+            AnyQueue::Packed(queue) => queue.add_used_in(mem, host, buffer, len),
+        }
+    }
+
     /// Whether the driver has to be notified of what was returned since the last call of this.
     #[inline(always)]
     pub fn needs_notification<M: GuestMemory, B: Bitmap>(
@@ -207,12 +228,30 @@ impl AnyQueue {
     ) -> Result<bool, QueueError>
         requires { Holds (shape_of host.old) (M.names mem.now) }
         ensures enabled { Enables B.marks (M.memory mem.now) self.now host.old result host.new }
+        ensures offers { OnOk result (Offers (M.memory mem.now) host.new self.now) }
         ensures waits { result ≡ Ok false → Waits (M.memory mem.now) host.new self.now }
         ensures shape { shape_of host.new ≡ shape_of host.old }
     {
         match self {
             AnyQueue::Split(queue) => queue.enable_notification(mem, host),
             AnyQueue::Packed(queue) => queue.enable_notification(mem, host),
+        }
+    }
+
+    /// As `enable_notification`, in memory that a driver may write meanwhile.
+    #[inline(always)]
+    pub fn enable_notification_in<H, S: Stores<H>>(
+        &self,
+        mem: &S,
+        host: &mut H,
+    ) -> Result<bool, QueueError>
+        requires { S.held mem.now host.old }
+        ensures stores { Follows (S.steps mem.now) (enabling self.now) host.old result host.new }
+        ensures held { S.held mem.now host.new }
+    {
+        match self {
+            AnyQueue::Split(queue) => queue.enable_notification_in(mem, host),
+            AnyQueue::Packed(queue) => queue.enable_notification_in(mem, host),
         }
     }
 
@@ -230,6 +269,23 @@ impl AnyQueue {
         match self {
             AnyQueue::Split(queue) => queue.disable_notification(mem, host),
             AnyQueue::Packed(queue) => queue.disable_notification(mem, host),
+        }
+    }
+
+    /// As `disable_notification`, in memory that a driver may write meanwhile.
+    #[inline(always)]
+    pub fn disable_notification_in<H, S: Stores<H>>(
+        &self,
+        mem: &S,
+        host: &mut H,
+    ) -> Result<(), QueueError>
+        requires { S.held mem.now host.old }
+        ensures stores { Follows (S.steps mem.now) (disabling self.now) host.old result host.new }
+        ensures held { S.held mem.now host.new }
+    {
+        match self {
+            AnyQueue::Split(queue) => queue.disable_notification_in(mem, host),
+            AnyQueue::Packed(queue) => queue.disable_notification_in(mem, host),
         }
     }
 

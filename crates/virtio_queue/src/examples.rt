@@ -2,11 +2,14 @@
 ghost use Rattle.std.specs.Prelude.{◌≡◌, ℕ, ◌+◌, ◌^◌, true, false, [], ◌∷◌, Some, None, Ok, Err};
 ghost use Rattle.virtio_queue.specs.Available.{followed, indirect_len};
 ghost use Rattle.virtio_queue.specs.Descriptor.{segment_of};
+ghost use Rattle.virtio_queue.specs.Looks.{Follows, Saw, row, saw, word};
 ghost use Rattle.virtio_queue.specs.Notification.{is_among};
+ghost use Rattle.virtio_queue.specs.Popping.{next_head, segments_from};
 ghost use Rattle.virtio_queue.specs.Rings.{before, behind, next_in};
 ghost use Rattle.virtio_queue.specs.State.{is_size};
 ghost use Rattle.virtio_queue.specs.declared.descriptor.Descriptor.{Descriptor};
 ghost use Rattle.virtio_queue.specs.declared.error.QueueError.TheVariants.{DescriptorLoop, IndirectWithNext, InvalidAvailRingIndex, InvalidDescriptorIndex, InvalidIndirectTable};
+ghost use Rattle.virtio_queue.specs.declared.state.QueueState.{QueueState};
 
 /// Sizes are powers of two. Indices go on from 65535 to 0. A ring of two heads, 7 and 8, gives the one at the next
 /// index, even there; nothing if the driver has published no more; and no index that is three ahead.
@@ -40,4 +43,25 @@ pub fn chains_are_followed()
     ensures tables { (indirect_len (record { addr = 64; len = 48; flags = 4; next = 0 }) ≡ Ok 3)
         × (indirect_len (record { addr = 64; len = 24; flags = 4; next = 0 }) ≡ Err InvalidIndirectTable)
         × (indirect_len (record { addr = 64; len = 48; flags = 5; next = 0 }) ≡ Err IndirectWithNext) }
+{}
+
+/// A driver publishes a chain whose only descriptor leads to itself, and makes it the last one after the first look at
+/// it. The next look finds that, and the segments of the chain are those that the two looks found.
+pub fn pops_take_what_each_look_finds()
+    ensures { (table avail used : ℕ) → let q : QueueState = record {
+      max_size = 2;
+      size = 2;
+      ready = true;
+      desc_table = table;
+      avail_ring = avail;
+      used_ring = used;
+      next_avail = 0;
+      next_used = 0;
+      event_idx_enabled = false;
+    } in
+        let first : Descriptor = record { addr = 64; len = 7; flags = 1; next = 0 } in
+        let later : Descriptor = record { addr = 64; len = 9; flags = 0; next = 0 } in
+        Follows Saw (next_head q) (saw (word avail 2) (Ok 1) ∷ saw (word avail 4) (Ok 0) ∷ []) (Ok (Some 0)) []
+        × Follows Saw (segments_from q 0) (saw (row table 0) (Ok first) ∷ saw (row table 0) (Ok later) ∷ [])
+        (Ok (segment_of first ∷ segment_of later ∷ [])) [] }
 {}

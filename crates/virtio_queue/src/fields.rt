@@ -1,5 +1,5 @@
 //! The fields of a queue in guest memory: each is read or written by one access.
-ghost use Rattle.std.specs.Prelude.{◌≡◌, ◌+◌, ◌*◌, ◌<◌, ◌^◌, ◌++◌, ◌∷◌, [], true, option_map, All, Ok, IfOk, IsTrue, MatchResult, OnOk};
+ghost use Rattle.std.specs.Prelude.{◌≡◌, ◌⊎◌, ◌+◌, ◌*◌, ◌<◌, ◌^◌, ◌++◌, ◌∷◌, [], true, option_map, All, Ok, IfOk, IsTrue, MatchResult, OnOk};
 ghost use Rattle.std.specs.Int.{w16, w32, from_le_bytes, to_le_bytes};
 ghost use Rattle.vm_memory_base.specs.declared.iotlb.Permissions.TheVariants.{Read, Write};
 ghost use Rattle.vm_memory_guest.specs.Error.{error_of};
@@ -8,7 +8,7 @@ ghost use Rattle.vm_memory_guest.specs.Typed.{first_aligned};
 ghost use Rattle.vm_memory_guest.specs.Walk.{NeedsPieces};
 ghost use Rattle.vm_memory_guest.specs.Window.{Writes, cells_of, window_names};
 ghost use Rattle.virtio_queue.specs.Driver.{Puts};
-ghost use Rattle.virtio_queue.specs.Fields.{Answers, MayWant, StoresWord, WritesBytes, descriptor_at, is_word, lies_whole, pair_at, place, stored_at, told, window_at, word_at};
+ghost use Rattle.virtio_queue.specs.Fields.{Answers, MayWant, StoresWord, WritesBytes, descriptor_at, is_word, lies_whole, pair_at, place, room_at, room_fault, stored_at, told, window_at, word_at};
 
 use crate::descriptor::Descriptor;
 use crate::error::QueueError;
@@ -207,6 +207,29 @@ pub(crate) fn write_pair<M: GuestMemory, B: Bitmap>(
     }
 }
 
+// Writes a number of 32 bits and one of 16 bits to an address at which they lie whole.
+#[inline]
+pub(crate) fn write_rest<M: GuestMemory, B: Bitmap>(
+    mem: &M,
+    host: &mut HostMemory<B>,
+    addr: u64,
+    len: u32,
+    id: u16,
+) -> Result<(), QueueError>
+    requires held { Holds (shape_of host.old) (M.names mem.now) }
+    requires whole { IsTrue (lies_whole (M.memory mem.now) host.old addr 6 Write) }
+    ensures written { let m = M.memory mem.now in MatchResult result
+        (λ _. WritesBytes B.marks m addr (to_le_bytes w32 len ++ to_le_bytes w16 id) host.old host.new)
+        (λ e. (e ≡ QueueError.Memory) × NeedsPieces m host.old.tables addr 6 Write × (host.new ≡ host.old)) }
+    ensures shape { shape_of host.new ≡ shape_of host.old }
+{
+    accesses_are_by_bytes::<()>();
+    match Bytes::write_obj(mem, host, (len, id), GuestAddress(addr)) {
+        Ok(()) => Ok(()),
+        Err(error) => Err(QueueError::of_access(error)),
+    }
+}
+
 // Writes a value so far behind an address, as far as memory goes.
 pub(crate) fn put_value<T: ByteValued, M: GuestMemory, B: Bitmap>(
     mem: &M,
@@ -270,5 +293,52 @@ pub(crate) fn lies_whole<M: GuestMemory, B: Bitmap>(
     match mem.check_range(host, GuestAddress(addr), count as usize, access) {
         Ok(whole) => Ok(whole),
         Err(error) => Err(QueueError::of_access(error)),
+    }
+}
+
+// The address of so many bytes that can be written so far behind an address.
+#[inline]
+pub(crate) fn room_at<M: GuestMemory, B: Bitmap>(
+    mem: &M,
+    host: &HostMemory<B>,
+    base: u64,
+    offset: u64,
+    size: u64,
+) -> Result<u64, QueueError>
+    requires held { Holds (shape_of host.now) (M.names mem.now) }
+    requires some { 0 < size }
+    requires near { offset + size < 2 ^ 32 }
+    ensures room { let m = M.memory mem.now in
+        Answers (MayWant m host.now base offset size Write) (room_at m host.now base offset size) result }
+    ensures whole { IfOk result (λ a. IsTrue (lies_whole (M.memory mem.now) host.now a size Write)) }
+{
+    let addr = place(base, offset, size)?;
+    if lies_whole(mem, host, addr, size, Permissions::Write)? {
+        return Ok(addr);
+    }
+    Err(room_fault(mem, host, addr, size))
+}
+
+// Why so many bytes cannot be written at an address, at which they do not lie whole.
+#[cold]
+#[inline(never)]
+fn room_fault<M: GuestMemory, B: Bitmap>(
+    mem: &M,
+    host: &HostMemory<B>,
+    addr: u64,
+    size: u64,
+) -> QueueError
+    requires held { Holds (shape_of host.now) (M.names mem.now) }
+    requires near { size < 2 ^ 32 }
+    ensures { let m = M.memory mem.now in
+        (result ≡ room_fault m host.now addr size)
+        ⊎ ((result ≡ QueueError.Memory) × NeedsPieces m host.now.tables addr size Write) }
+{
+    match mem.get_slices(host, GuestAddress(addr), size as usize, Permissions::Write) {
+        Ok(walk) => {
+            drop(walk);
+            QueueError::InvalidUsedEntry
+        }
+        Err(error) => QueueError::of_access(error),
     }
 }

@@ -1,26 +1,32 @@
 //! What becomes of the heads and entries of a queue: each function here is a theorem, and does nothing.
-ghost use Rattle.std.specs.Prelude.{◌≡◌, ◌⊎◌, ◌<◌, ◌≤◌, ◌^◌, ℕ, true, List, All, length, take, slice_get, IsTrue, Result, Ok, Err};
+ghost use Rattle.std.specs.Prelude.{◌≡◌, ◌⊎◌, ◌<◌, ◌≤◌, ◌^◌, ℕ, [], true, Bool, List, Option, All, length, take, slice_get, IsTrue, Result, Ok, Err};
 ghost use Rattle.std.specs.Int.{w16, to_le_bytes};
 ghost use Rattle.vm_memory_base.specs.declared.iotlb.Permissions.TheVariants.{Write};
 ghost use Rattle.vm_memory_guest.specs.Access.{Reached};
 ghost use Rattle.vm_memory_guest.specs.Dirt.{after_write, with_pages};
 ghost use Rattle.vm_memory_guest.specs.Host.{Host};
-ghost use Rattle.vm_memory_guest.specs.Memory.{Memory};
+ghost use Rattle.vm_memory_guest.specs.Memory as guest;
 ghost use Rattle.vm_memory_guest.specs.Region.{IsRegion};
 ghost use Rattle.vm_memory_guest.specs.Typed.{typed_path};
+ghost use Rattle.vm_memory_device.specs.declared.chain.Segment.{Segment};
+ghost use Rattle.virtio_queue.specs.Any.{asking, popping};
 ghost use Rattle.virtio_queue.specs.Available.{Followed, avail_idx, entry, followed, head_in, next_head};
 ghost use Rattle.virtio_queue.specs.Fields.{StoresWord, place, reached_at};
 ghost use Rattle.virtio_queue.specs.History.{Entry, Event, Return, Rings, Story, AllMay, after, beginning, empty_rings, entry_to_take, head_to_pop, story};
 ghost use Rattle.virtio_queue.specs.Linked.{AreLinked, LeadsTo, told_by};
+ghost use Rattle.virtio_queue.specs.Looks.{Follows, Saw, Seen};
 ghost use Rattle.virtio_queue.specs.Notification.{is_among};
 ghost use Rattle.virtio_queue.specs.Rings.{ahead, slot};
 ghost use Rattle.virtio_queue.specs.State.{Virtqueue, is_size};
 ghost use Rattle.virtio_queue.specs.Used.{WritesEntry, after_used, entry_bytes, entry_place};
+ghost use Rattle.virtio_queue.specs.declared.any.AnyQueue.{AnyQueue};
 ghost use Rattle.virtio_queue.specs.declared.descriptor.Descriptor.{Descriptor};
 ghost use Rattle.virtio_queue.specs.declared.error.QueueError.{QueueError};
-ghost use Rattle.virtio_queue.specs.declared.error.QueueError.TheVariants.{DescriptorLoop, InvalidDescriptorIndex};
+ghost use Rattle.virtio_queue.specs.declared.error.QueueError.TheVariants.{DescriptorLoop, InvalidDescriptorIndex, Memory};
+ghost use Rattle.virtio_queue.specs.declared.packed.state.PackedBuffer.{PackedBuffer};
 ghost use Rattle.virtio_queue.specs.declared.state.QueueState.{QueueState};
 
+use crate::looks::Looks;
 use vm_memory_base::{Bitmap, ExactBitmap};
 use vm_memory_guest::laws::accesses::accesses_are_by_bytes;
 use vm_memory_guest::laws::typed::loads_and_stores_are_by_bytes;
@@ -58,12 +64,12 @@ pub fn chains_are_refused_where_they_lead()
 /// A store of a number of 16 bits, in a host with exact bitmaps, is the write of its bytes, one after the other, and so
 /// is the write of a used entry: each byte takes its place, and leaves its dirt. Nothing else changes.
 pub fn used_entries_are_written_by_bytes<B: ExactBitmap>()
-    ensures stored { (m : Memory) (base offset value : ℕ) (old new : Host B) → All IsRegion m.regions
+    ensures stored { (m : guest.Memory) (base offset value : ℕ) (old new : Host B) → All IsRegion m.regions
         → StoresWord B.marks m base offset value old (Ok tt) new
         → (a : ℕ) × (xs : List Reached) × (place base offset 2 ≡ Ok a)
         × (typed_path 2 (reached_at m old a 2 Write) ≡ Ok xs)
         × (with_pages B.pages new ≡ after_write xs (to_le_bytes w16 value) (with_pages B.pages old)) }
-    ensures entry { (m : Memory) (q : QueueState) (head len : ℕ) (old new : Host B) → All IsRegion m.regions
+    ensures entry { (m : guest.Memory) (q : QueueState) (head len : ℕ) (old new : Host B) → All IsRegion m.regions
         → WritesEntry B.marks m q head len old new
         → (a : ℕ) × (entry_place m old q head ≡ Ok a)
         × (with_pages B.pages new
@@ -73,10 +79,24 @@ pub fn used_entries_are_written_by_bytes<B: ExactBitmap>()
     loads_and_stores_are_by_bytes::<B>();
 }
 
+/// Whatever a driver writes while a call looks at memory, and whatever is known of these looks: what they found, one
+/// after another, makes the answer. If the same is found again, it is the same answer, unless an allocation fails.
+pub fn answers_are_made_of_what_looks_found<L: Looks>()
+    ensures popped { (q : AnyQueue) (old new : L) (result : Result (Option (PackedBuffer × List Segment)) QueueError)
+        → Follows L.looks (popping q) old result new
+        → (seen : List Seen) × Follows Saw (popping q) seen result [] }
+    ensures asked { (q : AnyQueue) (old new : L) (result : Result Bool QueueError)
+        → Follows L.looks (asking q) old result new → (seen : List Seen) × Follows Saw (asking q) seen result [] }
+    ensures once { (q : AnyQueue) (seen : List Seen)
+        (one other : Result (Option (PackedBuffer × List Segment)) QueueError)
+        → Follows Saw (popping q) seen one [] → Follows Saw (popping q) seen other []
+        → (one ≡ other) ⊎ (one ≡ Err Memory) ⊎ (other ≡ Err Memory) }
+{}
+
 /// If the rings of a history say what lies in memory, the head that a queue pops next is the one that an event of
 /// the history pops.
 pub fn queues_pop_as_histories_do<B: Bitmap>()
-    ensures { (m : Memory) (host : Host B) (q : QueueState) (r : Rings) → q.next_avail ≡ r.next_avail
+    ensures { (m : guest.Memory) (host : Host B) (q : QueueState) (r : Rings) → q.next_avail ≡ r.next_avail
         → avail_idx m host q ≡ Ok r.avail_idx
         → ((i : ℕ) → i < q.size → head_in m host q i ≡ Ok (r.avail i)) → 0 < q.size
         → next_head m host q ≡ head_to_pop q.size r }
@@ -95,10 +115,11 @@ pub fn queues_return_as_histories_do()
 {}
 
 /// A driver that notifies its device by the rule of event indices notifies one that waits. Its index goes on from the
-/// one that the device asks for: then this head is among those that it publishes, however many.
+/// one that the device asks for: then this head is among those that it publishes, however many, and also if its batch
+/// counts heads that it published before.
 pub fn waiting_devices_are_notified()
-    ensures { (old new : ℕ) → old < 2 ^ 16 → new < 2 ^ 16 → (new ≡ old → ⊥)
-        → is_among (ahead new old) new old ≡ true }
+    ensures { (old new count : ℕ) → old < 2 ^ 16 → new < 2 ^ 16 → (new ≡ old → ⊥) → ahead new old ≤ count
+        → is_among count new old ≡ true }
 {}
 
 /// After all events in which the driver has at most `size` heads out, and the device returns no more than it popped:

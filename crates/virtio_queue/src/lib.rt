@@ -8,17 +8,20 @@ mod driver;
 mod error;
 pub mod examples;
 mod fields;
+mod in_flight;
 pub mod laws;
 mod looks;
 mod packed;
 pub mod packed_laws;
 mod queue;
 mod state;
+mod stores;
 
 pub use any::AnyQueue;
 pub use descriptor::{Descriptor, VRING_DESC_F_INDIRECT, VRING_DESC_F_NEXT, VRING_DESC_F_WRITE};
 pub use driver::{DriverQueue, QueueField};
 pub use error::QueueError;
+pub use in_flight::{InFlight, chains_in_flight_end_once};
 pub use looks::Looks;
 pub use packed::{
     PackedBuffer, PackedDescriptor, PackedDriver, PackedField, PackedQueue, PackedState,
@@ -27,3 +30,4 @@ pub use packed::{
 };
 pub use queue::{Queue, VRING_AVAIL_F_NO_INTERRUPT, VRING_USED_F_NO_NOTIFY};
 pub use state::QueueState;
+pub use stores::Stores;

@@ -268,6 +268,9 @@ module _ {X : Type 0} (region : X → Region) where
         start_is : (region (get_or xs (n - 1) x)).start ≡ start
         start_is = let same = length-starts in sym (is ∙ start-at (n - 1) x (omega arith))
 
+        pub region-started : (region x).start ≡ start
+        region-started = ap (λ (y : X). (region y).start) at ∙ start_is
+
         pub containing_in-before : a - start < (region x).len → Some x ≡ containing_in region xs a
         containing_in-before h =
             let same = length-starts in

@@ -18,7 +18,7 @@ use crate::region::error::GuestRegionCollectionError;
 use std::alloc::{AllocError, Global};
 use std::marker::Model;
 use std::sync::Arc;
-use vm_memory_base::{GuestAddress, GuestUsize};
+use vm_memory_base::{GuestAddress, GuestUsize, MemoryRegionAddress};
 
 /// A layout of guest physical memory: disjoint regions, ascending.
 #[derive(Debug, Drop)]
@@ -186,15 +186,37 @@ impl<R: GuestMemoryRegion> GuestRegionCollection<R> {
         ensures probes { result.1 ≡ binary_digits (length self.now) }
         ensures layout { IsLayout (map R.region self.now) }
     {
+        let (found, _, probes) = self.search(addr);
+        match found {
+            Some((region, _)) => (Some(region), probes),
+            None => (None, probes),
+        }
+    }
+
+    // The region that holds an address and the address's offset there, a number that is the region's, and the number
+    // of probes. The start that the search found gives the offset, so that the region's is not read again.
+    #[inline(always)]
+    fn search(&self, addr: GuestAddress) -> (Option<(&R, MemoryRegionAddress)>, usize, usize)
+        ensures found { let home = containing_in R.region self.now addr.0 in
+            MatchOption result.0 (home ≡ None)
+            (λ p. (home ≡ Some p.0.now) × (p.1.0 ≡ addr.0 - (R.region p.0.now).start)) }
+        ensures probes { result.2 ≡ binary_digits (length self.now) }
+        ensures layout { IsLayout (map R.region self.now) }
+    {
         let (next, start, probes) = first_above(self.starts.as_slice(), addr.0);
         if next == 0 {
-            return (None, probes);
+            return (None, 0, probes);
         }
         let region = &*self.regions[next - 1];
-        if addr.0 - start < region.len() {
-            (Some(region), probes)
+        let offset = addr.0 - start;
+        if offset < region.len() {
+            (
+                Some((region, MemoryRegionAddress(offset))),
+                next - 1,
+                probes,
+            )
         } else {
-            (None, probes)
+            (None, next - 1, probes)
         }
     }
 }
@@ -268,6 +290,27 @@ impl<R: GuestMemoryRegion> GuestMemoryBackend for GuestRegionCollection<R> {
     #[inline]
     fn find_region(&self, addr: GuestAddress) -> Option<&R> {
         GuestRegionCollection::find_region(self, addr)
+    }
+
+    #[inline]
+    fn to_region_addr(&self, addr: GuestAddress) -> Option<(&R, MemoryRegionAddress)> {
+        self.search(addr).0
+    }
+
+    #[inline]
+    fn find_near(
+        &self,
+        addr: GuestAddress,
+        hint: usize,
+    ) -> (Option<(&R, MemoryRegionAddress)>, usize) {
+        self.known();
+        if let Some(region) = GuestRegionCollection::region_at(self, hint) {
+            if let Some(offset) = region.to_region_addr(addr) {
+                return (Some((region, offset)), hint);
+            }
+        }
+        let (found, number, _) = self.search(addr);
+        (found, number)
     }
 }
 

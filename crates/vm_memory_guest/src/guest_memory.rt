@@ -12,6 +12,7 @@ ghost use Rattle.vm_memory_guest.specs.Walk.{items_of, GivesAccess, RefusesAcces
 
 pub mod access;
 pub mod backend;
+pub mod hinted;
 pub mod iter;
 mod pieces;
 pub mod stop_on_error;

@@ -20,6 +20,7 @@ pub use atomic::{
 pub use bytes::Bytes;
 pub use collection::GuestRegionCollection;
 pub use guest_memory::backend::{GuestMemoryBackend, GuestMemoryBackendSliceIterator};
+pub use guest_memory::hinted::Hinted;
 pub use guest_memory::iter::RegionIter;
 pub use guest_memory::stop_on_error::{GuestMemorySliceIterator, StopOnError};
 pub use guest_memory::{GuestMemory, IommuMemorySliceIterator};

@@ -10,7 +10,7 @@ use std::process::ExitCode;
 use vm_memory::{DriveFault, drive};
 
 // The names of the Rust crate 0.18.0, and the number of the port.
-const VERSION: &str = "0.18.0+1";
+const VERSION: &str = "0.1.0";
 
 // What `--help` prints after the usage. docs/SCRIPT.md has the same lines with their replies and refusals.
 const LINES: &str = "\

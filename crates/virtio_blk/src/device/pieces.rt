@@ -153,6 +153,18 @@ fn data_reader(chain: &Chain) -> ChainReader<'_>
     reader
 }
 
+// Where the data of a write begin, if the disk takes guest memory and they are one segment.
+#[inline]
+fn lent_start<D: Disk>(disk: &D, chain: &Chain, len: usize) -> Option<GuestAddress>
+    requires { len ≡ length (drop 16 (text (readable chain.now))) }
+    ensures { MatchOption result (Unit {0}) (λ a. drop 16 (text (readable chain.now)) ≡ entries_from a.0 len) }
+{
+    if !disk.takes_guest_memory() {
+        return None;
+    }
+    data_segment(chain, len)
+}
+
 // Moves the data of a write to the disk, from a sector on, brings it to where it stays if that is asked for, and says
 // the status, and whether memory was wanted.
 pub(super) fn store_data<D: Disk, M: GuestMemory, B: Bitmap>(
@@ -174,7 +186,7 @@ pub(super) fn store_data<D: Disk, M: GuestMemory, B: Bitmap>(
         (Stores D.bytes D.sectors D.calls m host.now es sector (length es) disk.old result.0 result.1 disk.new) }
 {
     let mut reader = data_reader(chain);
-    let start = data_segment(chain, reader.left());
+    let start = lent_start(disk, chain, reader.left());
     if flush {
         store_to_stay(disk, &mut reader, mem, host, start, sector, buffer)
     } else {

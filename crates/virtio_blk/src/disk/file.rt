@@ -53,6 +53,11 @@ impl Disk for FileDisk {
         Ok(())
     }
 
+    #[inline]
+    fn takes_guest_memory(&self) -> bool {
+        true
+    }
+
     fn write(&mut self, sector: u64, data: &[u8]) -> Result<(), DiskError> {
         self.go_to(sector)?;
         self.file.write_all(data)?;

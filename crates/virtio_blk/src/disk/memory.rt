@@ -59,6 +59,11 @@ impl Disk for MemoryDisk {
         Some(&self.bytes.as_slice()[at..at + len])
     }
 
+    #[inline]
+    fn takes_guest_memory(&self) -> bool {
+        true
+    }
+
     fn write(&mut self, sector: u64, data: &[u8]) -> Result<(), DiskError> {
         put(self.bytes.as_mut_slice(), sector as usize * 512, data);
         Ok(())

@@ -1,24 +1,23 @@
 //! Notifications: when the driver has to be notified of used slots, and the device of available ones.
-ghost use Rattle.std.specs.Prelude.{◌≡◌, ◌*◌, ◌<◌, ◌≤◌, ◌^◌, false, true, Ok, IfOk, OnOk};
+ghost use Rattle.std.specs.Prelude.{◌≡◌, ◌*◌, ◌<◌, ◌≤◌, ◌^◌, false, Ok, OnOk};
 ghost use Rattle.vm_memory_guest.specs.Host.{shape_of, Holds};
-ghost use Rattle.vm_memory_guest.specs.Window.{window_names};
 ghost use Rattle.virtio_queue.specs.Asking.{packed_needing, packed_wanting};
-ghost use Rattle.virtio_queue.specs.Fields.{Answers, is_word, stored_at};
+ghost use Rattle.virtio_queue.specs.Fields.{Answers};
 ghost use Rattle.virtio_queue.specs.Looks.{Follows};
-ghost use Rattle.virtio_queue.specs.PackedEvents.{Disables, EnablesIfReady, MayWantKick, MayWantNeeds, Offers, Waits, after_asked, count_of, is_passed, kick_flags, kick_places, needs_notification};
+ghost use Rattle.virtio_queue.specs.PackedEvents.{Disables, EnablesIfReady, MayWantNeeds, Offers, Waits, after_asked, count_of, is_passed, kick_flags, needs_notification};
+ghost use Rattle.virtio_queue.specs.Stores.{packed_disabling, packed_enabling};
 
 use super::PackedQueue;
 use super::descriptor::is_available;
 use super::position::RingPosition;
 use super::state::PackedState;
 use crate::error::QueueError;
-use crate::fields::{load_in, store_in, store_word, window_at};
 use crate::looks::{Lent, Looks};
 use crate::queue::BarrierWord;
+use crate::stores::{Stores, Whole};
 use vm_memory_base::{Bitmap, Permissions};
-use vm_memory_guest::laws::effects::{other_bytes_stay, writes_keep_shapes, written_is_read_back};
-use vm_memory_guest::laws::typed::loads_and_stores_are_by_bytes;
-use vm_memory_guest::{GuestMemory, HostMemory, VolatileSlice};
+use vm_memory_guest::laws::effects::{other_bytes_stay, writes_keep_shapes};
+use vm_memory_guest::{GuestMemory, HostMemory};
 
 /// The flags by which a side asks for a notification of each chain.
 pub const VRING_PACKED_EVENT_FLAG_ENABLE: u16 = 0;
@@ -96,28 +95,6 @@ fn kick_flags(state: &PackedState) -> u16
     }
 }
 
-// Where a device writes when it is to be notified: the offset and the flags. And where it finds the flags of the next
-// chain.
-#[inline]
-fn kick_places<M: GuestMemory, B: Bitmap>(
-    mem: &M,
-    host: &HostMemory<B>,
-    state: &PackedState,
-) -> Result<(VolatileSlice, VolatileSlice, VolatileSlice), QueueError>
-    requires { Holds (shape_of host.now) (M.names mem.now) }
-    ensures places { let m = M.memory mem.now in
-        Answers (MayWantKick m host.now state.now) (kick_places m host.now state.now) result }
-    ensures held { IfOk result (λ p. Holds (shape_of host.now) (window_names p.0)
-        × Holds (shape_of host.now) (window_names p.1) × Holds (shape_of host.now) (window_names p.2)) }
-    ensures words { IfOk result (λ p. (is_word p.0 ≡ true) × (is_word p.1 ≡ true) × (is_word p.2 ≡ true)) }
-{
-    let offset = window_at(mem, host, state.device_area, 0, Permissions::Write)?;
-    let flags = window_at(mem, host, state.device_area, 2, Permissions::Write)?;
-    let behind = 16 * u64::from(state.next_avail.slot) + 14;
-    let next = window_at(mem, host, state.desc_ring, behind, Permissions::Read)?;
-    Ok((offset, flags, next))
-}
-
 impl PackedQueue {
     /// Whether the driver has to be notified of what was returned since the last call of this. It has to if its flags
     /// ask for it, or, with event indices, if they lead to its offset and that is one of the slots that were used. An
@@ -164,24 +141,42 @@ impl PackedQueue {
     ) -> Result<bool, QueueError>
         requires { Holds (shape_of host.old) (M.names mem.now) }
         ensures enabled { EnablesIfReady B.marks (M.memory mem.now) self.now.state host.old result host.new }
-        ensures offers { OnOk result (Offers (M.memory mem.now) host.old host.new self.now.state) }
+        ensures offers { OnOk result (Offers (M.memory mem.now) host.new self.now.state) }
         ensures waits { result ≡ Ok false → Waits (M.memory mem.now) host.new self.now.state }
         ensures shape { shape_of host.new ≡ shape_of host.old }
+    {
+        other_bytes_stay();
+        writes_keep_shapes::<B>();
+        self.enable_notification_in(&Whole { mem }, host)
+    }
+
+    /// As `enable_notification`, in memory that a driver may write meanwhile. Whatever it writes: this looks all places
+    /// up, stores the offset and then the flags, and then looks at the flags of the next slot, each once.
+    #[inline]
+    pub fn enable_notification_in<H, S: Stores<H>>(
+        &self,
+        mem: &S,
+        host: &mut H,
+    ) -> Result<bool, QueueError>
+        requires { S.held mem.now host.old }
+        ensures stores { Follows (S.steps mem.now) (packed_enabling self.now.state) host.old result host.new }
+        ensures held { S.held mem.now host.new }
     {
         if !self.state.ready {
             return Err(QueueError::QueueNotReady);
         }
-        written_is_read_back();
-        other_bytes_stay();
-        writes_keep_shapes::<B>();
-        loads_and_stores_are_by_bytes::<()>();
         let state = &self.state;
-        let (offset, flags, next) = kick_places(mem, host, state)?;
-        store_in(&offset, host, state.next_avail.to_bits());
+        let area = state.device_area;
+        let behind = 16 * u64::from(state.next_avail.slot) + 14;
+        let offset = mem.spot(host, Permissions::Write, area, 0)?;
+        let flags = mem.spot(host, Permissions::Write, area, 2)?;
+        let next = mem.spot(host, Permissions::Read, state.desc_ring, behind)?;
+        mem.store(host, area, 0, &offset, state.next_avail.to_bits());
         self.barrier.full_barrier();
-        store_in(&flags, host, kick_flags(state));
+        mem.store(host, area, 2, &flags, kick_flags(state));
         self.barrier.full_barrier();
-        Ok(is_available(load_in(&next, host), state.next_avail.wrap))
+        let found = mem.load(host, state.desc_ring, behind, &next);
+        Ok(is_available(found, state.next_avail.wrap))
     }
 
     /// Asks the driver not to notify the device, also with event indices.
@@ -194,10 +189,26 @@ impl PackedQueue {
         ensures disabled { Disables B.marks (M.memory mem.now) self.now.state host.old result host.new }
         ensures shape { shape_of host.new ≡ shape_of host.old }
     {
+        self.disable_notification_in(&Whole { mem }, host)
+    }
+
+    /// As `disable_notification`, in memory that a driver may write meanwhile.
+    #[inline]
+    pub fn disable_notification_in<H, S: Stores<H>>(
+        &self,
+        mem: &S,
+        host: &mut H,
+    ) -> Result<(), QueueError>
+        requires { S.held mem.now host.old }
+        ensures stores { Follows (S.steps mem.now) (packed_disabling self.now.state) host.old result host.new }
+        ensures held { S.held mem.now host.new }
+    {
         if !self.state.ready {
             return Err(QueueError::QueueNotReady);
         }
-        let flags = VRING_PACKED_EVENT_FLAG_DISABLE;
-        store_word(mem, host, self.state.device_area, 2, flags)
+        let area = self.state.device_area;
+        let flags = mem.spot(host, Permissions::Write, area, 2)?;
+        mem.store(host, area, 2, &flags, VRING_PACKED_EVENT_FLAG_DISABLE);
+        Ok(())
     }
 }

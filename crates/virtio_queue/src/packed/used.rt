@@ -1,13 +1,11 @@
 //! What the device returns.
-ghost use Rattle.std.specs.Prelude.{◌≡◌, ◌⊎◌, ◌+◌, ◌<◌, ◌≤◌, ◌^◌, ◌++◌, true, min, IfOk, IsTrue, MatchResult};
-ghost use Rattle.std.specs.Int.{w16, w32, to_le_bytes};
-ghost use Rattle.vm_memory_base.specs.declared.iotlb.Permissions.TheVariants.{Write};
+ghost use Rattle.std.specs.Prelude.{◌≡◌, ◌+◌, ◌*◌, ◌<◌, ◌≤◌, ◌^◌, min, IsTrue};
 ghost use Rattle.vm_memory_guest.specs.Host.{shape_of, Holds};
-ghost use Rattle.vm_memory_guest.specs.Walk.{NeedsPieces};
-ghost use Rattle.vm_memory_guest.specs.Window.{window_names};
-ghost use Rattle.virtio_queue.specs.Fields.{Answers, WritesBytes, is_word, lies_whole};
+ghost use Rattle.virtio_queue.specs.Fields.{Answers};
+ghost use Rattle.virtio_queue.specs.Looks.{Follows};
 ghost use Rattle.virtio_queue.specs.Packed.{are_positions};
-ghost use Rattle.virtio_queue.specs.PackedUsed.{AddsUsed, MayWantRest, MayWantUsed, MayWantValid, after_used, is_out, rest_fault, rest_place, used_flags, used_places, valid};
+ghost use Rattle.virtio_queue.specs.PackedUsed.{AddsUsed, MayWantValid, after_used, is_out, used_flags, valid};
+ghost use Rattle.virtio_queue.specs.Stores.{packed_returning};
 
 use super::PackedQueue;
 use super::descriptor::{VRING_PACKED_DESC_F_AVAIL, VRING_PACKED_DESC_F_USED};
@@ -15,11 +13,10 @@ use super::position::slots_out;
 use super::state::{PackedBuffer, PackedState};
 use crate::descriptor::VRING_DESC_F_WRITE;
 use crate::error::QueueError;
-use crate::fields::{lies_whole, place, store_in, window_at};
-use vm_memory_base::{Bitmap, GuestAddress, Permissions};
-use vm_memory_guest::laws::accesses::accesses_are_by_bytes;
-use vm_memory_guest::laws::effects::writes_keep_shapes;
-use vm_memory_guest::{Bytes, GuestMemory, HostMemory, VolatileSlice};
+use crate::fields::lies_whole;
+use crate::stores::{Stores, Whole};
+use vm_memory_base::{Bitmap, Permissions};
+use vm_memory_guest::{GuestMemory, HostMemory};
 
 // Whether a buffer can be returned: it took a slot, and no more than are out.
 #[inline]
@@ -44,101 +41,6 @@ fn used_flags(wrap: bool, len: u32) -> u16
     };
     let written = if len > 0 { VRING_DESC_F_WRITE } else { 0 };
     given + written
-}
-
-// Writes length and id to an address at which they lie whole.
-#[inline]
-fn write_rest<M: GuestMemory, B: Bitmap>(
-    mem: &M,
-    host: &mut HostMemory<B>,
-    addr: u64,
-    len: u32,
-    id: u16,
-) -> Result<(), QueueError>
-    requires held { Holds (shape_of host.old) (M.names mem.now) }
-    requires whole { IsTrue (lies_whole (M.memory mem.now) host.old addr 6 Write) }
-    ensures written { let m = M.memory mem.now in MatchResult result
-        (λ _. WritesBytes B.marks m addr (to_le_bytes w32 len ++ to_le_bytes w16 id) host.old host.new)
-        (λ e. (e ≡ QueueError.Memory) × NeedsPieces m host.old.tables addr 6 Write × (host.new ≡ host.old)) }
-    ensures shape { shape_of host.new ≡ shape_of host.old }
-{
-    accesses_are_by_bytes::<()>();
-    match Bytes::write_obj(mem, host, (len, id), GuestAddress(addr)) {
-        Ok(()) => Ok(()),
-        Err(error) => Err(QueueError::of_access(error)),
-    }
-}
-
-// The address of length and id in the slot that is used next, for this buffer.
-#[inline]
-fn rest_place<M: GuestMemory, B: Bitmap>(
-    mem: &M,
-    host: &HostMemory<B>,
-    state: &PackedState,
-    buffer: PackedBuffer,
-) -> Result<u64, QueueError>
-    requires held { Holds (shape_of host.now) (M.names mem.now) }
-    requires fits { state.now.size ≤ 2 ^ 15 }
-    requires positions { let q = state.now in IsTrue (are_positions q.size q.next_avail q.next_used) }
-    ensures place { let m = M.memory mem.now in
-        Answers (MayWantRest m host.now state.now buffer) (rest_place m host.now state.now buffer) result }
-    ensures whole { IfOk result (λ a. IsTrue (lies_whole (M.memory mem.now) host.now a 6 Write)) }
-    ensures out { IfOk result (λ a. is_out state.now buffer ≡ true) }
-{
-    if !state.ready {
-        return Err(QueueError::QueueNotReady);
-    }
-    if !is_out(state, buffer) {
-        return Err(QueueError::InvalidDescriptorIndex);
-    }
-    let offset = 16 * u64::from(state.next_used.slot) + 8;
-    let addr = place(state.desc_ring, offset, 6)?;
-    if lies_whole(mem, host, addr, 6, Permissions::Write)? {
-        return Ok(addr);
-    }
-    Err(rest_fault(mem, host, addr))
-}
-
-// Why length and id cannot be written at an address, at which they do not lie whole.
-#[cold]
-#[inline(never)]
-fn rest_fault<M: GuestMemory, B: Bitmap>(mem: &M, host: &HostMemory<B>, addr: u64) -> QueueError
-    requires { Holds (shape_of host.now) (M.names mem.now) }
-    ensures { let m = M.memory mem.now in
-        (result ≡ rest_fault m host.now addr)
-        ⊎ ((result ≡ QueueError.Memory) × NeedsPieces m host.now.tables addr 6 Write) }
-{
-    match mem.get_slices(host, GuestAddress(addr), 6, Permissions::Write) {
-        Ok(walk) => {
-            drop(walk);
-            QueueError::InvalidUsedEntry
-        }
-        Err(error) => QueueError::of_access(error),
-    }
-}
-
-// Where length and id, and the flags, of the slot that is used next go, for this buffer.
-#[inline]
-fn used_places<M: GuestMemory, B: Bitmap>(
-    mem: &M,
-    host: &HostMemory<B>,
-    state: &PackedState,
-    buffer: PackedBuffer,
-) -> Result<(u64, VolatileSlice), QueueError>
-    requires held { Holds (shape_of host.now) (M.names mem.now) }
-    requires fits { state.now.size ≤ 2 ^ 15 }
-    requires positions { let q = state.now in IsTrue (are_positions q.size q.next_avail q.next_used) }
-    ensures places { let m = M.memory mem.now in
-        Answers (MayWantUsed m host.now state.now buffer) (used_places m host.now state.now buffer) result }
-    ensures rest { IfOk result (λ p. IsTrue (lies_whole (M.memory mem.now) host.now p.0 6 Write)) }
-    ensures flags { IfOk result (λ p. Holds (shape_of host.now) (window_names p.1)) }
-    ensures word { IfOk result (λ p. is_word p.1 ≡ true) }
-    ensures out { IfOk result (λ p. is_out state.now buffer ≡ true) }
-{
-    let rest = rest_place(mem, host, state, buffer)?;
-    let offset = 16 * u64::from(state.next_used.slot) + 14;
-    let flags = window_at(mem, host, state.desc_ring, offset, Permissions::Write)?;
-    Ok((rest, flags))
 }
 
 // So many slots more are counted.
@@ -180,6 +82,7 @@ impl PackedQueue {
     /// `InvalidDescriptorIndex` if the buffer took no slot, or more than are out, and `InvalidUsedEntry` if length and
     /// id do not lie whole in memory. A translation that is refused, and flags that cannot be stored, are
     /// `GuestMemory`.
+    #[inline]
     pub fn add_used<M: GuestMemory, B: Bitmap>(
         &mut self,
         mem: &M,
@@ -192,13 +95,41 @@ impl PackedQueue {
         ensures moved { self.new ≡ after_used self.old buffer result }
         ensures shape { shape_of host.new ≡ shape_of host.old }
     {
-        writes_keep_shapes::<B>();
-        let (rest, flags) = used_places(mem, host, &self.state, buffer)?;
-        write_rest(mem, host, rest, len, buffer.id)?;
+        self.add_used_in(&Whole { mem }, host, buffer, len)
+    }
+
+    /// As `add_used`, in memory that a driver may write meanwhile. Whatever it writes: this looks both places up, writes
+    /// length and id, and stores the flags last, each once.
+    #[inline]
+    pub fn add_used_in<H, S: Stores<H>>(
+        &mut self,
+        mem: &S,
+        host: &mut H,
+        buffer: PackedBuffer,
+        len: u32,
+    ) -> Result<(), QueueError>
+        requires { S.held mem.now host.old }
+        ensures stores { Follows (S.steps mem.now) (packed_returning self.old.state buffer len) host.old result host.new }
+        ensures moved { self.new ≡ after_used self.old buffer result }
+        ensures held { S.held mem.now host.new }
+    {
+        if !self.state.ready {
+            return Err(QueueError::QueueNotReady);
+        }
+        if !is_out(&self.state, buffer) {
+            return Err(QueueError::InvalidDescriptorIndex);
+        }
+        let ring = self.state.desc_ring;
+        let next = self.state.next_used;
+        let offset = 16 * u64::from(next.slot) + 8;
+        let last = 16 * u64::from(next.slot) + 14;
+        let rest = mem.room(host, ring, offset, 6)?;
+        let flags = mem.spot(host, Permissions::Write, ring, last)?;
+        mem.write_rest(host, ring, offset, rest, len, buffer.id)?;
         self.barrier.full_barrier();
-        store_in(&flags, host, used_flags(self.state.next_used.wrap, len));
+        mem.store(host, ring, last, &flags, used_flags(next.wrap, len));
         let size = self.state.size;
-        self.state.next_used = self.state.next_used.moved(size, buffer.slots);
+        self.state.next_used = next.moved(size, buffer.slots);
         self.added = self.added.map(|added| counted(added, buffer.slots));
         Ok(())
     }

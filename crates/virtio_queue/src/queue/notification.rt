@@ -1,21 +1,19 @@
 //! Notifications: when the driver has to be notified of used entries, and the device of available ones.
-ghost use Rattle.std.specs.Prelude.{◌≡◌, ◌<◌, ◌^◌, false, true, Ok, IfOk, OnOk};
+ghost use Rattle.std.specs.Prelude.{◌≡◌, ◌<◌, ◌^◌, false, Ok, OnOk};
 ghost use Rattle.vm_memory_guest.specs.Host.{shape_of, Holds};
-ghost use Rattle.vm_memory_guest.specs.Window.{window_names};
 ghost use Rattle.virtio_queue.specs.Asking.{needing, wanting};
-ghost use Rattle.virtio_queue.specs.Fields.{Answers, is_word, stored_at};
+ghost use Rattle.virtio_queue.specs.Fields.{Answers, stored_at};
 ghost use Rattle.virtio_queue.specs.Looks.{Follows};
-ghost use Rattle.virtio_queue.specs.Notification.{Disables, EnablesIfReady, MayWantKick, MayWantNeeds, Waits, after_asked, is_among, kick_offset, kick_places, kick_value, needs_notification};
+ghost use Rattle.virtio_queue.specs.Notification.{Disables, EnablesIfReady, MayWantNeeds, Waits, after_asked, is_among, kick_offset, kick_value, needs_notification};
+ghost use Rattle.virtio_queue.specs.Stores.{disabling, enabling};
 
 use super::Queue;
 use crate::error::QueueError;
-use crate::fields::{load_in, store_in, store_word, window_at};
 use crate::looks::{Lent, Looks};
 use crate::state::QueueState;
+use crate::stores::{Stores, Whole};
 use vm_memory_base::{Bitmap, Permissions};
-use vm_memory_guest::laws::effects::{writes_keep_shapes, written_is_read_back};
-use vm_memory_guest::laws::typed::loads_and_stores_are_by_bytes;
-use vm_memory_guest::{GuestMemory, HostMemory, VolatileSlice};
+use vm_memory_guest::{GuestMemory, HostMemory};
 
 /// The flag of the available ring by which a driver suppresses notifications.
 pub const VRING_AVAIL_F_NO_INTERRUPT: u16 = 1;
@@ -76,31 +74,6 @@ fn kick_value(state: &QueueState) -> u16
     }
 }
 
-// Where a device writes when it is to be notified, and where it finds the driver's index.
-#[inline]
-fn kick_places<M: GuestMemory, B: Bitmap>(
-    mem: &M,
-    host: &HostMemory<B>,
-    state: &QueueState,
-) -> Result<(VolatileSlice, VolatileSlice), QueueError>
-    requires { Holds (shape_of host.now) (M.names mem.now) }
-    ensures places { let m = M.memory mem.now in
-        Answers (MayWantKick m host.now state.now) (kick_places m host.now state.now) result }
-    ensures held { IfOk result (λ p. Holds (shape_of host.now) (window_names p.0)
-        × Holds (shape_of host.now) (window_names p.1)) }
-    ensures words { IfOk result (λ p. (is_word p.0 ≡ true) × (is_word p.1 ≡ true)) }
-{
-    let kick = window_at(
-        mem,
-        host,
-        state.used_ring,
-        kick_offset(state),
-        Permissions::Write,
-    )?;
-    let idx = window_at(mem, host, state.avail_ring, 2, Permissions::Read)?;
-    Ok((kick, idx))
-}
-
 impl Queue {
     /// Whether the driver has to be notified of what was added to the used ring since the last call of this. With event
     /// indices it has to if the index that it waits for is among these entries, and else if its flag does not
@@ -151,17 +124,31 @@ impl Queue {
         ensures waits { result ≡ Ok false → Waits (M.memory mem.now) host.new self.now.state }
         ensures shape { shape_of host.new ≡ shape_of host.old }
     {
+        self.enable_notification_in(&Whole { mem }, host)
+    }
+
+    /// As `enable_notification`, in memory that a driver may write meanwhile. Whatever it writes: this looks both places
+    /// up, asks for the notification, and then looks at the driver's index, each once.
+    #[inline]
+    pub fn enable_notification_in<H, S: Stores<H>>(
+        &self,
+        mem: &S,
+        host: &mut H,
+    ) -> Result<bool, QueueError>
+        requires { S.held mem.now host.old }
+        ensures stores { Follows (S.steps mem.now) (enabling self.now.state) host.old result host.new }
+        ensures held { S.held mem.now host.new }
+    {
         if !self.state.ready {
             return Err(QueueError::QueueNotReady);
         }
-        written_is_read_back();
-        writes_keep_shapes::<B>();
-        loads_and_stores_are_by_bytes::<()>();
         let state = &self.state;
-        let (kick, idx) = kick_places(mem, host, state)?;
-        store_in(&kick, host, kick_value(state));
+        let offset = kick_offset(state);
+        let kick = mem.spot(host, Permissions::Write, state.used_ring, offset)?;
+        let idx = mem.spot(host, Permissions::Read, state.avail_ring, 2)?;
+        mem.store(host, state.used_ring, offset, &kick, kick_value(state));
         self.barrier.full_barrier();
-        Ok(load_in(&idx, host) != state.next_avail)
+        Ok(mem.load(host, state.avail_ring, 2, &idx) != state.next_avail)
     }
 
     /// Asks the driver not to notify the device. With event indices it does nothing: the driver notifies once, of the
@@ -175,12 +162,29 @@ impl Queue {
         ensures disabled { Disables B.marks (M.memory mem.now) self.now.state host.old result host.new }
         ensures shape { shape_of host.new ≡ shape_of host.old }
     {
+        self.disable_notification_in(&Whole { mem }, host)
+    }
+
+    /// As `disable_notification`, in memory that a driver may write meanwhile.
+    #[inline]
+    pub fn disable_notification_in<H, S: Stores<H>>(
+        &self,
+        mem: &S,
+        host: &mut H,
+    ) -> Result<(), QueueError>
+        requires { S.held mem.now host.old }
+        ensures stores { Follows (S.steps mem.now) (disabling self.now.state) host.old result host.new }
+        ensures held { S.held mem.now host.new }
+    {
         if !self.state.ready {
             return Err(QueueError::QueueNotReady);
         }
         if self.state.event_idx_enabled {
             return Ok(());
         }
-        store_word(mem, host, self.state.used_ring, 0, VRING_USED_F_NO_NOTIFY)
+        let ring = self.state.used_ring;
+        let flags = mem.spot(host, Permissions::Write, ring, 0)?;
+        mem.store(host, ring, 0, &flags, VRING_USED_F_NO_NOTIFY);
+        Ok(())
     }
 }

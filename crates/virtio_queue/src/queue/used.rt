@@ -1,89 +1,19 @@
 //! What the device returns: the used ring.
-ghost use Rattle.std.specs.Prelude.{◌≡◌, ◌⊎◌, ◌<◌, true, IfOk, IsTrue};
-ghost use Rattle.vm_memory_base.specs.declared.iotlb.Permissions.TheVariants.{Write};
+ghost use Rattle.std.specs.Prelude.{◌≡◌};
 ghost use Rattle.vm_memory_guest.specs.Host.{shape_of, Holds};
-ghost use Rattle.vm_memory_guest.specs.Walk.{NeedsPieces};
-ghost use Rattle.vm_memory_guest.specs.Window.{window_names};
 ghost use Rattle.virtio_queue.specs.Asking.{index_of};
-ghost use Rattle.virtio_queue.specs.Fields.{Answers, is_word, lies_whole};
+ghost use Rattle.virtio_queue.specs.Fields.{Answers};
 ghost use Rattle.virtio_queue.specs.Looks.{Follows};
-ghost use Rattle.virtio_queue.specs.Used.{AddsUsed, MayWantEntry, MayWantUsed, MayWantUsedIdx, MayWantValid, after_used, entry_fault, entry_place, one_more, used_idx, used_places, valid};
+ghost use Rattle.virtio_queue.specs.Stores.{returning};
+ghost use Rattle.virtio_queue.specs.Used.{AddsUsed, MayWantUsedIdx, MayWantValid, after_used, one_more, used_idx, valid};
 
 use super::Queue;
 use crate::error::QueueError;
-use crate::fields::{lies_whole, place, store_in, window_at, write_pair};
+use crate::fields::lies_whole;
 use crate::looks::{Lent, Looks};
-use crate::state::QueueState;
-use vm_memory_base::{Bitmap, GuestAddress, Permissions};
-use vm_memory_guest::laws::effects::writes_keep_shapes;
-use vm_memory_guest::{GuestMemory, HostMemory, VolatileSlice};
-
-// The address of the entry that is written next, for this head.
-#[inline]
-fn entry_place<M: GuestMemory, B: Bitmap>(
-    mem: &M,
-    host: &HostMemory<B>,
-    state: &QueueState,
-    head: u16,
-) -> Result<u64, QueueError>
-    requires held { Holds (shape_of host.now) (M.names mem.now) }
-    requires some { 0 < state.now.size }
-    ensures place { let m = M.memory mem.now in
-        Answers (MayWantEntry m host.now state.now head) (entry_place m host.now state.now head) result }
-    ensures whole { IfOk result (λ a. IsTrue (lies_whole (M.memory mem.now) host.now a 8 Write)) }
-{
-    if !state.ready {
-        return Err(QueueError::QueueNotReady);
-    }
-    if head >= state.size {
-        return Err(QueueError::InvalidDescriptorIndex);
-    }
-    let slot = state.next_used % state.size;
-    let addr = place(state.used_ring, 4 + 8 * u64::from(slot), 8)?;
-    if lies_whole(mem, host, addr, 8, Permissions::Write)? {
-        return Ok(addr);
-    }
-    Err(entry_fault(mem, host, addr))
-}
-
-// Why an entry cannot be written at an address, at which it does not lie whole.
-#[cold]
-#[inline(never)]
-fn entry_fault<M: GuestMemory, B: Bitmap>(mem: &M, host: &HostMemory<B>, addr: u64) -> QueueError
-    requires { Holds (shape_of host.now) (M.names mem.now) }
-    ensures { let m = M.memory mem.now in
-        (result ≡ entry_fault m host.now addr)
-        ⊎ ((result ≡ QueueError.Memory) × NeedsPieces m host.now.tables addr 8 Write) }
-{
-    match mem.get_slices(host, GuestAddress(addr), 8, Permissions::Write) {
-        Ok(walk) => {
-            drop(walk);
-            QueueError::InvalidUsedEntry
-        }
-        Err(error) => QueueError::of_access(error),
-    }
-}
-
-// Where the entry that is written next goes, for this head, and the index.
-#[inline]
-fn used_places<M: GuestMemory, B: Bitmap>(
-    mem: &M,
-    host: &HostMemory<B>,
-    state: &QueueState,
-    head: u16,
-) -> Result<(u64, VolatileSlice), QueueError>
-    requires held { Holds (shape_of host.now) (M.names mem.now) }
-    requires some { 0 < state.now.size }
-    ensures places { let m = M.memory mem.now in
-        Answers (MayWantUsed m host.now state.now head) (used_places m host.now state.now head) result }
-    ensures entry { IfOk result (λ p. IsTrue (lies_whole (M.memory mem.now) host.now p.0 8 Write)) }
-    ensures index { IfOk result (λ p. Holds (shape_of host.now) (window_names p.1)) }
-    ensures word { IfOk result (λ p. is_word p.1 ≡ true) }
-{
-    let entry = entry_place(mem, host, state, head)?;
-    let index = window_at(mem, host, state.used_ring, 2, Permissions::Write)?;
-    Ok((entry, index))
-}
+use crate::stores::{Stores, Whole};
+use vm_memory_base::{Bitmap, Permissions};
+use vm_memory_guest::{GuestMemory, HostMemory};
 
 // One entry more is counted.
 #[inline]
@@ -161,12 +91,39 @@ impl Queue {
         ensures moved { self.new ≡ after_used self.old result }
         ensures shape { shape_of host.new ≡ shape_of host.old }
     {
-        writes_keep_shapes::<B>();
+        self.add_used_in(&Whole { mem }, host, head, len)
+    }
+
+    /// As `add_used`, in memory that a driver may write meanwhile. Whatever it writes: this looks both places up, writes
+    /// the entry, and stores the index last, each once.
+    #[inline]
+    pub fn add_used_in<H, S: Stores<H>>(
+        &mut self,
+        mem: &S,
+        host: &mut H,
+        head: u16,
+        len: u32,
+    ) -> Result<(), QueueError>
+        requires { S.held mem.now host.old }
+        ensures stores { Follows (S.steps mem.now) (returning self.old.state head len) host.old result host.new }
+        ensures moved { self.new ≡ after_used self.old result }
+        ensures held { S.held mem.now host.new }
+    {
+        if !self.state.ready {
+            return Err(QueueError::QueueNotReady);
+        }
+        if head >= self.state.size {
+            return Err(QueueError::InvalidDescriptorIndex);
+        }
+        let ring = self.state.used_ring;
+        let slot = self.state.next_used % self.state.size;
+        let offset = 4 + 8 * u64::from(slot);
+        let entry = mem.room(host, ring, offset, 8)?;
+        let index = mem.spot(host, Permissions::Write, ring, 2)?;
+        mem.write_pair(host, ring, offset, entry, u32::from(head), len)?;
         let next = self.state.next_used.wrapping_add(1);
-        let (entry, index) = used_places(mem, host, &self.state, head)?;
-        write_pair(mem, host, entry, u32::from(head), len)?;
         self.barrier.full_barrier();
-        store_in(&index, host, next);
+        mem.store(host, ring, 2, &index, next);
         self.state.next_used = next;
         self.added = self.added.map(one_more);
         Ok(())

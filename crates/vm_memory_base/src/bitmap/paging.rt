@@ -81,10 +81,23 @@ impl Paging {
         ensures first { result.0 ≡ start / page_size_of self.now }
         ensures last { result.1 ≡ page_set.last_byte start len / page_size_of self.now }
     {
-        (
-            self.page_of(start),
-            self.page_of(start.saturating_add(len - 1)),
-        )
+        let first = self.page_of(start);
+        (first, self.last_page(first, start, len))
+    }
+
+    // The page of the last of `len` bytes from `start` on, given that of the first. Few bytes mostly end in the page in
+    // which they begin, and then there is no second division.
+    #[inline(always)]
+    fn last_page(&self, first: usize, start: usize, len: usize) -> usize
+        requires some { 0 < len }
+        requires first { first ≡ start / page_size_of self.now }
+        ensures { result ≡ page_set.last_byte start len / page_size_of self.now }
+    {
+        let size = self.page_size.get();
+        if self.shift.is_none() && len <= size && start - first * size <= size - len {
+            return first;
+        }
+        self.page_of(start.saturating_add(len - 1))
     }
 
     /// The pages of `len` bytes from `start` on, among those that there are: from one up to another, and none if

@@ -1,5 +1,5 @@
 //! Backends: layouts of regions, and the walk through them.
-ghost use Rattle.std.specs.Prelude.{◌≡◌, ◌+◌, ◌-◌, ◌<◌, ◌≤◌, ◌↔◌, List, length, map, flat_map, slice_get, option_copied, MatchOption, MatchResult, None, Some, Ok, Err, IsSome, IsTrue};
+ghost use Rattle.std.specs.Prelude.{◌≡◌, ◌+◌, ◌-◌, ◌^◌, ◌<◌, ◌≤◌, ◌↔◌, List, length, map, flat_map, slice_get, option_copied, MatchOption, MatchResult, None, Some, Ok, Err, IsSome, IsTrue};
 ghost use Rattle.std.specs.Iterator.{YieldsFirst, item_count};
 ghost use Rattle.vm_memory_guest.specs.Access.{meets, path};
 ghost use Rattle.vm_memory_guest.specs.Memory.{Direct};
@@ -78,14 +78,31 @@ pub trait GuestMemoryBackend: Named + Drop {
 
     /// The region that holds an address, and the address's offset there.
     #[inline]
-    final fn to_region_addr(&self, addr: GuestAddress) -> Option<(&Self::R, MemoryRegionAddress)>
-        ensures { let home = containing_in Self.R.region (regions self.now) addr.0 in
+    fn to_region_addr(&self, addr: GuestAddress) -> Option<(&Self::R, MemoryRegionAddress)>
+        ensures found { let home = containing_in Self.R.region (regions self.now) addr.0 in
             MatchOption result (home ≡ None)
             (λ p. (home ≡ Some p.0.now) × (p.1.0 ≡ addr.0 - (Self.R.region p.0.now).start)) }
+        ensures layout { IsLayout (map Self.R.region (regions self.now)) }
     {
         let region = self.find_region(addr)?;
         let offset = MemoryRegionAddress(addr.0 - region.start_addr().0);
         Some((region, offset))
+    }
+
+    /// What `to_region_addr` returns, and a number for the next call. The region of the number `hint` is asked first,
+    /// so that a call for an address near the last one need not search. The answer is the same for each hint.
+    #[inline]
+    fn find_near(
+        &self,
+        addr: GuestAddress,
+        hint: usize,
+    ) -> (Option<(&Self::R, MemoryRegionAddress)>, usize)
+        ensures found { let home = containing_in Self.R.region (regions self.now) addr.0 in
+            MatchOption result.0 (home ≡ None)
+            (λ p. (home ≡ Some p.0.now) × (p.1.0 ≡ addr.0 - (Self.R.region p.0.now).start)) }
+        ensures layout { IsLayout (map Self.R.region (regions self.now)) }
+    {
+        (self.to_region_addr(addr), hint)
     }
 
     /// Whether a region holds an address.
@@ -254,14 +271,13 @@ impl<'a, M: GuestMemoryBackend> Iterator for GuestMemoryBackendSliceIterator<'a,
         if self.count == 0 {
             return None;
         }
-        let addr = self.addr.0;
-        let Some(region) = self.mem.find_region(self.addr) else {
+        known_address(self.addr);
+        let Some((region, offset)) = self.mem.to_region_addr(self.addr) else {
             self.count = 0;
             return Some(Err(GuestMemoryError::InvalidGuestAddress(self.addr)));
         };
-        let start = addr - region.start_addr().0;
-        let len = (region.len() - start).min(self.count as u64);
-        match region.get_slice(MemoryRegionAddress(start), len as usize) {
+        let len = (region.len() - offset.0).min(self.count as u64);
+        match region.get_slice(offset, len as usize) {
             Ok(window) => {
                 self.count -= len as usize;
                 self.addr = self.addr.overflowing_add(len).0;
@@ -273,6 +289,14 @@ impl<'a, M: GuestMemoryBackend> Iterator for GuestMemoryBackendSliceIterator<'a,
             }
         }
     }
+}
+
+// Does nothing: an address has 64 bits.
+#[inline(always)]
+fn known_address(addr: GuestAddress)
+    ensures { addr.0 < 2 ^ 64 }
+{
+    let _bits = addr.0;
 }
 
 // The address behind what a callback handled of an access of `count` bytes, or `None` where that was nothing or

@@ -1,4 +1,4 @@
-use Rattle.std.proofs.Common.{◌≡◌, ◌∙◌, nat_lt, refl, sym, subst, false, ap}
+use Rattle.std.proofs.Common.{◌≡◌, nat_lt, refl, sym, subst, false}
 use Rattle.std.specs.Option.{option_or}
 use Rattle.virtio_queue.specs.Any.{Waits}
 use Rattle.virtio_queue.specs.declared.any.AnyQueue.{AnyQueue}

@@ -16,7 +16,7 @@ found g c =
     let it = c.self.inside in
     containing_region-found g.M.R.GuestMemoryRegion.region
     (g.M.GuestMemoryBackend.regions it.mem.now) it.addr.0 c.in-Some.region.now
-    c.in-Some.ensures.found
+    (sym c.in-Some.ensures.found.0)
 
 pub returns-then-self-eq0-clause-steps : goal.returns-then-self-eq0-clause-steps
 returns-then-self-eq0-clause-steps g c =
@@ -35,7 +35,7 @@ returns-in_default-clause-steps g c =
     let more : 0 < it.count = omega arith in
     rw (← c.self.view_is)
     (walk-ends (regions_of g it.mem.now) a it.count below
-    (containing_region-missed region (g.M.GuestMemoryBackend.regions it.mem.now) a c.in_default.ensures.found) more)
+    (containing_region-missed region (g.M.GuestMemoryBackend.regions it.mem.now) a (sym c.in_default.ensures.found)) more)
 
 pub returns-in_default-clause-goes : goal.returns-in_default-clause-goes
 returns-in_default-clause-goes g c = first_goes _ _ _ _ (returns-in_default-clause-steps g c)
@@ -49,26 +49,21 @@ bounds g c =
     is_within-bounds r.start r.len it.addr.0
     (containing_region-within (regions_of g it.mem.now) it.addr.0 r (found g c))
 
-pub overflow_sub-start : goal.overflow_sub-start
-overflow_sub-start g c =
-    let within = bounds g (goal.at.overflow_sub-start g c).In-Some in
-    omega (arith, within.0, c.start_addr.ensures)
-
 pub overflow_sub-len : goal.overflow_sub-len
 overflow_sub-len g c =
     let within = bounds g (goal.at.overflow_sub-len g c).In-Some in
-    omega (arith, within.0, within.1, c.start_addr.ensures, c.len.ensures)
+    omega (arith, within.0, within.1, c.in-Some.ensures.found.1, c.len.ensures)
 
-start_is : (g : Over) (c : After-get_slice g) → let a = c.self.inside.addr.0 in
-    a - c.start_addr.result.0 ≡ a - (g.M.R.GuestMemoryRegion.region c.in-Some.region.now).start
-start_is g c = ap (λ x. c.self.inside.addr.0 - x) c.start_addr.ensures
+offset_is : (g : Over) (c : After-get_slice g) → c.in-Some.offset.0
+    ≡ c.self.inside.addr.0 - (g.M.R.GuestMemoryRegion.region c.in-Some.region.now).start
+offset_is g c = c.in-Some.ensures.found.1
 
 len_is : (g : Over) (c : After-get_slice g) → let it = c.self.inside in
-    c.min-len.result ≡ min ((g.M.R.GuestMemoryRegion.region c.in-Some.region.now).len -
-    (it.addr.0 - c.start_addr.result.0)) it.count
+    c.min-len.result
+    ≡ min ((g.M.R.GuestMemoryRegion.region c.in-Some.region.now).len - c.in-Some.offset.0) it.count
 len_is g c =
     let it = c.self.inside in
-    c.min-len.ensures ∙ ap (λ n. min (n - (it.addr.0 - c.start_addr.result.0)) it.count) c.len.ensures
+    c.min-len.ensures ∙ ap (λ n. min (n - c.in-Some.offset.0) it.count) c.len.ensures
 
 pub returns-in-Ok-clause-steps : goal.returns-in-Ok-clause-steps
 returns-in-Ok-clause-steps g c =
@@ -80,9 +75,9 @@ returns-in-Ok-clause-steps g c =
     let more : 0 < it.count = omega arith in
     let below : a < 2 ^ 64 = omega arith in
     rw (← c.self.view_is)
-    (walk-gives regions a it.count r c.find_region.ensures.layout (found g here.In-Some)
+    (walk-gives regions a it.count r c.to_region_addr.ensures.layout (found g here.In-Some)
     (g.met.M.R.GuestMemoryRegion.fits c.in-Some.region.now) more below
-    (a - c.start_addr.result.0) c.min-len.result c.in-Ok.window (start_is g here.After-get_slice)
+    c.in-Some.offset.0 c.min-len.result c.in-Ok.window (offset_is g here.After-get_slice)
     (len_is g here.After-get_slice) r.place refl (sym c.in-Ok.ensures)
     ∙ ap (λ (b : ℕ). Ok c.in-Ok.window ∷ direct_items regions b (it.count - c.min-len.result))
     (sym c.overflowing_add.ensures.wrapped))
@@ -99,9 +94,9 @@ returns-in-Err-clause-steps g c =
     let more : 0 < it.count = omega arith in
     let below : a < 2 ^ 64 = omega arith in
     rw (← c.self.view_is)
-    (walk-refuses (regions_of g it.mem.now) a it.count r c.find_region.ensures.layout (found g here.In-Some)
+    (walk-refuses (regions_of g it.mem.now) a it.count r c.to_region_addr.ensures.layout (found g here.In-Some)
     (g.met.M.R.GuestMemoryRegion.fits c.in-Some.region.now) more below
-    (a - c.start_addr.result.0) c.min-len.result c.in-Err.error (start_is g here.After-get_slice)
+    c.in-Some.offset.0 c.min-len.result c.in-Err.error (offset_is g here.After-get_slice)
     (len_is g here.After-get_slice) r.place refl (sym c.in-Err.ensures))
 
 pub returns-in-Err-clause-goes : goal.returns-in-Err-clause-goes

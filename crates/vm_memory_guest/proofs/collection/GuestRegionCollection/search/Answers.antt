@@ -1,4 +1,4 @@
-use Rattle.std.proofs.Common.{◌≡◌, ◌-◌, ◌<◌, ◌≤◌, List, Some, None, map, get_or}
+use Rattle.std.proofs.Common.{◌≡◌, ℕ, ◌-◌, ◌<◌, ◌≤◌, List, Some, None, map, get_or}
 use Rattle.std.proofs.Common.{sym, ap, subst, ◌∙◌, arith}
 use Rattle.std.proofs.lemmas.List.{get_or-map, length-map}
 use Rattle.std.specs.declared.alloc.Global.{Global}
@@ -6,10 +6,10 @@ use Rattle.std.specs.declared.sync.Arc.{Arc}
 use Rattle.vm_memory_guest.specs.Collection.{regions_of, IsIndexed}
 use Rattle.vm_memory_guest.specs.Region.{containing_in}
 use Rattle.vm_memory_guest.proofs.RegionLaws.{length-starts, starts-ascend}
-use Rattle.vm_memory_guest.proofs.RegionLaws.{containing_in-below, containing_in-before, containing_in-past}
-use Rattle.vm_memory_guest.proofs.collection.GuestRegionCollection.find_region_counted.Given.{Over}
-use Rattle.vm_memory_guest.proofs.collection.GuestRegionCollection.find_region_counted.Goals as goal
-use Rattle.vm_memory_guest.proofs.collection.GuestRegionCollection.find_region_counted.Goals.{After-deref-region}
+use Rattle.vm_memory_guest.proofs.RegionLaws.{containing_in-below, containing_in-before, containing_in-past, region-started}
+use Rattle.vm_memory_guest.proofs.collection.GuestRegionCollection.search.Given.{Over}
+use Rattle.vm_memory_guest.proofs.collection.GuestRegionCollection.search.Goals as goal
+use Rattle.vm_memory_guest.proofs.collection.GuestRegionCollection.search.Goals.{After-deref-region}
 
 -- what a search by the starts told: the region was read behind the last start that is not above the address
 module _ (g : Over) (c : After-deref-region g) where
@@ -41,30 +41,37 @@ module _ (g : Over) (c : After-deref-region g) where
       let h = told.below (c.first_above-next.result.0 - 1) (omega (arith, some)) in
       omega (arith, h, told.start some)
 
+  started : (g.R.GuestMemoryRegion.region c.deref-region.result.now).start ≡ c.first_above-next.result.1
+  started =
+      let told = c.first_above-next.ensures in
+      region-started g.R.GuestMemoryRegion.region g.met.R.GuestMemoryRegion.fits values c.as_slice.result.now indexed
+      c.args.addr.0 c.first_above-next.result.0 told.above c.deref-region.result.now some told.within value_at
+      c.first_above-next.result.1 (told.start some) low
+
   found : let r = g.R.GuestMemoryRegion.region c.deref-region.result.now in
       c.args.addr.0 - c.first_above-next.result.1 < r.len
-      → Some c.deref-region.result.now ≡ containing_in g.R.GuestMemoryRegion.region c.args.self.now c.args.addr.0
+      → containing_in g.R.GuestMemoryRegion.region c.args.self.now c.args.addr.0 ≡ Some c.deref-region.result.now
   found h =
       let told = c.first_above-next.ensures in
       let region = g.R.GuestMemoryRegion.region in
-      subst (λ (ys : List g.row.R.Denot). Some c.deref-region.result.now
+      sym (subst (λ (ys : List g.row.R.Denot). Some c.deref-region.result.now
       ≡ containing_in region ys c.args.addr.0) c.self.view_is
       (containing_in-before region g.met.R.GuestMemoryRegion.fits values c.as_slice.result.now indexed c.args.addr.0
       c.first_above-next.result.0 told.above c.deref-region.result.now some told.within value_at
       c.first_above-next.result.1
-      (told.start some) low h)
+      (told.start some) low h))
 
   missed : let r = g.R.GuestMemoryRegion.region c.deref-region.result.now in
       r.len ≤ c.args.addr.0 - c.first_above-next.result.1
-      → None ≡ containing_in g.R.GuestMemoryRegion.region c.args.self.now c.args.addr.0
+      → containing_in g.R.GuestMemoryRegion.region c.args.self.now c.args.addr.0 ≡ None
   missed h =
       let told = c.first_above-next.ensures in
       let region = g.R.GuestMemoryRegion.region in
-      subst (λ (ys : List g.row.R.Denot). None ≡ containing_in region ys c.args.addr.0) c.self.view_is
+      sym (subst (λ (ys : List g.row.R.Denot). None ≡ containing_in region ys c.args.addr.0) c.self.view_is
       (containing_in-past region g.met.R.GuestMemoryRegion.fits values c.as_slice.result.now indexed c.args.addr.0
       c.first_above-next.result.0 told.above c.deref-region.result.now some told.within value_at
       c.first_above-next.result.1
-      (told.start some) low h)
+      (told.start some) low h))
 
 pub first_above-next-requires : goal.first_above-next-requires
 first_above-next-requires g c =
@@ -77,15 +84,16 @@ returns-then-next-eq0-clause-found g c =
     let region = g.R.GuestMemoryRegion.region in
     let xs = regions_of c.self.inside.regions in
     let told = c.first_above-next.ensures in
-    subst (λ (ys : List g.row.R.Denot). None ≡ containing_in region ys c.args.addr.0) c.self.view_is
+    sym (subst (λ (ys : List g.row.R.Denot). None ≡ containing_in region ys c.args.addr.0) c.self.view_is
     (containing_in-below region g.met.R.GuestMemoryRegion.fits xs
     c.as_slice.result.now (rw c.as_slice.ensures.value c.self.invariant)
-    c.args.addr.0 c.first_above-next.result.0 told.above c.if-next-eq0.true)
+    c.args.addr.0 c.first_above-next.result.0 told.above c.if-next-eq0.true))
 
-pub returns-then-addr-start-clause-found : goal.returns-then-addr-start-clause-found
-returns-then-addr-start-clause-found g c =
-    found g (goal.at.returns-then-addr-start-clause-found g c).After-deref-region (omega arith)
+pub returns-then-offset-len-clause-found : goal.returns-then-offset-len-clause-found
+returns-then-offset-len-clause-found g c =
+    let here = (goal.at.returns-then-offset-len-clause-found g c).After-deref-region in
+    (found g here (omega arith), ap (λ (n : ℕ). c.args.addr.0 - n) (sym (started g here)))
 
-pub returns-else-addr-start-clause-found : goal.returns-else-addr-start-clause-found
-returns-else-addr-start-clause-found g c =
-    missed g (goal.at.returns-else-addr-start-clause-found g c).After-deref-region (omega arith)
+pub returns-else-offset-len-clause-found : goal.returns-else-offset-len-clause-found
+returns-else-offset-len-clause-found g c =
+    missed g (goal.at.returns-else-offset-len-clause-found g c).After-deref-region (omega arith)
