@@ -171,7 +171,6 @@ fn serve_one(is_packed: bool, is_translated: bool, event_idx: bool, is_indirect:
     let stored = told.iter().map(|part| (STORE, part.clone())).chain([index.clone()]);
     expect(&accesses, &tried.chain(stored).collect::<Vec<_>>(), &what("enable"));
     let (_, accesses) = it.trace(|queue, memory| queue.disable_notification(memory).unwrap());
-    #[allow(clippy::single_range_in_vec_init)]
     let told = match (is_packed, event_idx) {
         (true, _) => vec![(STORE, DEVICE + 2..DEVICE + 4)],
         (false, true) => vec![],
