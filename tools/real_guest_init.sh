@@ -255,6 +255,7 @@ grow() {
     done
     [ "$now" = $((size + 65536)) ] || fail "the disk has $now sectors"
     check_areas "after it grew"
+    # shellcheck disable=SC2017
     HALF=$(((size + 7) / 8 * 4096))
     take_areas
     raw 2
