@@ -156,26 +156,33 @@ fn reply_to_miss(front: &mut FrontEnd, value: u64) {
 #[test]
 fn a_ring_that_waits_can_be_stopped() {
     let program = Program::start("waits", LEN, &["--iotlb-limit", "8"]);
-    let mut front = started(&program, BEHIND);
-    front.read_disk(0, 1, 512);
-    let page = data_page(&front);
-    front.remap(page, Some((front.places(0, 0).0 as u64, READ | WRITE)));
-    front.put_request(0, 0, 0, 2, 512);
-    front.publish(0, 0);
-    front.kick(0);
-    assert_eq!(wait_for_miss(&mut front), page);
-    for _ in 0..3 {
-        assert!(front.is_done(SET_VRING_ENABLE, &two(0, 1), &[]));
+    // The index of the second one that waits is the last.
+    for base in [0, 0xfffe_u16] {
+        let mut front = started(&program, BEHIND);
+        front.stop_ring(0);
+        front.rings.clear();
+        front.start_ring(64, base);
+        front.read_disk(0, 1, 512);
+        let page = data_page(&front);
+        front.remap(page, Some((front.places(0, 0).0 as u64, READ | WRITE)));
+        front.put_request(0, 0, 0, 2, 512);
+        front.publish(0, 0);
+        front.kick(0);
+        assert_eq!(wait_for_miss(&mut front), page);
+        for _ in 0..3 {
+            assert!(front.is_done(SET_VRING_ENABLE, &two(0, 1), &[]));
+        }
+        // The request is the next one still.
+        let next = base.wrapping_add(1);
+        assert_eq!(front.stop_ring(0), next.into());
+        reply_to_miss(&mut front, 0);
+        take(&front.rings[0].kick);
+        assert_eq!(front.used_idx(0), next);
+        front.restart_ring(0, next);
+        assert_eq!(front.take_used(0), (0, 513));
+        assert_eq!(front.read(front.places(0, 0).0, 512), image_of(LEN)[2 * 512..3 * 512]);
+        assert_eq!(front.stop_ring(0), next.wrapping_add(1).into());
     }
-    // The request is the next one still.
-    assert_eq!(front.stop_ring(0), 1);
-    reply_to_miss(&mut front, 0);
-    take(&front.rings[0].kick);
-    assert_eq!(front.used_idx(0), 1);
-    front.restart_ring(0, 1);
-    assert_eq!(front.take_used(0), (0, 513));
-    assert_eq!(front.read(front.places(0, 0).0, 512), image_of(LEN)[2 * 512..3 * 512]);
-    assert_eq!(front.stop_ring(0), 2);
 }
 
 #[test]
@@ -190,6 +197,13 @@ fn a_device_that_is_stopped_has_no_mappings() {
     front.restart_ring(0, 2);
     front.read_disk(0, 3, 512);
     let page = data_page(&front);
+    assert!(front.io().misses.iter().any(|(iova, _)| iova / PAGE * PAGE == page));
+    // Nor has one with another table of memory.
+    front.io().misses.clear();
+    let (ram, half) = (again(&front.ram), RAM as u64 / 2);
+    let table = FrontEnd::table(&[(half, half, half), (0, half, 0)]);
+    assert!(front.is_done(SET_MEM_TABLE, &table, &[&ram, &ram]));
+    front.read_disk(0, 4, 512);
     assert!(front.io().misses.iter().any(|(iova, _)| iova / PAGE * PAGE == page));
 }
 

@@ -5,8 +5,11 @@ mod front_end;
 use front_end::*;
 use std::collections::BTreeSet;
 use std::fs::File;
-use std::os::fd::OwnedFd;
+use std::os::fd::{AsRawFd, OwnedFd};
 use std::os::unix::fs::FileExt;
+use std::ptr::null_mut;
+use std::sync::atomic::{AtomicBool, AtomicU8, Ordering::SeqCst};
+use std::time::Instant;
 
 const LEN: usize = 1 << 20;
 const MIB: usize = 1 << 20;
@@ -428,4 +431,49 @@ fn a_mark_costs_nothing_of_the_other_pages() {
     }
     let [few, many] = least;
     assert!(many < 2 * few, "{few} and {many}");
+}
+
+// Several back ends mark pages in one log: each changes its own bits.
+#[test]
+fn a_mark_leaves_the_other_bits() {
+    let program = Program::start("log_bits", LEN, &[]);
+    let mut front = started(&program, USUAL);
+    let log = begin(&mut front, USUAL, LOG_LEN);
+    let (data, status) = front.places(0, 0);
+    let (byte, bit) = (data as u64 / PAGE / 8, 1 << 7);
+    assert_eq!(status as u64 / PAGE / 8, byte);
+    assert!(data as u64 / PAGE % 8 != 7 && status as u64 / PAGE % 8 != 7);
+    // SAFETY: the system takes addresses that nothing has, and nothing else of this process reads or writes them. They are
+    // there until the process ends.
+    let marks = unsafe {
+        let access = libc::PROT_READ | libc::PROT_WRITE;
+        let at = libc::mmap(
+            null_mut(),
+            LOG_LEN as usize,
+            access,
+            libc::MAP_SHARED,
+            log.as_raw_fd(),
+            0,
+        );
+        assert_ne!(at, libc::MAP_FAILED);
+        AtomicU8::from_ptr(at.cast::<u8>().add(byte as usize))
+    };
+    let is_over = AtomicBool::new(false);
+    std::thread::scope(|scope| {
+        let other = scope.spawn(|| {
+            let (mut kept, begun) = (true, Instant::now());
+            while kept && !is_over.load(SeqCst) && begun.elapsed() < LONG {
+                marks.fetch_or(bit, SeqCst);
+                kept = (0..20).all(|_| marks.load(SeqCst) & bit != 0);
+                marks.fetch_and(!bit, SeqCst);
+                kept &= (0..20).all(|_| marks.load(SeqCst) & bit == 0);
+            }
+            kept
+        });
+        for turn in 0..4000 {
+            front.read_disk(0, turn % 100, 512);
+        }
+        is_over.store(true, SeqCst);
+        assert!(other.join().unwrap(), "a mark changed the bit of another page");
+    });
 }
