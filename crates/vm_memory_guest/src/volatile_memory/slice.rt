@@ -400,7 +400,7 @@ impl Bytes<usize> for VolatileSlice {
         Ok(host.value(&window))
     }
 
-    #[inline]
+    #[inline(always)]
     fn store<T: AtomicAccess, B: Bitmap>(
         &self,
         host: &mut HostMemory<B>,
@@ -413,7 +413,7 @@ impl Bytes<usize> for VolatileSlice {
         Ok(())
     }
 
-    #[inline]
+    #[inline(always)]
     fn load<T: AtomicAccess, B: Bitmap>(
         &self,
         host: &HostMemory<B>,
