@@ -8,7 +8,7 @@ mod guest;
 mod ring;
 
 use guest::{BusyGuest, Guest};
-use ring::{at, Numbers, INDIRECT, NEXT, WRITE};
+use ring::{at, Driver, Numbers, INDIRECT, NEXT, WRITE};
 use std::os::fd::AsFd;
 use std::sync::atomic::Ordering::{Relaxed, SeqCst};
 use std::sync::atomic::{AtomicBool, AtomicU32};
@@ -225,7 +225,7 @@ impl Shared {
         self.guest
             .store(place, [0, 0, 1, 1, 1, 4, 8, 11][numbers.below(8) as usize]);
         for turn in 0..u64::from(TURNS) {
-            let sector = NAMED[numbers.below(4) as usize] | ((turn % 2) ^ 1) << 40;
+            let sector = NAMED[numbers.below(4) as usize] | ((turn + 1) % 2) << 40;
             self.guest.store(place + 8, sector);
         }
     }
@@ -235,7 +235,7 @@ impl Shared {
         let next = self.next.load(Relaxed) as u16;
         for turn in 0..16 {
             let slot = DRIVER + 4 + 2 * usize::from((next.wrapping_add(turn / 4)) % ENTRIES);
-            let head = HEADS[numbers.below(4) as usize] + ENTRIES * ((turn % 2) ^ 1);
+            let head = HEADS[numbers.below(4) as usize] + ENTRIES * ((turn + 1) % 2);
             self.guest.word(slot).store(head, Relaxed);
         }
         if numbers.one_in(8) {
@@ -523,4 +523,34 @@ fn nothing_is_fetched_again_after_its_test() {
             race(is_packed, is_translated);
         }
     }
+}
+
+// An index that goes on over 256 is one of both numbers, and no mixture of their bytes.
+#[test]
+#[ignore = "two bytes are copied by the C library's memcpy, which loads the first one, and then both"]
+fn an_index_is_loaded_whole() {
+    let file = memfd(SIZE as u64).unwrap();
+    let machine = Machine::new().unwrap();
+    let (memory, base) = memory_of(&machine, &file, false);
+    let memory = machine.memory(memory).unwrap();
+    let driver = Driver::new(memory, base, ENTRIES);
+    let (queue, place) = (driver.queue(64), (driver.avail_ring + 2 - base) as usize);
+    let (guest, is_over) = (BusyGuest(Guest::of_file(&file, SIZE)), AtomicBool::new(false));
+    guest.word(place).store(0xff, SeqCst);
+    thread::scope(|scope| {
+        let (guest, over) = (&guest, &is_over);
+        scope.spawn(move || {
+            while !over.load(Relaxed) {
+                guest.word(place).store(0x100, Relaxed);
+                guest.word(place).store(0xff, Relaxed);
+            }
+        });
+        let is_over = EndsGuest(&is_over);
+        let begun = Instant::now();
+        while begun.elapsed() < TIME {
+            let index = queue.avail_idx(&memory).unwrap();
+            assert!(index == 0xff || index == 0x100, "an index of {index:#x}");
+        }
+        drop(is_over);
+    });
 }

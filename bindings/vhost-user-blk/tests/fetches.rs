@@ -161,15 +161,22 @@ fn serve_one(is_packed: bool, is_translated: bool, event_idx: bool, is_indirect:
     let (more, accesses) = it.trace(|queue, memory| queue.enable_notification(memory).unwrap());
     assert!(!more);
     // Whether there is memory is tried by loads, whose values do not count, before anything is stored.
-    #[allow(clippy::single_range_in_vec_init)]
-    let told = match (is_packed, event_idx) {
-        (true, _) => vec![DEVICE..DEVICE + 2, DEVICE + 2..DEVICE + 4],
-        (false, true) => vec![DEVICE + 4 + 64..DEVICE + 6 + 64],
-        (false, false) => vec![DEVICE..DEVICE + 2],
+    let words = match (is_packed, event_idx) {
+        (true, _) => vec![DEVICE, DEVICE + 2],
+        (false, true) => vec![DEVICE + 4 + 64],
+        (false, false) => vec![DEVICE],
     };
-    let tried = told.iter().map(|part| (LOAD, part.clone())).chain([index.clone()]);
-    let stored = told.iter().map(|part| (STORE, part.clone())).chain([index.clone()]);
-    expect(&accesses, &tried.chain(stored).collect::<Vec<_>>(), &what("enable"));
+    let told = |is_store| {
+        words
+            .iter()
+            .map(move |&at| (is_store, at..at + 2))
+            .chain([index.clone()])
+    };
+    expect(
+        &accesses,
+        &told(LOAD).chain(told(STORE)).collect::<Vec<_>>(),
+        &what("enable"),
+    );
     let (_, accesses) = it.trace(|queue, memory| queue.disable_notification(memory).unwrap());
     let told = match (is_packed, event_idx) {
         (true, _) => vec![(STORE, DEVICE + 2..DEVICE + 4)],
