@@ -3,8 +3,6 @@
 
 mod answer;
 mod call;
-#[cfg(test)]
-mod calls;
 mod code;
 mod commands;
 pub mod laws;

@@ -1,8 +1,7 @@
-//! Tests: a call of a session, and that one may go to another thread. Rows of text have the other calls, in
-//! bindings/rust/tests/rows/session.txt.
+//! A call of a session. Rows of text have the others, in bindings/rust/tests/rows/session.txt.
 
-use crate::{Call, Session};
 use std::test::Fail;
+use vm_session::{Call, Session};
 
 // Makes a block of 64 bytes, with pages of 16.
 const BLOCK: Call = Call {

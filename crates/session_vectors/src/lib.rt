@@ -1,0 +1,5 @@
+//! Tests of sessions: a call, and that one may go to another thread.
+#![tactic(auto)]
+
+#[cfg(test)]
+mod calls;
