@@ -283,11 +283,11 @@ fn an_iommu_maps_and_marks() {
         Cannot translate I/O virtual address range 0x8000+4: access not allowed"
     );
     assert_eq!(machine.take_miss(), missed(0x8000, 4, Permissions::Write));
-    // A read over the end of what is mapped misses what lies beyond, and a write is forbidden before that.
+    // A read over the end of what is mapped misses what lies beyond. So does a write that is forbidden before that.
     memory.read_obj::<[u8; 8]>(at(0x800c)).unwrap_err();
     assert_eq!(machine.take_miss(), missed(0x8010, 4, Permissions::Read));
     memory.write_obj([0_u8; 8], at(0x800c)).unwrap_err();
-    assert_eq!(machine.take_miss(), missed(0x800c, 4, Permissions::Write));
+    assert_eq!(machine.take_miss(), missed(0x8010, 4, Permissions::Write));
     // What lies before it is missed first, and a call that is not refused leaves what was told.
     memory.write_obj([0_u8; 24], at(0x7ffc)).unwrap_err();
     memory.read_obj::<u32>(at(0x8000)).unwrap();
@@ -370,7 +370,7 @@ fn misses_are_told_wherever_they_lie() {
             .set_mapping(table, at(base), at(0x1000), 4, Permissions::Read)
             .unwrap();
         memory.write_obj(1_u64, at(base)).unwrap_err();
-        assert_eq!(machine.take_miss(), missed(base, 4, Permissions::Write));
+        assert_eq!(machine.take_miss(), missed(base + 4, 4, Permissions::Write));
         memory.read_obj::<u64>(at(base)).unwrap_err();
         assert_eq!(machine.take_miss(), missed(base + 4, 4, Permissions::Read));
         machine.invalidate_all(table).unwrap();

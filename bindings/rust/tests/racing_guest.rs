@@ -527,7 +527,6 @@ fn nothing_is_fetched_again_after_its_test() {
 
 // An index that goes on over 256 is one of both numbers, and no mixture of their bytes.
 #[test]
-#[ignore = "two bytes are copied by the C library's memcpy, which loads the first one, and then both"]
 fn an_index_is_loaded_whole() {
     let file = memfd(SIZE as u64).unwrap();
     let machine = Machine::new().unwrap();

@@ -369,18 +369,26 @@ impl<'a> Guest<'a> {
         self.machine.apply_iotlb(self.memory.id(), &message, &[]).unwrap();
     }
 
-    /// What the machine says that a refused access missed first. Before it nothing is missed, and each end of it is.
+    /// What the machine says that a refused access missed first. Before it nothing is missed, and each end of it is. If
+    /// nothing is missed, it is what was forbidden first.
     pub fn first_missed(&self, range: IovaRange, step: Step) -> IovaRange {
         let Miss { iova_range, access } = self.machine.take_miss().expect("the table refused a call");
         assert_eq!(access, access_of(step));
-        let allowed = |base: u64, length: u64| {
+        let lookup = |base: u64, length: u64| {
             let found = self.machine.lookup(self.table, at(base), length as usize, access);
-            found.unwrap().is_ok()
+            found.unwrap()
         };
+        let allowed = |base: u64, length: u64| lookup(base, length).is_ok();
+        let mapped =
+            |base: u64, length: u64| lookup(base, length).map_or_else(|fails| fails.misses.is_empty(), |_| true);
         let (base, length) = (iova_range.base.0, iova_range.length as u64);
         let (first, end) = (range.base.0, range.base.0 + range.length as u64);
         assert!(first <= base && length > 0 && base + length <= end);
-        assert!(allowed(first, base - first) && !allowed(base, 1) && !allowed(base + length - 1, 1));
+        if mapped(first, end - first) {
+            assert!(allowed(first, base - first) && !allowed(base, 1) && !allowed(base + length - 1, 1));
+        } else {
+            assert!(mapped(first, base - first) && !mapped(base, 1) && !mapped(base + length - 1, 1));
+        }
         iova_range
     }
 
