@@ -131,7 +131,8 @@ fn a_page_that_is_forbidden_is_not_asked_for_again() {
         .misses
         .iter()
         .filter(|(iova, _)| (page..page + 2 * PAGE).contains(iova));
-    assert!(asked.count() <= 2);
+    // The table is emptied once for a call that misses again.
+    assert!(asked.count() <= 3);
     assert_eq!(front.io().forbidden, [(page, WRITE)]);
 }
 
