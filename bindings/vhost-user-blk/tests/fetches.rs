@@ -144,10 +144,11 @@ fn expect(accesses: &[Access], wanted: &[(bool, Range<usize>)], what: &str) {
     assert_eq!(accesses.peek(), None, "{what}: it is more than {wanted:x?}");
 }
 
-// Whether there is memory is tried by loads before anything is stored. Their values do not count, and the compiler may
-// leave them out.
+// Whether there is memory is tried by loads before anything is stored, of each byte at most once. Their values do not count,
+// and the compiler may leave them out.
 fn after_tries<'a>(accesses: &'a [Access], tried: &[(bool, Range<usize>)]) -> &'a [Access] {
-    let is_try = |it: &&Access| !it.is_store && tried.iter().any(|(_, part)| part.contains(&it.at));
+    let mut left: BTreeSet<usize> = tried.iter().flat_map(|(_, part)| part.clone()).collect();
+    let is_try = |it: &&Access| !it.is_store && (it.at..it.at + it.len).all(|byte| left.remove(&byte));
     &accesses[accesses.iter().take_while(is_try).count()..]
 }
 
