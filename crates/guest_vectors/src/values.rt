@@ -6,7 +6,7 @@ use std::test::Fail;
 use test_regions::{Place, memory_of};
 use test_text::expect_text;
 use vm_memory_base::{ByteValued, GuestAddress};
-use vm_memory_guest::{Bytes, GuestMemory, GuestMemoryResult, HostMemory};
+use vm_memory_guest::{Bytes, GuestMemory, GuestMemoryResult, Hinted, HostMemory};
 
 const TWO_BLOCKS: [Place; 2] = [Place::Block(0, 0x400), Place::Block(0x400, 0x400)];
 
@@ -115,6 +115,12 @@ fn a_store_takes_one_window_and_a_value_any_number(rt: HostRuntime) -> Result<()
         let told = told_of_values(alloc, &mut host, &memory, GuestAddress(*addr))?;
         let wanted = format!(in alloc; "{stores} {values} {left:?} {bytes}")?;
         expect_text(case, told.as_str(), wanted.as_str())?;
+        // Twice, since the second time the hint is of another region, or the same.
+        let near = Hinted::new(&memory);
+        for _ in 0..2 {
+            let told = told_of_values(alloc, &mut host, &near, GuestAddress(*addr))?;
+            expect_text(case, told.as_str(), wanted.as_str())?;
+        }
         // A value without a byte is there at any address.
         assert!(rt; comes_back(&mut host, &memory, [0u32; 0], *addr, &[])?);
     }

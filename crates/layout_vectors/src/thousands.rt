@@ -4,7 +4,7 @@ use std::sync::Arc;
 use std::test::Fail;
 use test_regions::TestRegion;
 use vm_memory_base::GuestAddress;
-use vm_memory_guest::{GuestMemoryBackend, GuestMemoryRegion, GuestRegionCollection, Hinted};
+use vm_memory_guest::{GuestMemoryBackend, GuestMemoryRegion, GuestRegionCollection};
 
 // Whether searches for the first and the last of each 0x1000 addresses find each of the thousand regions but one, and
 // none between, by at most ten probes.
@@ -63,21 +63,16 @@ fn place_in<M: GuestMemoryBackend>(backend: &M, addr: GuestAddress) -> Option<(u
     Some((region.start_addr().0, offset.0))
 }
 
-// Whether a hinted layout answers as the layout does for the first and the last of 0x1000 addresses.
-fn answers_alike(
-    layout: &GuestRegionCollection<TestRegion>,
-    hinted: &Hinted<'_, GuestRegionCollection<TestRegion>>,
-    page: u64,
-) -> bool {
+// Whether a search near a region finds, for the first and the last of 0x1000 addresses, what a search without one finds.
+fn finds_alike(layout: &GuestRegionCollection<TestRegion>, page: u64, hint: usize) -> bool {
     [0u64, 0xfff].iter().all(|offset| {
         let addr = GuestAddress(page.wrapping_mul(0x1000).wrapping_add(*offset));
-        let found = hinted.find_region(addr).map(|region| region.last_addr().0);
-        let wanted = layout.find_region(addr).map(|region| region.last_addr().0);
-        found == wanted && place_in(hinted, addr) == place_in(layout, addr)
+        let (found, _) = layout.find_near(addr, hint);
+        let place = found.map(|(region, offset)| (region.start_addr().0, offset.0));
+        place == place_in(layout, addr)
     })
 }
 
-// The regions of the addresses lie near one another at first, and then far apart.
 #[test]
 fn a_hint_changes_no_answer(rt: HostRuntime) -> Result<(), Fail> {
     let all = (0..1000u64).filter_map(|number| TestRegion::bare(
@@ -86,12 +81,12 @@ fn a_hint_changes_no_answer(rt: HostRuntime) -> Result<(), Fail> {
     ));
     let regions: Vec<TestRegion> = all.collect(rt.alloc())?;
     let layout = GuestRegionCollection::from_regions(rt.alloc(), regions)?;
-    let hinted = Hinted::new(&layout);
-    assert!(rt; (0..2002u64).all(|page| answers_alike(&layout, &hinted, page)));
-    assert!(rt;
-        (0..2002u64).all(|page| answers_alike(&layout, &hinted, page.wrapping_mul(1999) % 2002))
-    );
-    assert!(rt; hinted.num_regions() == 1000 && hinted.last_addr() == layout.last_addr());
+    for hint in [0usize, 1, 499, 500, 998, 999, 1000, usize::MAX] {
+        assert!(rt;
+            (0..2002u64).all(|page| finds_alike(&layout, page, hint)),
+            "{hint}"
+        );
+    }
     Ok(())
 }
 
@@ -108,15 +103,18 @@ fn a_hint_asks_one_region(rt: HostRuntime) -> Result<(), Fail> {
         regions.push(region)?;
     }
     let layout = GuestRegionCollection::from_arc_regions(again)?;
-    let hinted = Hinted::new(&layout);
     let before: Vec<usize> = regions
         .iter()
         .map(|region| region.asked())
         .collect(rt.alloc())?;
-    let all_found = (0..0x1000u64).all(|offset| {
+    let mut all_found = true;
+    let mut hint = 0;
+    for offset in 0..0x1000u64 {
         let addr = GuestAddress(offset.wrapping_add(0x2000 * 777));
-        hinted.find_region(addr).is_some()
-    });
+        let (found, next) = layout.find_near(addr, hint);
+        all_found = all_found && found.is_some();
+        hint = next;
+    }
     assert!(rt; all_found);
     for (number, region) in regions.iter().enumerate() {
         let asked_before = before.get(number).copied().unwrap_or(0);

@@ -14,7 +14,7 @@ use vm_memory_base::{
 use vm_memory_guest::laws::host::names_are_held_one_by_one;
 use vm_memory_guest::{
     GuestMemory, GuestMemoryBackend, GuestMemoryError, GuestMemoryResult, HostMemory, HostShape,
-    IommuMemorySliceIterator, Named, SpaceId, TlbId,
+    IommuMemorySliceIterator, Named, SpaceId, TlbId, VolatileSlice,
 };
 
 /// An IOMMU: it translates I/O addresses. Its table lies in the host, which lends it.
@@ -308,6 +308,31 @@ impl<M: GuestMemoryBackend, I: Iommu> GuestMemory for IommuMemory<M, I> {
             )),
             Err(error) => Err(error_of_translation(error)),
         }
+    }
+
+    #[inline(always)]
+    fn find_window<B: Bitmap>(
+        &self,
+        host: &HostMemory<B>,
+        addr: GuestAddress,
+        count: usize,
+        access: Permissions,
+        hint: usize,
+    ) -> (Option<VolatileSlice>, usize) {
+        if self.use_iommu {
+            let table = host.table(self.iommu.table());
+            let Some(piece) = self.iommu.translate_one(table, addr, count, access) else {
+                return (None, hint);
+            };
+            return IommuMemorySliceIterator::window_of_piece(
+                &self.backend,
+                piece,
+                addr,
+                self.space,
+                hint,
+            );
+        }
+        GuestMemory::find_window(&self.backend, host, addr, count, access, hint)
     }
 
     #[inline]

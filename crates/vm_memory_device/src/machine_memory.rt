@@ -10,7 +10,7 @@ use vm_memory_base::{Bitmap, GuestAddress, Permissions};
 use vm_memory_guest::laws::host::names_are_held_one_by_one;
 use vm_memory_guest::{
     GuestMemory, GuestMemoryBackend, GuestMemoryRegion, GuestMemoryResult, GuestRegionCollection,
-    HostMemory, HostShape, IommuMemorySliceIterator, Named,
+    HostMemory, HostShape, IommuMemorySliceIterator, Named, VolatileSlice,
 };
 
 /// A memory of a machine: guest memory with or without an IOMMU. Each access of a machine is one of either kind.
@@ -82,6 +82,25 @@ impl<R: GuestMemoryRegion, I: Iommu> GuestMemory for MachineMemory<R, I> {
                 GuestMemory::get_slices(layout, host, addr, count, access)
             }
             MachineMemory::Translated(memory) => memory.get_slices(host, addr, count, access),
+        }
+    }
+
+    #[inline(always)]
+    fn find_window<B: Bitmap>(
+        &self,
+        host: &HostMemory<B>,
+        addr: GuestAddress,
+        count: usize,
+        access: Permissions,
+        hint: usize,
+    ) -> (Option<VolatileSlice>, usize) {
+        match self {
+            MachineMemory::Plain(layout) => {
+                GuestMemory::find_window(layout, host, addr, count, access, hint)
+            }
+            MachineMemory::Translated(memory) => {
+                memory.find_window(host, addr, count, access, hint)
+            }
         }
     }
 

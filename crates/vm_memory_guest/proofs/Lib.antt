@@ -28,7 +28,7 @@ pub mod QueryLemmas
 pub mod TryLemmas
 pub mod WholeRanges
 pub mod AccessLemmas
-pub mod FirstWindow
+pub mod OneWindow
 pub mod OrderLemmas
 pub mod DealtLaws
 pub mod FilledLaws

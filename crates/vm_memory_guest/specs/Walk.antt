@@ -15,6 +15,10 @@ use Rattle.vm_memory_guest.specs.declared.region.error.GuestMemoryError.TheVaria
 abbrev pub reach_of : Access → Reach AccessFault
 reach_of access = record { windows = windows access.path; fault = access.fault }
 
+-- a walk that goes through one window, and ends there
+abbrev pub alone : Window → Reach AccessFault
+alone w = record { windows = w ∷ []; fault = None }
+
 -- what a walk gives that has these windows left: them in order, and then the error, if something stops it
 abbrev pub error_item : Option AccessFault → List (Result Window GuestMemoryError)
 error_item None = []

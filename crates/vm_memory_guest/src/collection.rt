@@ -297,7 +297,7 @@ impl<R: GuestMemoryRegion> GuestMemoryBackend for GuestRegionCollection<R> {
         self.search(addr).0
     }
 
-    #[inline]
+    #[inline(always)]
     fn find_near(
         &self,
         addr: GuestAddress,

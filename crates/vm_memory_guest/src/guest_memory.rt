@@ -1,6 +1,6 @@
 //! Guest memory: backends, which are collections of regions, the walk through them, and access by guest
 //! address.
-ghost use Rattle.std.specs.Prelude.{◌≡◌, ◌⊎◌, map, All, None, MatchOption, MatchResult};
+ghost use Rattle.std.specs.Prelude.{◌≡◌, ◌⊎◌, ◌∷◌, [], map, All, None, IfSome, MatchOption, MatchResult};
 ghost use Rattle.std.specs.Iterator.{YieldsFirst, item_count};
 ghost use Rattle.vm_memory_guest.specs.Access.{access_of};
 ghost use Rattle.vm_memory_guest.specs.Host.{shape_of, Holds};
@@ -8,7 +8,7 @@ ghost use Rattle.vm_memory_guest.specs.Region.{IsRegion, IsLayout};
 ghost use Rattle.vm_memory_guest.specs.Memory.{Memory, IsOn, behind_of, memory_names, route};
 ghost use Rattle.vm_memory_guest.specs.Pieces.{marking, walk_of_pieces};
 ghost use Rattle.vm_memory_guest.specs.Queries.{is_whole};
-ghost use Rattle.vm_memory_guest.specs.Walk.{items_of, GivesAccess, RefusesAccess, WantsMemory};
+ghost use Rattle.vm_memory_guest.specs.Walk.{alone, items_of, GivesAccess, RefusesAccess, WantsMemory};
 
 pub mod access;
 pub mod backend;
@@ -25,7 +25,9 @@ use crate::host::{HostMemory, Named, SpaceId};
 use crate::region::error::{GuestMemoryError, GuestMemoryResult};
 use crate::volatile_memory::slice::VolatileSlice;
 use std::marker::Model;
-use vm_memory_base::{Bitmap, GuestAddress, MappedRangeList, Permissions};
+use vm_memory_base::{
+    Bitmap, BitmapId, BitmapRef, GuestAddress, MappedRange, MappedRangeList, Permissions,
+};
 
 /// The windows of an access, translated or not, and then the error that stopped it. After its end or an error
 /// it stays ended.
@@ -71,6 +73,32 @@ impl<'a, M: GuestMemoryBackend> IommuMemorySliceIterator<'a, M> {
             walk: GuestMemoryBackend::get_slices(backend, iova, 0),
             behind: None,
         }
+    }
+
+    /// The window of one such piece, if it lies in one that is found at once, and a number for the next call, as from
+    /// `find_window`.
+    ///
+    /// Leaves open: `None` for each piece.
+    #[inline(always)]
+    pub fn window_of_piece(
+        backend: &M,
+        piece: MappedRange,
+        iova: GuestAddress,
+        space: SpaceId,
+        hint: usize,
+    ) -> (Option<VolatileSlice>, usize)
+        ensures { let regions = map M.R.region (M.regions backend.now) in IfSome result.0
+            (λ w. alone w ≡ marking space.0 iova.0 (walk_of_pieces regions (piece ∷ []))) }
+    {
+        let (found, next) = backend.window_near(piece.base, piece.length, hint);
+        let Some(window) = found else {
+            return (None, next);
+        };
+        let bitmap = BitmapRef {
+            id: BitmapId::Space(space.0),
+            base: iova.0 as usize,
+        };
+        (Some(window.marking(bitmap)), next)
     }
 }
 
@@ -132,6 +160,27 @@ pub trait GuestMemory: Named {
             ⊎ RefusesAccess (memory self.now) host.now.tables addr.0 count access e) }
         ensures layout { IsLayout (memory self.now).regions };
 
+    /// The window of `count` bytes from an address on, if they are allowed and lie in one that is found at once, and a
+    /// number for the next call. The region of the number `hint` is asked first, so that a call for an address near the
+    /// last one need not search. `None` says nothing of the access. It allocates nothing.
+    ///
+    /// Leaves open: `None` for each access.
+    #[inline]
+    fn find_window<B: Bitmap>(
+        &self,
+        _host: &HostMemory<B>,
+        _addr: GuestAddress,
+        _count: usize,
+        _access: Permissions,
+        hint: usize,
+    ) -> (Option<VolatileSlice>, usize)
+        requires { Holds (shape_of _host.now) (Self.names self.now) }
+        ensures { IfSome result.0 (λ w.
+            GivesAccess (memory self.now) _host.now.tables _addr.0 _count _access (alone w)) }
+    {
+        (None, hint)
+    }
+
     /// Whether each of `count` bytes from an address on may be accessed so, and has a byte of the host. For no
     /// bytes it is true. The only error is `Memory`, as from `get_slices`.
     #[inline]
@@ -148,6 +197,9 @@ pub trait GuestMemory: Named {
             MatchResult result (λ all. all ≡ is_whole reached.path count)
             (WantsMemory m host.now.tables addr.0 count access) }
     {
+        if let (Some(_), _) = self.find_window(host, addr, count, access, 0) {
+            return Ok(true);
+        }
         match self.get_slices(host, addr, count, access) {
             Ok(walk) => Ok(ends_well(walk)),
             Err(GuestMemoryError::Memory) => Err(GuestMemoryError::Memory),
@@ -193,6 +245,18 @@ impl<M: GuestMemoryBackend> GuestMemory for M {
             walk: GuestMemoryBackend::get_slices(self, addr, count),
             behind: None,
         })
+    }
+
+    #[inline(always)]
+    fn find_window<B: Bitmap>(
+        &self,
+        _host: &HostMemory<B>,
+        addr: GuestAddress,
+        count: usize,
+        _access: Permissions,
+        hint: usize,
+    ) -> (Option<VolatileSlice>, usize) {
+        self.window_near(addr, count, hint)
     }
 
     #[inline]

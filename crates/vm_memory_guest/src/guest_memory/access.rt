@@ -1,5 +1,5 @@
 //! Access to bytes of guest memory, by guest address.
-ghost use Rattle.std.specs.Prelude.{◌≡◌, ◌⊎◌, ◌-◌, ◌^◌, ◌<◌, ◌≤◌, ◌∷◌, min, length, IfOk, MatchResult, Ok, Err, option_map, ◌==◌, if◌then◌else◌};
+ghost use Rattle.std.specs.Prelude.{◌≡◌, ◌⊎◌, ◌-◌, ◌^◌, ◌<◌, ◌≤◌, min, length, IfOk, IfSome, MatchResult, Ok, Err, option_map, ◌==◌, if◌then◌else◌};
 ghost use Rattle.std.specs.List.{AllByRecursion};
 ghost use Rattle.vm_memory_guest.specs.Access.{access_of, windows};
 ghost use Rattle.vm_memory_guest.specs.Host.{shape_of, Holds};
@@ -9,7 +9,7 @@ ghost use Rattle.vm_memory_guest.specs.Memory.{route};
 ghost use Rattle.vm_memory_guest.specs.Transfer.{UntilWhole, ended};
 ghost use Rattle.vm_memory_guest.specs.Typed.{first_aligned, place_of};
 ghost use Rattle.vm_memory_guest.specs.lemmas.TypedFacts.{first-sized};
-ghost use Rattle.vm_memory_guest.specs.Walk.{reached, GivesAccess, NeedsPieces, RefusesAccess, WantsMemory};
+ghost use Rattle.vm_memory_guest.specs.Walk.{alone, reached, GivesAccess, NeedsPieces, RefusesAccess, WantsMemory};
 ghost use Rattle.vm_memory_guest.specs.Window.{span, cells, window_names, Writes};
 ghost use Rattle.vm_memory_guest.specs.declared.region.error.GuestMemoryError.TheVariants as errors;
 
@@ -56,6 +56,10 @@ impl<T: GuestMemory> Bytes<GuestAddress> for T {
         buf: &[u8],
         addr: GuestAddress,
     ) -> GuestMemoryResult<usize> {
+        if let Some(window) = window_of(self, host, addr, buf.len(), Permissions::Write) {
+            host.write(&window, buf);
+            return Ok(buf.len());
+        }
         let walk = windows_of(self, host, addr, buf.len(), Permissions::Write)?;
         write_windows(walk, host, buf)
     }
@@ -67,6 +71,10 @@ impl<T: GuestMemory> Bytes<GuestAddress> for T {
         buf: &mut [u8],
         addr: GuestAddress,
     ) -> GuestMemoryResult<usize> {
+        if let Some(window) = window_of(self, host, addr, buf.len(), Permissions::Read) {
+            buf.copy_from_slice(host.bytes(&window));
+            return Ok(buf.len());
+        }
         let walk = windows_of(self, host, addr, buf.len(), Permissions::Read)?;
         read_windows(walk, host, buf)
     }
@@ -101,9 +109,16 @@ impl<T: GuestMemory> Bytes<GuestAddress> for T {
         val: V,
         addr: GuestAddress,
     ) -> GuestMemoryResult<()> {
-        let walk = windows_of(self, host, addr, V::size(), Permissions::Write)?;
-        let completed = write_value(walk, host, &val)?;
-        whole(V::size(), completed)
+        let size = V::size();
+        if size <= AT_ONCE {
+            if let Some(window) = window_of(self, host, addr, size, Permissions::Write) {
+                host.write_value(&window, &val, 0);
+                return Ok(());
+            }
+        }
+        let windows = windows_of(self, host, addr, size, Permissions::Write)?;
+        let completed = write_value(windows, host, &val)?;
+        whole(size, completed)
     }
 
     #[inline(always)]
@@ -112,10 +127,16 @@ impl<T: GuestMemory> Bytes<GuestAddress> for T {
         host: &HostMemory<B>,
         addr: GuestAddress,
     ) -> GuestMemoryResult<V> {
-        let walk = windows_of(self, host, addr, V::size(), Permissions::Read)?;
+        let size = V::size();
+        if size <= AT_ONCE {
+            if let Some(window) = window_of(self, host, addr, size, Permissions::Read) {
+                return Ok(host.value(&window));
+            }
+        }
+        let walk = windows_of(self, host, addr, size, Permissions::Read)?;
         let mut value = V::zeroed();
         let completed = read_value(walk, host, &mut value)?;
-        whole(V::size(), completed)?;
+        whole(size, completed)?;
         value.known();
         Ok(value)
     }
@@ -129,6 +150,12 @@ impl<T: GuestMemory> Bytes<GuestAddress> for T {
         _order: Ordering,
     ) -> GuestMemoryResult<()> {
         let size = V::size();
+        if let Some(window) = window_of(self, host, addr, size, Permissions::Write) {
+            if window.is_aligned(size) {
+                host.write_value(&window, &val, 0);
+                return Ok(());
+            }
+        }
         let walk = windows_of(self, host, addr, size, Permissions::Write)?;
         let window = first_window(walk, size)?;
         host.write_value(&window, &val, 0);
@@ -143,6 +170,11 @@ impl<T: GuestMemory> Bytes<GuestAddress> for T {
         _order: Ordering,
     ) -> GuestMemoryResult<V> {
         let size = V::size();
+        if let Some(window) = window_of(self, host, addr, size, Permissions::Read) {
+            if window.is_aligned(size) {
+                return Ok(host.value(&window));
+            }
+        }
         let walk = windows_of(self, host, addr, size, Permissions::Read)?;
         let window = first_window(walk, size)?;
         Ok(host.value(&window))
@@ -199,6 +231,30 @@ impl<T: GuestMemory> Bytes<GuestAddress> for T {
         first-sized size (windows reached.path) (option_map error_of reached.fault) };
 }
 
+// The bytes of a longer value would be moved one by one if they were moved at once.
+const AT_ONCE: usize = 16;
+
+// The number of no region, which is asked first by a call that has no hint.
+const NO_REGION: usize = usize::MAX;
+
+// The window that an access lies in, if it is found at once.
+#[inline(always)]
+fn window_of<M: GuestMemory, B: Bitmap>(
+    memory: &M,
+    host: &HostMemory<B>,
+    addr: GuestAddress,
+    count: usize,
+    access: Permissions,
+) -> Option<VolatileSlice>
+    requires { Holds (shape_of host.now) (M.names memory.now) }
+    ensures gives { let m = M.memory memory.now in
+        IfSome result (λ w. GivesAccess m host.now.tables addr.0 count access (alone w)) }
+    ensures size { IfSome result (λ w. w.size ≡ count) }
+    ensures held { IfSome result (λ w. Holds (shape_of host.now) (window_names w)) }
+{
+    memory.find_window(host, addr, count, access, NO_REGION).0
+}
+
 // The walk of an access: at most as many bytes as are asked for, in windows that the host holds.
 #[inline(always)]
 fn windows_of<'m, M: GuestMemory, B: Bitmap>(
@@ -220,11 +276,10 @@ fn windows_of<'m, M: GuestMemory, B: Bitmap>(
     memory.get_slices(host, addr, count, access)
 }
 
-// Moves the buffer into the windows that a walk gives, one after the other, up to an error. A buffer that the first
-// takes whole is moved at once, with what the compiler knows of its length.
+// Moves the buffer into the windows that a walk gives, one after the other, up to an error.
 #[inline(always)]
 fn write_windows<M: GuestMemoryBackend, B: Bitmap>(
-    mut walk: IommuMemorySliceIterator<'_, M>,
+    walk: IommuMemorySliceIterator<'_, M>,
     host: &mut HostMemory<B>,
     buf: &[u8],
 ) -> GuestMemoryResult<usize>
@@ -234,36 +289,7 @@ fn write_windows<M: GuestMemoryBackend, B: Bitmap>(
         result ≡ ended (span walk.windows) (option_map error_of walk.fault) }
     ensures bytes { Writes B.marks walk.entry.windows buf.now host.old host.new }
 {
-    match walk.next() {
-        None => Ok(0),
-        Some(Err(error)) => Err(error),
-        Some(Ok(window)) => {
-            let len = window.len();
-            if len == buf.len() && len > 0 {
-                host.write(&window, buf);
-                return Ok(len);
-            }
-            write_parts(window, walk, host, buf)
-        }
-    }
-}
-
-// Moves the buffer into a window, and what is left of it into those that a walk gives.
-#[inline(always)]
-fn write_parts<M: GuestMemoryBackend, B: Bitmap>(
-    first: VolatileSlice,
-    walk: IommuMemorySliceIterator<'_, M>,
-    host: &mut HostMemory<B>,
-    buf: &[u8],
-) -> GuestMemoryResult<usize>
-    requires held { AllByRecursion (λ w. Holds (shape_of host.old) (window_names w)) (first ∷ walk.windows) }
-    requires fits { span (first ∷ walk.windows) ≤ length buf.now }
-    ensures answer { let walk = walk.entry in
-        result ≡ ended (span (first ∷ walk.windows)) (option_map error_of walk.fault) }
-    ensures bytes { Writes B.marks (first ∷ walk.entry.windows) buf.now host.old host.new }
-{
-    let mut total = first.len();
-    host.write(&first, &buf[..total]);
+    let mut total = 0;
     for item in walk {
         match item {
             Ok(window) => {
@@ -277,11 +303,10 @@ fn write_parts<M: GuestMemoryBackend, B: Bitmap>(
     Ok(total)
 }
 
-// Fills the buffer from the windows that a walk gives, one after the other, up to an error. One that the first fills
-// whole is filled at once, as `write_windows` writes it.
+// Fills the buffer from the windows that a walk gives, one after the other, up to an error.
 #[inline(always)]
 fn read_windows<M: GuestMemoryBackend, B: Bitmap>(
-    mut walk: IommuMemorySliceIterator<'_, M>,
+    walk: IommuMemorySliceIterator<'_, M>,
     host: &HostMemory<B>,
     buf: &mut [u8],
 ) -> GuestMemoryResult<usize>
@@ -291,36 +316,7 @@ fn read_windows<M: GuestMemoryBackend, B: Bitmap>(
         result ≡ ended (span walk.windows) (option_map error_of walk.fault) }
     ensures bytes { buf.new ≡ filled_buffer host.now.blocks (cells walk.entry.windows) buf.old }
 {
-    match walk.next() {
-        None => Ok(0),
-        Some(Err(error)) => Err(error),
-        Some(Ok(window)) => {
-            let len = window.len();
-            if len == buf.len() && len > 0 {
-                buf.copy_from_slice(host.bytes(&window));
-                return Ok(len);
-            }
-            read_parts(window, walk, host, buf)
-        }
-    }
-}
-
-// Fills the buffer from a window, and then from those that a walk gives.
-#[inline(always)]
-fn read_parts<M: GuestMemoryBackend, B: Bitmap>(
-    first: VolatileSlice,
-    walk: IommuMemorySliceIterator<'_, M>,
-    host: &HostMemory<B>,
-    buf: &mut [u8],
-) -> GuestMemoryResult<usize>
-    requires held { AllByRecursion (λ w. Holds (shape_of host.now) (window_names w)) (first ∷ walk.windows) }
-    requires fits { span (first ∷ walk.windows) ≤ length buf.old }
-    ensures answer { let walk = walk.entry in
-        result ≡ ended (span (first ∷ walk.windows)) (option_map error_of walk.fault) }
-    ensures bytes { buf.new ≡ filled_buffer host.now.blocks (cells (first ∷ walk.entry.windows)) buf.old }
-{
-    let mut total = first.len();
-    buf[..total].copy_from_slice(host.bytes(&first));
+    let mut total = 0;
     for item in walk {
         match item {
             Ok(window) => {
@@ -337,7 +333,7 @@ fn read_parts<M: GuestMemoryBackend, B: Bitmap>(
 // Moves the bytes of a value into the windows that a walk gives, as `write_windows` does.
 #[inline(always)]
 fn write_value<M: GuestMemoryBackend, V: ByteValued, B: Bitmap>(
-    mut walk: IommuMemorySliceIterator<'_, M>,
+    walk: IommuMemorySliceIterator<'_, M>,
     host: &mut HostMemory<B>,
     value: &V,
 ) -> GuestMemoryResult<usize>
@@ -348,37 +344,7 @@ fn write_value<M: GuestMemoryBackend, V: ByteValued, B: Bitmap>(
     ensures bytes { Writes B.marks walk.entry.windows (V.bytes value.now) host.old host.new }
 {
     value.known();
-    match walk.next() {
-        None => Ok(0),
-        Some(Err(error)) => Err(error),
-        Some(Ok(window)) => {
-            let len = window.len();
-            if len == V::size() && len > 0 {
-                host.write_value(&window, value, 0);
-                return Ok(len);
-            }
-            write_value_parts(window, walk, host, value)
-        }
-    }
-}
-
-// Moves the bytes of a value into a window, and those that are left into the windows that a walk gives.
-#[inline(always)]
-fn write_value_parts<M: GuestMemoryBackend, V: ByteValued, B: Bitmap>(
-    first: VolatileSlice,
-    walk: IommuMemorySliceIterator<'_, M>,
-    host: &mut HostMemory<B>,
-    value: &V,
-) -> GuestMemoryResult<usize>
-    requires held { AllByRecursion (λ w. Holds (shape_of host.old) (window_names w)) (first ∷ walk.windows) }
-    requires fits { span (first ∷ walk.windows) ≤ min V.width (2 ^ 64 - 1) }
-    ensures answer { let walk = walk.entry in
-        result ≡ ended (span (first ∷ walk.windows)) (option_map error_of walk.fault) }
-    ensures bytes { Writes B.marks (first ∷ walk.entry.windows) (V.bytes value.now) host.old host.new }
-{
-    value.known();
-    let mut total = first.len();
-    host.write_value(&first, value, 0);
+    let mut total = 0;
     for item in walk {
         match item {
             Ok(window) => {
@@ -394,39 +360,6 @@ fn write_value_parts<M: GuestMemoryBackend, V: ByteValued, B: Bitmap>(
 // Fills the bytes of a value from the windows that a walk gives, as `read_windows` does.
 #[inline(always)]
 fn read_value<M: GuestMemoryBackend, V: ByteValued, B: Bitmap>(
-    mut walk: IommuMemorySliceIterator<'_, M>,
-    host: &HostMemory<B>,
-    value: &mut V,
-) -> GuestMemoryResult<usize>
-    requires held { AllByRecursion (λ w. Holds (shape_of host.now) (window_names w)) walk.windows }
-    requires fits { span walk.windows ≤ min V.width (2 ^ 64 - 1) }
-    ensures answer { let walk = walk.entry in
-        result ≡ ended (span walk.windows) (option_map error_of walk.fault) }
-    ensures bytes { let cells = cells walk.entry.windows in
-        V.bytes value.new ≡ filled_buffer host.now.blocks cells (V.bytes value.old) }
-{
-    let size = V::size();
-    // The bytes of a longer one would be moved one by one.
-    if size > 8 {
-        return read_long_value(walk, host, value);
-    }
-    match walk.next() {
-        None => Ok(0),
-        Some(Err(error)) => Err(error),
-        Some(Ok(window)) => {
-            let len = window.len();
-            if len == size && len > 0 {
-                value.set_bytes(0, host.bytes(&window));
-                return Ok(len);
-            }
-            read_value_parts(window, walk, host, value)
-        }
-    }
-}
-
-// Fills the bytes of a value from the windows that a walk gives, one after the other.
-#[inline(always)]
-fn read_long_value<M: GuestMemoryBackend, V: ByteValued, B: Bitmap>(
     walk: IommuMemorySliceIterator<'_, M>,
     host: &HostMemory<B>,
     value: &mut V,
@@ -439,35 +372,6 @@ fn read_long_value<M: GuestMemoryBackend, V: ByteValued, B: Bitmap>(
         V.bytes value.new ≡ filled_buffer host.now.blocks cells (V.bytes value.old) }
 {
     let mut total = 0;
-    for item in walk {
-        match item {
-            Ok(window) => {
-                value.set_bytes(total, host.bytes(&window));
-                total += window.len();
-            }
-            Err(error) => return ended(total, error),
-        }
-    }
-    Ok(total)
-}
-
-// Fills the bytes of a value from a window, and then from those that a walk gives.
-#[inline(always)]
-fn read_value_parts<M: GuestMemoryBackend, V: ByteValued, B: Bitmap>(
-    first: VolatileSlice,
-    walk: IommuMemorySliceIterator<'_, M>,
-    host: &HostMemory<B>,
-    value: &mut V,
-) -> GuestMemoryResult<usize>
-    requires held { AllByRecursion (λ w. Holds (shape_of host.now) (window_names w)) (first ∷ walk.windows) }
-    requires fits { span (first ∷ walk.windows) ≤ min V.width (2 ^ 64 - 1) }
-    ensures answer { let walk = walk.entry in
-        result ≡ ended (span (first ∷ walk.windows)) (option_map error_of walk.fault) }
-    ensures bytes { let cells = cells (first ∷ walk.entry.windows) in
-        V.bytes value.new ≡ filled_buffer host.now.blocks cells (V.bytes value.old) }
-{
-    let mut total = first.len();
-    value.set_bytes(0, host.bytes(&first));
     for item in walk {
         match item {
             Ok(window) => {

@@ -1,5 +1,5 @@
 //! Backends: layouts of regions, and the walk through them.
-ghost use Rattle.std.specs.Prelude.{◌≡◌, ◌+◌, ◌-◌, ◌^◌, ◌<◌, ◌≤◌, ◌↔◌, List, length, map, flat_map, slice_get, option_copied, MatchOption, MatchResult, None, Some, Ok, Err, IsSome, IsTrue};
+ghost use Rattle.std.specs.Prelude.{◌≡◌, ◌+◌, ◌-◌, ◌^◌, ◌<◌, ◌≤◌, ◌↔◌, List, length, map, flat_map, slice_get, option_copied, MatchOption, MatchResult, None, Some, Ok, Err, IfSome, IsSome, IsTrue};
 ghost use Rattle.std.specs.Iterator.{YieldsFirst, item_count};
 ghost use Rattle.vm_memory_guest.specs.Access.{meets, path};
 ghost use Rattle.vm_memory_guest.specs.Memory.{Direct};
@@ -8,7 +8,7 @@ ghost use Rattle.vm_memory_guest.specs.Queries.{host_address_at, is_whole, slice
 ghost use Rattle.vm_memory_guest.specs.Region.{IsLayout, containing_in, region_names};
 ghost use Rattle.vm_memory_guest.specs.TryAccess.{CallsAt, Ends, GoesOn, after_call, TryAccess};
 ghost use Rattle.vm_memory_base.specs.Address.{step};
-ghost use Rattle.vm_memory_guest.specs.Walk.{items_of, walk_of};
+ghost use Rattle.vm_memory_guest.specs.Walk.{alone, items_of, walk_of};
 
 use super::iter::RegionIter;
 use super::stop_on_error::{GuestMemorySliceIterator, ends_well};
@@ -103,6 +103,32 @@ pub trait GuestMemoryBackend: Named + Drop {
         ensures layout { IsLayout (map Self.R.region (regions self.now)) }
     {
         (self.to_region_addr(addr), hint)
+    }
+
+    /// The window of `count` bytes from an address on, if there are some and they lie in one region that has host bytes,
+    /// and a number for the next call. The region of the number `hint` is asked first.
+    #[inline(always)]
+    final fn window_near(
+        &self,
+        addr: GuestAddress,
+        count: usize,
+        hint: usize,
+    ) -> (Option<VolatileSlice>, usize)
+        ensures { IfSome result.0 (λ w.
+            walk_of (map Self.R.region (regions self.now)) addr.0 count ≡ alone w) }
+    {
+        known_address(addr);
+        let (found, next) = self.find_near(addr, hint);
+        let Some((region, offset)) = found else {
+            return (None, next);
+        };
+        if count == 0 || region.len() - offset.0 < count as u64 {
+            return (None, next);
+        }
+        match region.get_slice(offset, count) {
+            Ok(window) => (Some(window), next),
+            Err(_) => (None, next),
+        }
     }
 
     /// Whether a region holds an address.

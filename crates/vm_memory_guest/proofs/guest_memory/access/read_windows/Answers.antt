@@ -1,62 +1,56 @@
-use Rattle.std.proofs.Common.{length, ap, ◌∙◌, arith}
+use Rattle.std.proofs.Common.{◌∙◌, ◌+◌, ◌≤◌, sym, ap, length, arith}
 use Rattle.vm_memory_guest.specs.Host.{Holds, shape_of}
 use Rattle.vm_memory_guest.specs.Window.{window_names}
 use Rattle.vm_memory_guest.proofs.HostLemmas.{length-bytes}
-use Rattle.vm_memory_guest.proofs.AccessLemmas.{gave, ends_in, ends_whole, came_first, answer-whole, answer-ends, filled_first, filled-ends}
-use Rattle.vm_memory_guest.proofs.FirstWindow.{whole-buffer, each-first, fits-first, answer-first, answer-whole_first, filled-whole_first, filled-behind}
+use Rattle.vm_memory_guest.proofs.AccessLemmas.{gave, ends_in, ends_whole, next_all, next_fits, answer-whole, answer-ends, filled_first, filled-more, length-part, filled-ends}
 use Rattle.vm_memory_guest.proofs.guest_memory.access.read_windows.Goals as goal
+
+pub loop-item-init : goal.loop-item-init
+loop-item-init g c = rw c.into_iter-item-iterator.ensures.into_iter_gives
+    (filled_first c.args.walk c.args.host.now.blocks c.args.buf.now)
+
+pub overflow_add-end : goal.overflow_add-end
+overflow_add-end g c =
+    let fits = next_fits c.loop-item.invariant.came c.in-Some.ensures.steps c.in-Ok.is _ c.requires.fits in
+    let same = c.loop-item.auto.buf in
+    omega (arith, c.len.ensures)
+
+pub slice_bounds-copy_from_slice-end : goal.slice_bounds-copy_from_slice-end
+slice_bounds-copy_from_slice-end g c =
+    let fits = next_fits c.loop-item.invariant.came c.in-Some.ensures.steps c.in-Ok.is _ c.requires.fits in
+    let same = c.loop-item.auto.buf in
+    omega (arith, c.len.ensures)
 
 pub bytes-requires : goal.bytes-requires
 bytes-requires g c =
-    let each = each-first (gave c.args.walk c.next.new.self _ _ c.in-Some-Ok.ensures.steps c.in-Some-Ok.field-0-is) (λ v. Holds (shape_of c.args.host.now) (window_names v)) c.requires.held in each.0
+    next_all c.loop-item.invariant.came c.in-Some.ensures.steps c.in-Ok.is
+    (λ v. Holds (shape_of c.args.host.now) (window_names v)) c.requires.held
 
 pub copy_from_slice-requires : goal.copy_from_slice-requires
 copy_from_slice-requires g c =
-    let long = ap length c.bytes.ensures ∙ length-bytes c.args.host.now.blocks c.in-Some-Ok.window in
-    omega (arith, c.len-len.ensures)
+    let fits = next_fits c.loop-item.invariant.came c.in-Some.ensures.steps c.in-Ok.is _ c.requires.fits in
+    let len = c.len.ensures in
+    let same = c.loop-item.auto.buf in
+    let inside : c.loop-item.total + c.len.result ≤ length c.loop-item.buf = omega arith in
+    length-part c.loop-item.buf c.bytes.result.now c.loop-item.total c.len.result inside
+    (ap length c.bytes.ensures ∙ (length-bytes c.args.host.now.blocks c.in-Ok.window ∙ sym len))
 
-pub returns-then-len-gt0-clause-answer : goal.returns-then-len-gt0-clause-answer
-returns-then-len-gt0-clause-answer g c =
-    answer-whole_first (gave c.args.walk c.next.new.self _ _ c.in-Some-Ok.ensures.steps c.in-Some-Ok.field-0-is) (length c.args.buf.now) c.len-len.result
-    c.requires.fits c.len-len.ensures (omega arith) (omega arith)
+pub loop-item-preserved : goal.loop-item-preserved
+loop-item-preserved g c =
+    filled-more c.loop-item.invariant
+    (gave c.loop-item.item-iterator c.next.new.self _ _ c.in-Some.ensures.steps c.in-Ok.is)
+    c.copy_from_slice.new.self c.len.result c.len.ensures (c.copy_from_slice.ensures.after ∙ c.bytes.ensures)
 
-pub returns-then-len-gt0-clause-bytes : goal.returns-then-len-gt0-clause-bytes
-returns-then-len-gt0-clause-bytes g c =
-    filled-whole_first (gave c.args.walk c.next.new.self _ _ c.in-Some-Ok.ensures.steps c.in-Some-Ok.field-0-is) (length c.args.buf.now) c.len-len.result
-    c.requires.fits c.len-len.ensures (omega arith) c.args.host.now.blocks c.args.buf.now _ c.bytes.result.now
-    c.bytes.ensures
-    (whole-buffer c.args.buf.now c.copy_from_slice.new.self c.bytes.result.now c.len-len.result
-    c.copy_from_slice.ensures.after (omega arith))
+pub returns-in-Err : goal.returns-in-Err
+returns-in-Err g c =
+    let end = ends_in c.loop-item.item-iterator _ _ _ c.in-Some.ensures.steps c.in-Err.is in record {
+      answer = c.ended.ensures ∙ answer-ends c.loop-item.invariant.came end;
+      bytes = filled-ends c.loop-item.invariant end;
+    }
 
-pub read_parts-requires-clause-held : goal.read_parts-requires-clause-held
-read_parts-requires-clause-held g c =
-    each-first (gave c.args.walk c.next.new.self _ _ c.in-Some-Ok.ensures.steps c.in-Some-Ok.field-0-is) (λ v. Holds (shape_of c.args.host.now) (window_names v)) c.requires.held
-
-pub read_parts-requires-clause-fits : goal.read_parts-requires-clause-fits
-read_parts-requires-clause-fits g c =
-    fits-first (gave c.args.walk c.next.new.self _ _ c.in-Some-Ok.ensures.steps c.in-Some-Ok.field-0-is) _ c.requires.fits
-
-pub returns-in-None-clause-answer : goal.returns-in-None-clause-answer
-returns-in-None-clause-answer g c =
-    answer-whole (came_first c.args.walk) (ends_whole c.args.walk c.in-None.ensures.steps.0)
-
-pub returns-in-None-clause-bytes : goal.returns-in-None-clause-bytes
-returns-in-None-clause-bytes g c =
-    filled-ends (filled_first c.args.walk c.args.host.now.blocks c.args.buf.now) (ends_whole c.args.walk c.in-None.ensures.steps.0)
-
-pub returns-in-Some-Err-clause-answer : goal.returns-in-Some-Err-clause-answer
-returns-in-Some-Err-clause-answer g c =
-    answer-ends (came_first c.args.walk) (ends_in c.args.walk _ _ _ c.in-Some-Err.ensures.steps c.in-Some-Err.field-0-is)
-
-pub returns-in-Some-Err-clause-bytes : goal.returns-in-Some-Err-clause-bytes
-returns-in-Some-Err-clause-bytes g c =
-    filled-ends (filled_first c.args.walk c.args.host.now.blocks c.args.buf.now) (ends_in c.args.walk _ _ _ c.in-Some-Err.ensures.steps c.in-Some-Err.field-0-is)
-
-pub returns-else-len-buf-clause-answer : goal.returns-else-len-buf-clause-answer
-returns-else-len-buf-clause-answer g c =
-    answer-first (gave c.args.walk c.next.new.self _ _ c.in-Some-Ok.ensures.steps c.in-Some-Ok.field-0-is) c.read_parts.result c.read_parts.ensures.answer
-
-pub returns-else-len-buf-clause-bytes : goal.returns-else-len-buf-clause-bytes
-returns-else-len-buf-clause-bytes g c =
-    filled-behind (gave c.args.walk c.next.new.self _ _ c.in-Some-Ok.ensures.steps c.in-Some-Ok.field-0-is) c.args.host.now.blocks
-    c.args.buf.now c.read_parts.new.buf c.read_parts.ensures.bytes
+pub returns : goal.returns
+returns g c =
+    let end = ends_whole c.loop-item.item-iterator c.in-None.ensures.steps.0 in record {
+      answer = answer-whole c.loop-item.invariant.came end;
+      bytes = filled-ends c.loop-item.invariant end;
+    }

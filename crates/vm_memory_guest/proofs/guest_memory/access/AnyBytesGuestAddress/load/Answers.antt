@@ -21,8 +21,8 @@ returns-in_err-walk g c =
     rw (p.1, p.2) (typed-refused memory host.tables c.args.addr.0 g.V.ByteSized.width Read
     (λ w. g.V.ByteValued.value_of (bytes_at host.blocks (cells_of w))) (Unit {0}) (λ ws. Unit {0}) e why tt tt)
 
-pub value-requires-clause-held : goal.value-requires-clause-held
-value-requires-clause-held g c =
+pub value-requires-2-clause-held : goal.value-requires-2-clause-held
+value-requires-2-clause-held g c =
     let walk = c.in_ok-walk.walk in
     first-held (λ w. Holds (shape_of c.args.host.now) (window_names w)) c.size-size.result walk.windows
     (option_map error_of walk.fault)

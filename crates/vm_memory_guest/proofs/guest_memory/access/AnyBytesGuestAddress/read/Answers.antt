@@ -1,7 +1,8 @@
-use Rattle.std.proofs.Common.{◌≡◌, length, refl}
+use Rattle.std.proofs.Common.{◌≡◌, ◌∙◌, ap, length, refl, sym}
 use Rattle.std.proofs.lemmas.Result.{err_from_is_err_and}
 use Rattle.vm_memory_base.specs.declared.iotlb.Permissions.TheVariants.{Read}
 use Rattle.vm_memory_guest.proofs.AccessLemmas.{FilledBy, outcome-walk, at_most-walk, outcome-refused}
+use Rattle.vm_memory_guest.proofs.HostLemmas.{length-bytes}
 use Rattle.vm_memory_guest.proofs.guest_memory.access.AnyBytesGuestAddress.read.Goals as goal
 
 pub returns-in_err-walk-clause-answer : goal.returns-in_err-walk-clause-answer
@@ -25,3 +26,7 @@ returns-clause-at_most g c =
     at_most-walk (g.T.GuestMemory.memory c.args.self.now) c.args.host.now.tables c.args.addr.0
     (length c.args.buf.now) Read c.in_ok-walk.walk c.in_ok-walk.ensures.answer c.read_windows.result
     c.read_windows.ensures.answer
+
+pub copy_from_slice-requires : goal.copy_from_slice-requires
+copy_from_slice-requires g c =
+    sym (ap length c.bytes.ensures ∙ (length-bytes c.args.host.now.blocks c.in-Some.window ∙ c.in-Some.ensures.size))

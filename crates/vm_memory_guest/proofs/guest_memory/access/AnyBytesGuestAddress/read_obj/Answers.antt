@@ -17,7 +17,7 @@ returns-in_err-walk g c short =
     let memory = g.T.GuestMemory.memory c.args.self.now in
     let host = c.args.host.now in
     let e = c.in_err-walk.field-0.0 in
-    let width : c.size.result ≡ g.V.ByteSized.width = omega (arith, c.size.ensures) in
+    let width : c.size-size.result ≡ g.V.ByteSized.width = omega (arith, c.size-size.ensures) in
     let why = subst (λ n. WantsMemory memory host.tables c.args.addr.0 n Read e
     ⊎ RefusesAccess memory host.tables c.args.addr.0 n Read e) width c.in_err-walk.ensures.answer in
     rw (p.1, p.2) (value-refused memory host.tables c.args.addr.0 g.V.ByteSized.width Read
@@ -30,12 +30,12 @@ returns g c short =
     let memory = g.T.GuestMemory.memory c.args.self.now in
     let host = c.args.host.now in
     let walk = c.in_ok-walk.walk in
-    let width : c.size.result ≡ g.V.ByteSized.width = omega (arith, c.size.ensures) in
+    let width : c.size-size.result ≡ g.V.ByteSized.width = omega (arith, c.size-size.ensures) in
     let gives = subst (λ n. GivesAccess memory host.tables c.args.addr.0 n Read walk) width
     c.in_ok-walk.ensures.answer in
     let all : c.in_ok-completed.completed ≡ g.V.ByteSized.width =
-    completed-whole c.in_ok-completed.completed c.size-2.result c.in_ok-whole.field-0 c.in_ok-whole.ensures
-    ∙ (c.size-2.ensures ∙ sym c.size.ensures ∙ width) in
+    completed-whole c.in_ok-completed.completed c.size-size.result c.in_ok-whole.field-0 c.in_ok-whole.ensures
+    ∙ (c.size-size.ensures ∙ sym c.size-size.ensures ∙ width) in
     let zeros = ap length c.zeroed-value.ensures ∙ length-replicate g.V.ByteSized.width 0 in
     let value = g.met.V.ByteValued.laws.from_bytes c.read_value.new.value c.known.ensures in (
       value-read memory host.tables c.args.addr.0 g.V.ByteSized.width Read walk gives host.blocks

@@ -21,8 +21,8 @@ returns-in_err-walk-clause-answer g c =
     rw (p.1, p.2) (typed-refused memory host.tables c.args.addr.0 g.V.ByteSized.width Write (λ w. tt {0}) (host ≡ host)
     (λ ws. Writes g.B.Bitmap.marks ws (g.V.ByteValued.bytes c.args.val) host host) e why refl refl)
 
-pub write_value-requires-clause-held : goal.write_value-requires-clause-held
-write_value-requires-clause-held g c =
+pub write_value-requires-2-clause-held : goal.write_value-requires-2-clause-held
+write_value-requires-2-clause-held g c =
     let walk = c.in_ok-walk.walk in
     first-held (λ w. Holds (shape_of c.args.host.now) (window_names w)) c.size-size.result walk.windows
     (option_map error_of walk.fault)

@@ -1,5 +1,5 @@
 use Rattle.vm_memory_guest.proofs.AccessLemmas.{Filled}
-use Rattle.vm_memory_guest.proofs.guest_memory.access.read_long_value.Given as goal
+use Rattle.vm_memory_guest.proofs.guest_memory.access.read_value.Given as goal
 
 abbrev pub invariant-loop-item : goal.invariant-loop-item
 invariant-loop-item g l =
