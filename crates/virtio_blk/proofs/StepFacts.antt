@@ -19,8 +19,7 @@ use Rattle.vm_memory_guest.specs.declared.region.error.GuestMemoryError.TheVaria
 use Rattle.vm_memory_device.specs.Chain.{Entry, Extends, Extent, ReadsText, WritesText, access_len, entries_from, meets_entry, text, text_fault, text_path}
 use Rattle.vm_memory_device.specs.declared.chain.Segment.{Segment}
 use Rattle.virtio_blk.specs.Disk.{joined}
-use Rattle.virtio_blk.specs.Inside.{FoundBy, PutBy}
-use Rattle.virtio_blk.specs.Looks.{BeginsBy, Finds, FindsAll, FinishesBy, by_access, failed}
+use Rattle.virtio_blk.specs.Looks.{BeginsBy, Finds, FindsAll, FinishesBy, FoundBy, PutBy, by_access, failed}
 use Rattle.virtio_blk.specs.Request.{request_of}
 use Rattle.virtio_blk.specs.Steps.{Begins, Finishes, Told, answer_of, gapless, header_fault, status_fault}
 use Rattle.virtio_blk.specs.Texts.{WritesAt, reached, text_bytes}

@@ -3,15 +3,14 @@ use Rattle.std.specs.Prelude.{◌≡◌, ℕ, ◌+◌, ◌*◌, ◌%◌, ◌<◌
 use Rattle.vm_memory_base.specs.declared.iotlb.Permissions.TheVariants as permissions
 use Rattle.vm_memory_guest.specs.Access.{access_of}
 use Rattle.vm_memory_guest.specs.Dirt.{path_cells}
-use Rattle.vm_memory_guest.specs.Host.{Host, bytes_at, shape_of}
+use Rattle.vm_memory_guest.specs.Host.{Host, bytes_at}
 use Rattle.vm_memory_guest.specs.Memory as memory
 use Rattle.vm_memory_guest.specs.Memory.{route}
 use Rattle.vm_memory_guest.specs.declared.region.error.GuestMemoryError.{GuestMemoryError}
 use Rattle.vm_memory_guest.specs.declared.region.error.GuestMemoryError.TheVariants.{Memory}
-use Rattle.vm_memory_device.specs.Chain.{Entry, ReadsText, WritesText}
+use Rattle.vm_memory_device.specs.Chain.{Entry}
 use Rattle.virtio_blk.specs.Config.{Device}
 use Rattle.virtio_blk.specs.Disk.{Call}
-use Rattle.virtio_blk.specs.Looks.{found_in}
 use Rattle.virtio_blk.specs.Served.{Does}
 use Rattle.virtio_blk.specs.Texts.{WritesAt}
 use Rattle.virtio_blk.specs.declared.request.Request.{Request}
@@ -32,18 +31,6 @@ asked_of (Err e) = (Refused 1, is_memory e)
 abbrev pub length_of : Result ℕ GuestMemoryError → ℕ → ℕ × Bool
 length_of (Ok n) moved = (n, false)
 length_of (Err e) moved = (moved, is_memory e)
-
--- what a call for the first N bytes of a text finds on memory that stands still
-abbrev pub FoundBy : {B : Type 0} → memory.Memory → Host B → List Entry → ℕ → Result (List ℕ) GuestMemoryError → Type 0
-FoundBy m host es n found = (buffer : List ℕ) × (answer : Result ℕ GuestMemoryError) × (left : List Entry)
-    × (filled : List ℕ) × (length buffer ≡ n) × ReadsText m host es buffer answer left filled
-    × (found ≡ found_in filled answer)
-
--- bytes are stored in memory that only this writes
-abbrev pub PutBy : {B : Type 0} → (B → ℕ → ℕ → B → Type 0) → memory.Memory → List Entry → List ℕ → Host B
-    → Result ℕ GuestMemoryError → Host B → Type 0
-PutBy marks m es bytes old stored new =
-    ((left : List Entry) × WritesText marks m es bytes old stored left new) × (shape_of new ≡ shape_of old)
 
 -- what has to hold to do a request, whose data lie at a text of N bytes, or go to another: they are whole
 -- sectors that the disk has, and these have bytes of 64 bits

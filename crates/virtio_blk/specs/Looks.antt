@@ -1,9 +1,11 @@
 -- Looks at the texts of chains, which a driver may write at any moment, also while a call runs, and stores to them: which
 -- ones a call makes, and what it makes of what they found.
 use Rattle.std.specs.Prelude.{◌≡◌, ℕ, ◌-◌, ◌<◌, min, nat_lt, Bool, ◌==◌, ◌||◌, List, [], ◌∷◌, length, take, drop, Result, Ok, Err, MatchBool}
+use Rattle.vm_memory_guest.specs.Host.{Host, shape_of}
+use Rattle.vm_memory_guest.specs.Memory.{Memory}
 use Rattle.vm_memory_guest.specs.declared.region.error.GuestMemoryError.{GuestMemoryError}
 use Rattle.vm_memory_guest.specs.declared.region.error.GuestMemoryError.TheVariants as errors
-use Rattle.vm_memory_device.specs.Chain.{Entry}
+use Rattle.vm_memory_device.specs.Chain.{Entry, ReadsText, WritesText}
 use Rattle.virtio_blk.specs.Disk.{joined}
 use Rattle.virtio_blk.specs.Request.{request_of}
 use Rattle.virtio_blk.specs.Steps.{gapless}
@@ -59,3 +61,17 @@ FinishesBy store es status moved old answer new = let front = min moved (length 
     MatchBool (length es == 0) ((answer ≡ Ok 0) × (new ≡ old))
     ((stored : Result ℕ GuestMemoryError) × store old (drop (length es - 1) es) (status ∷ []) stored new
     × (answer ≡ by_access stored (λ count. gapless es front) front))
+
+-- ---- memory that stands still
+
+-- what a look at the first N bytes of a text finds in it
+abbrev pub FoundBy : {B : Type 0} → Memory → Host B → List Entry → ℕ → Result (List ℕ) GuestMemoryError → Type 0
+FoundBy m host es n found = (buffer : List ℕ) × (answer : Result ℕ GuestMemoryError) × (left : List Entry)
+    × (filled : List ℕ) × (length buffer ≡ n) × ReadsText m host es buffer answer left filled
+    × (found ≡ found_in filled answer)
+
+-- bytes are stored in memory that only this writes
+abbrev pub PutBy : {B : Type 0} → (B → ℕ → ℕ → B → Type 0) → Memory → List Entry → List ℕ → Host B
+    → Result ℕ GuestMemoryError → Host B → Type 0
+PutBy marks m es bytes old stored new =
+    ((left : List Entry) × WritesText marks m es bytes old stored left new) × (shape_of new ≡ shape_of old)

@@ -4,8 +4,7 @@ ghost use Rattle.vm_memory_device.specs.Chain.{Entry};
 ghost use Rattle.vm_memory_guest.specs.Host.{shape_of, Holds};
 ghost use Rattle.vm_memory_guest.specs.declared.region.error.GuestMemoryError.{GuestMemoryError};
 ghost use Rattle.virtio_queue.specs.Holding.{holds_prop};
-ghost use Rattle.virtio_blk.specs.Inside.{FoundBy, PutBy};
-ghost use Rattle.virtio_blk.specs.Looks.{FindsAll, found_in};
+ghost use Rattle.virtio_blk.specs.Looks.{FindsAll, FoundBy, PutBy, found_in};
 
 use vm_memory_base::Bitmap;
 use vm_memory_device::{ChainReader, ChainWriter};

@@ -5,18 +5,18 @@ use Rattle.vm_memory_device.specs.Chain.{chain_fault}
 use Rattle.vm_memory_device.specs.declared.chain.ChainFault.{ChainFault}
 use Rattle.virtio_queue.specs.Available.{Followed, direct, if_chain, indirect_len}
 use Rattle.virtio_queue.specs.Descriptor.{has_next, is_indirect, segment_of}
-use Rattle.virtio_queue.specs.Looks.{Asks, Follows, Found, Place, and_asks, gives, if_ok, keeps, takes, row}
+use Rattle.virtio_queue.specs.Looks.{Follows, Given, Step, Tree, and_takes, gives, if_ok, keeps, takes, row}
 use Rattle.virtio_queue.specs.Popping.{chain_behind, chain_from, following, next_head, popping, segments_from, table_behind, with_table}
 use Rattle.virtio_queue.specs.declared.state.QueueState.{QueueState}
 use Rattle.virtio_queue.specs.declared.descriptor.Descriptor.{Descriptor}
 use Rattle.virtio_queue.specs.declared.error.QueueError.{QueueError}
 use Rattle.virtio_queue.specs.declared.error.QueueError.TheVariants as errors
 
-module _ {S : Type 0} (look : S → (p : Place) → Result (Found p) QueueError → S → Type 0) where
+module _ {S : Type 0} (look : S → (p : Step) → Result (Given p) QueueError → S → Type 0) where
   -- a call that gave something, and then what is made of that
-  pub then_follows : {R T : Type 0} (t : Asks R) (f : R → Asks T) (old mid new : S) (x : R)
+  pub then_follows : {R T : Type 0} (t : Tree R) (f : R → Tree T) (old mid new : S) (x : R)
       (result : Result T QueueError) → Follows look t old (Ok x) mid → Follows look (f x) mid result new
-      → Follows look (and_asks t f) old result new
+      → Follows look (and_takes t f) old result new
   then_follows (gives r) f old mid new x result (is, same) rest =
       subst (λ r. Follows look (if_ok f r) old result new) is (subst (λ s. Follows look (f x) s result new) same rest)
   then_follows (takes p k) f old mid new x result (Ok v, next, looked, more) rest =
@@ -27,8 +27,8 @@ module _ {S : Type 0} (look : S → (p : Place) → Result (Found p) QueueError 
   then_follows (keeps t) f old mid new x result (inr more) rest = let bad = more.0 in absurd (cc)
 
   -- a call that was refused ends what would be made of it
-  pub then_fails : {R T : Type 0} (t : Asks R) (f : R → Asks T) (old new : S) (e : QueueError)
-      → Follows look t old (Err e) new → Follows look (and_asks t f) old (Err e) new
+  pub then_fails : {R T : Type 0} (t : Tree R) (f : R → Tree T) (old new : S) (e : QueueError)
+      → Follows look t old (Err e) new → Follows look (and_takes t f) old (Err e) new
   then_fails (gives r) f old new e (is, same) =
       subst (λ r. Follows look (if_ok f r) old (Err e) new) is (refl, same)
   then_fails (takes p k) f old new e (Ok v, next, looked, more) =
@@ -40,7 +40,7 @@ module _ {S : Type 0} (look : S → (p : Place) → Result (Found p) QueueError 
       let is = more.0 in let same : e ≡ errors.Memory = cc in inr (ap Err same, more.1)
 
   module _ (table len : ℕ) (front : List Segment) (index turns : ℕ) where
-    abbrev on : ℕ → Descriptor → Asks Followed
+    abbrev on : ℕ → Descriptor → Tree Followed
     on most d = if is_indirect d then gives (Ok (record { segments = front; indirect = Some d }))
         else keeps (if has_next d then following table len most (front ++ segment_of d ∷ []) d.next
         else gives (Ok (record { segments = front ++ segment_of d ∷ []; indirect = None })))
@@ -73,7 +73,7 @@ module _ {S : Type 0} (look : S → (p : Place) → Result (Found p) QueueError 
           → on most d ≡ keeps (following table len most (front ++ segment_of d ∷ []) d.next)
       on_next direct next = rw (direct, next) refl
 
-      on_kept : is_indirect d ≡ false → (t : Asks Followed) × (on most d ≡ keeps t)
+      on_kept : is_indirect d ≡ false → (t : Tree Followed) × (on most d ≡ keeps t)
       on_kept direct = (
         if has_next d then following table len most (front ++ segment_of d ∷ []) d.next
             else gives (Ok (record { segments = front ++ segment_of d ∷ []; indirect = None })),
@@ -83,7 +83,7 @@ module _ {S : Type 0} (look : S → (p : Place) → Result (Found p) QueueError 
     module _ (s new : S) (d : Descriptor) (h : turns < len) (k : index < len)
         (looked : look s (row table index) (Ok d) new) where
       -- what is made of the descriptor is made of the turn
-      made : (t : Asks Followed) (result : Result Followed QueueError) (end : S) → on (len - (turns + 1)) d ≡ t
+      made : (t : Tree Followed) (result : Result Followed QueueError) (end : S) → on (len - (turns + 1)) d ≡ t
           → Follows look t new result end
           → Follows look (following table len (len - turns) front index) s result end
       made t result end is rest = rw (turn h, lt-ltb index len k)
@@ -129,11 +129,11 @@ module _ {S : Type 0} (look : S → (p : Place) → Result (Found p) QueueError 
 
   -- an indirect table, behind these segments
   module _ (front : List Segment) (d : Descriptor) (n : ℕ) (s new : S) (is : Ok n ≡ indirect_len d) where
-    abbrev rest : Followed → Asks (List Segment)
+    abbrev rest : Followed → Tree (List Segment)
     rest f = gives (direct f)
 
-    table_is : and_asks (following d.addr n n front 0) rest ≡ table_behind front d
-    table_is = ap (if_ok (λ n. and_asks (following d.addr n n front 0) rest)) is
+    table_is : and_takes (following d.addr n n front 0) rest ≡ table_behind front d
+    table_is = ap (if_ok (λ n. and_takes (following d.addr n n front 0) rest)) is
 
     pub table_refused : (e : QueueError) → Follows look (following d.addr n n front 0) s (Err e) new
         → Follows look (table_behind front d) s (Err e) new
@@ -147,7 +147,7 @@ module _ {S : Type 0} (look : S → (p : Place) → Result (Found p) QueueError 
 
   -- the segments of a head, and its chain
   module _ (q : QueueState) (head : ℕ) (s : S) where
-    abbrev direct_ones : Asks Followed
+    abbrev direct_ones : Tree Followed
     direct_ones = following q.desc_table q.size q.size [] head
 
     pub segments_refused : (new : S) (e : QueueError) → Follows look direct_ones s (Err e) new
@@ -160,7 +160,7 @@ module _ {S : Type 0} (look : S → (p : Place) → Result (Found p) QueueError 
     segments_follow mid new f result h rest =
         then_follows direct_ones (λ f. with_table f.segments f.indirect) s mid new f result h rest
 
-    abbrev checked : List Segment → Asks (List Segment)
+    abbrev checked : List Segment → Tree (List Segment)
     checked ss = gives (if_chain ss (chain_fault ss))
 
     pub chain_refused : (new : S) (e : QueueError) → Follows look (segments_from q head) s (Err e) new
@@ -175,7 +175,7 @@ module _ {S : Type 0} (look : S → (p : Place) → Result (Found p) QueueError 
 
     -- a head that was found, and its chain or why it has none
     module _ (mid new : S) (found : Follows look (next_head q) s (Ok (Some head)) mid) where
-      abbrev with_head : List Segment → Asks (Option (ℕ × List Segment))
+      abbrev with_head : List Segment → Tree (Option (ℕ × List Segment))
       with_head segments = gives (Ok (Some (head, segments)))
 
       pub pop_refused : (e : QueueError) → Follows look (chain_from q head) mid (Err e) new

@@ -4,7 +4,7 @@ use Rattle.vm_memory_device.specs.Chain.{chain_fault}
 use Rattle.vm_memory_device.specs.declared.chain.ChainFault.{ChainFault}
 use Rattle.vm_memory_device.specs.declared.chain.Segment.{Segment}
 use Rattle.virtio_queue.specs.Available.{if_chain}
-use Rattle.virtio_queue.specs.Looks.{Asks, Follows, Found, Place, and_asks, gives, keeps, takes, row, word}
+use Rattle.virtio_queue.specs.Looks.{Follows, Given, Step, Tree, and_takes, gives, keeps, takes, row, word}
 use Rattle.virtio_queue.specs.Packed.{slot_after, slots_out}
 use Rattle.virtio_queue.specs.PackedPopping.{Taken, chain_behind, chain_known, chain_made, chain_taken, last_behind, listing, popping, rows_behind, with_known}
 use Rattle.virtio_queue.specs.PackedRing.{is_available, is_last, packed_of, segment_of}
@@ -17,9 +17,9 @@ use Rattle.virtio_queue.specs.declared.packed.state.PackedBuffer.{PackedBuffer}
 use Rattle.virtio_queue.specs.declared.packed.state.PackedState.{PackedState}
 use Rattle.virtio_queue.proofs.LookLemmas.{then_fails, then_follows}
 
-module _ {S : Type 0} (look : S → (p : Place) → Result (Found p) QueueError → S → Type 0) where
+module _ {S : Type 0} (look : S → (p : Step) → Result (Given p) QueueError → S → Type 0) where
   module _ (ring size room : ℕ) (front : List Segment) (turns slot : ℕ) (known : Option ℕ) where
-    abbrev on : ℕ → PackedDescriptor → Asks Taken
+    abbrev on : ℕ → PackedDescriptor → Tree Taken
     on most p = if is_last p then gives (Ok (record { segments = front; last = p; slots = turns + 1 }))
         else keeps (listing ring size most (front ++ segment_of p ∷ []) (turns + 1) (slot_after size slot) None)
 
@@ -44,7 +44,7 @@ module _ {S : Type 0} (look : S → (p : Place) → Result (Found p) QueueError 
     module _ (s new : S) (d : Descriptor) (p : PackedDescriptor) (h : turns < room)
         (looked : look s (row ring slot) (Ok d) new) (is : p ≡ with_known known (packed_of d)) where
       -- what is made of the descriptor is made of the turn
-      made : (t : Asks Taken) (result : Result Taken QueueError) (end : S) → on (room - (turns + 1)) p ≡ t
+      made : (t : Tree Taken) (result : Result Taken QueueError) (end : S) → on (room - (turns + 1)) p ≡ t
           → Follows look t new result end
           → Follows look (listing ring size (room - turns) front turns slot known) s result end
       made t result end so rest = rw (turn h) (
@@ -61,7 +61,7 @@ module _ {S : Type 0} (look : S → (p : Place) → Result (Found p) QueueError 
           (Ok (record { segments = front; last = p; slots = turns + 1 })) new
           (on_last (room - (turns + 1)) p last) (refl, refl)
 
-      abbrev more : List Segment → Asks Taken
+      abbrev more : List Segment → Tree Taken
       more after = listing ring size (room - (turns + 1)) after (turns + 1) (slot_after size slot) None
 
       pub list_full : is_last p ≡ false
@@ -91,7 +91,7 @@ module _ {S : Type 0} (look : S → (p : Place) → Result (Found p) QueueError 
       subst (λ n. Follows look (listing ring size n front 0 slot known) s result end) all h
 
   module _ (table len : ℕ) (front : List Segment) (index : ℕ) where
-    abbrev kept : Descriptor → Asks (List Segment)
+    abbrev kept : Descriptor → Tree (List Segment)
     kept d = keeps (rows_behind table (len - (index + 1)) (front ++ segment_of (packed_of d) ∷ []) (index + 1))
 
     next_row : index < len → rows_behind table (len - index) front index ≡ takes (row table index) kept
@@ -126,7 +126,7 @@ module _ {S : Type 0} (look : S → (p : Place) → Result (Found p) QueueError 
 
   -- a chain of the descriptors that were taken
   module _ (t : Taken) (s new : S) where
-    abbrev ends : List Segment → Asks (PackedBuffer × List Segment)
+    abbrev ends : List Segment → Tree (PackedBuffer × List Segment)
     ends ss = gives (chain_made t ss)
 
     pub last_refused : (e : QueueError) → Follows look (last_behind t.segments t.last) s (Err e) new
@@ -142,7 +142,7 @@ module _ {S : Type 0} (look : S → (p : Place) → Result (Found p) QueueError 
         (ap (λ f. and_then (if_chain ss f) (λ ss. Ok (record { id = t.last.id; slots = t.slots }, ss))) (sym is), refl)
 
   module _ (q : PackedState) (flags : ℕ) (s : S) where
-    abbrev first_ones : Asks Taken
+    abbrev first_ones : Tree Taken
     first_ones = listing q.desc_ring q.size (q.size - slots_out q.size q.next_avail q.next_used) [] 0
         q.next_avail.slot (Some flags)
 
@@ -158,14 +158,14 @@ module _ {S : Type 0} (look : S → (p : Place) → Result (Found p) QueueError 
     -- the slot was found to be available
     module _ (mid new : S) (ready : q.ready ≡ true) (available : is_available flags q.next_avail.wrap ≡ true)
         (looked : look s (word q.desc_ring (16 * q.next_avail.slot + 14)) (Ok flags) mid) where
-      abbrev some : PackedBuffer × List Segment → Asks (Option (PackedBuffer × List Segment))
+      abbrev some : PackedBuffer × List Segment → Tree (Option (PackedBuffer × List Segment))
       some p = gives (Ok (Some p))
 
-      behind : chain_behind q flags ≡ and_asks (chain_known q flags) some
+      behind : chain_behind q flags ≡ and_takes (chain_known q flags) some
       behind = rw available refl
 
       pops : (result : Result (Option (PackedBuffer × List Segment)) QueueError)
-          → Follows look (and_asks (chain_known q flags) some) mid result new → Follows look (popping q) s result new
+          → Follows look (and_takes (chain_known q flags) some) mid result new → Follows look (popping q) s result new
       pops result h = rw ready
           (Ok flags, mid, looked, subst (λ t. Follows look t mid result new) (sym behind) h)
 

@@ -1,16 +1,16 @@
 -- What looks at a packed ring give, in memory that stands still: the answer that it holds.
-use Rattle.std.proofs.Common.{◌≡◌, ◌∙◌, ℕ, zero, suc, ◌+◌, ◌*◌, ◌-◌, ◌<◌, if◌then◌else◌, Bool, true, false, List, [], ◌∷◌, ◌++◌, length, map, Option, Some, None, Result, Ok, Err, MatchBool, ap, inl, inr, refl, subst, sym, arith, append_assoc, append-nil}
+use Rattle.std.proofs.Common.{◌≡◌, ◌∙◌, ℕ, zero, suc, ◌+◌, ◌*◌, ◌-◌, if◌then◌else◌, Bool, true, false, List, [], ◌∷◌, ◌++◌, length, map, Option, Some, None, Result, Ok, Err, ap, inl, inr, refl, sym, arith, append_assoc, append-nil}
 use Rattle.vm_memory_device.specs.Chain.{chain_fault}
 use Rattle.vm_memory_device.specs.declared.chain.Segment.{Segment}
 use Rattle.vm_memory_guest.specs.Host.{Host}
 use Rattle.vm_memory_guest.specs.Memory.{Memory}
 use Rattle.virtio_queue.specs.Available.{if_chain, indirect_len}
 use Rattle.virtio_queue.specs.Fields.{Answers, descriptor_at, word_at}
-use Rattle.virtio_queue.specs.Looks.{Asks, MayWantAny, and_asks, answer, gives, if_ok, keeps, takes, word}
+use Rattle.virtio_queue.specs.Looks.{MayWantAny, Tree, and_takes, gives, if_ok, keeps, takes, word}
 use Rattle.virtio_queue.specs.Packed.{slot_after, slots_out}
-use Rattle.virtio_queue.specs.PackedPopping.{Taken, chain_behind, chain_known, chain_made, chain_taken, last_behind, listing, popping, rows_behind, with_known}
+use Rattle.virtio_queue.specs.PackedPopping.{MayWantChain, Taken, chain_behind, chain_known, chain_made, chain_taken, last_behind, listing, popping, rows_behind, with_known}
 use Rattle.virtio_queue.specs.PackedRing as held
-use Rattle.virtio_queue.specs.PackedRing.{Listed, MayWantChain, MayWantLast, MayWantListed, MayWantRows, MayWantSegments, MayWantTable, buffer_of, chain_of, has_next, if_next, in_front, is_available, is_indirect, is_last, last_segments, listed, next_chain, next_listed, packed_at, packed_of, plain, popped, prefixed, rows, segment_of, segments_of}
+use Rattle.virtio_queue.specs.PackedRing.{Listed, chain_of, has_next, if_next, in_front, is_available, is_indirect, is_last, last_segments, listed, next_chain, next_listed, packed_at, packed_of, plain, popped, prefixed, rows, segment_of, segments_of}
 use Rattle.virtio_queue.specs.Rings.{and_then}
 use Rattle.virtio_queue.specs.declared.descriptor.Descriptor.{Descriptor}
 use Rattle.virtio_queue.specs.declared.error.QueueError.{QueueError}
@@ -19,7 +19,7 @@ use Rattle.virtio_queue.specs.declared.packed.descriptor.PackedDescriptor.{Packe
 use Rattle.virtio_queue.specs.declared.packed.state.PackedBuffer.{PackedBuffer}
 use Rattle.virtio_queue.specs.declared.packed.state.PackedState.{PackedState}
 use Rattle.virtio_queue.proofs.FlagLemmas.{flags_are, then_ok}
-use Rattle.virtio_queue.proofs.StillLemmas.{answer_then, wants_then}
+use Rattle.virtio_queue.proofs.StillLemmas.{answer, answer_then}
 
 in_front_twice : (xs ys : List Segment) (r : Result (List Segment) QueueError)
     → in_front xs (in_front ys r) ≡ in_front (xs ++ ys) r
@@ -55,7 +55,7 @@ module _ {B : Type 0} (m : Memory) (host : Host B) where
       (sym (flags_are m host ring i flags d there is))
 
   module _ (ring size : ℕ) where
-    abbrev on : ℕ → List Segment → ℕ → ℕ → PackedDescriptor → Bool → Asks Taken
+    abbrev on : ℕ → List Segment → ℕ → ℕ → PackedDescriptor → Bool → Tree Taken
     on most front slots i p last = if last then gives (Ok (record { segments = front; last = p; slots = slots + 1 }))
         else keeps (listing ring size most (front ++ segment_of p ∷ []) (slots + 1) (slot_after size i) None)
 
@@ -90,27 +90,6 @@ module _ {B : Type 0} (m : Memory) (host : Host B) where
     answer_listing (suc most) front slots i known fits = by_found most front slots i known
         (λ front slots i. answer_listing most front slots i None (λ d is. refl)) (descriptor_at m host ring i) fits
 
-    not_last : (most : ℕ) (front : List Segment) (slots i : ℕ) (p : PackedDescriptor) (last : Bool)
-        → MayWantAny m host (on most front slots i p last) → last ≡ false
-    not_last most front slots i p true w = absurd w
-    not_last most front slots i p false w = refl
-
-    wants_listing : (most : ℕ) (front : List Segment) (slots i : ℕ) (known : Option ℕ) → AreFlags ring i known
-        → MayWantAny m host (listing ring size most front slots i known)
-        → (0 < most) × MayWantListed m host ring i
-    unfolding listing
-    wants_listing zero front slots i known fits w = absurd w
-    wants_listing (suc most) front slots i known fits (inl w) = (omega arith, inl w)
-    wants_listing (suc most) front slots i known fits (inr (d, there, w)) =
-        let p = with_known known (packed_of d) in (
-          omega arith,
-          inr (
-            packed_of d,
-            ap (λ r. and_then r (λ d. Ok (packed_of d))) there,
-            subst (λ p. is_last p ≡ false) (fits d there) (not_last most front slots i p (is_last p) w),
-          ),
-        )
-
   -- ---- the last descriptor, and its table
 
   module _ (table : ℕ) where
@@ -130,14 +109,6 @@ module _ {B : Type 0} (m : Memory) (host : Host B) where
     answer_rows zero front i = ap Ok (sym (append-nil front))
     answer_rows (suc n) front i = by_row n front i (answer_rows n) (descriptor_at m host table i)
 
-    wants_rows : (n : ℕ) (front : List Segment) → MayWantAny m host (rows_behind table n front 0)
-        → MayWantRows m host table
-    unfolding rows_behind
-    wants_rows zero front w = absurd w
-    wants_rows (suc n) front (inl w) = inl w
-    wants_rows (suc n) front (inr (d, there, w)) =
-        inr (packed_of d, ap (λ r. and_then r (λ d. Ok (packed_of d))) there)
-
   module _ (front : List Segment) (d : PackedDescriptor) where
     by_len : (r : Result ℕ QueueError) → answer m host (if_ok (λ n. rows_behind d.addr n front 0) r)
         ≡ in_front front (and_then r (λ n. rows (packed_at m host d.addr) n 0))
@@ -153,20 +124,6 @@ module _ {B : Type 0} (m : Memory) (host : Host B) where
     answer_last : answer m host (last_behind front d) ≡ in_front front (last_segments m host d)
     answer_last = by_kind (is_indirect d)
 
-    wants_len : (r : Result ℕ QueueError) → indirect_len (plain d) ≡ r
-        → MayWantAny m host (if_ok (λ n. rows_behind d.addr n front 0) r) → MayWantTable m host d
-    wants_len (Ok n) is w = (n, is, wants_rows d.addr n front w)
-    wants_len (Err e) is w = absurd w
-
-    wants_kind : (kind : Bool) → MayWantAny m host
-        (if kind then if_ok (λ n. rows_behind d.addr n front 0) (indirect_len (plain d))
-        else keeps (gives (Ok (front ++ segment_of d ∷ [])))) → MatchBool kind (MayWantTable m host d) (Unit {0})
-    wants_kind true w = wants_len (indirect_len (plain d)) refl w
-    wants_kind false w = tt
-
-    wants_last : MayWantAny m host (last_behind front d) → MayWantLast m host d
-    wants_last w = wants_kind (is_indirect d) w
-
   -- ---- the chain
 
   answer_taken : (l : Listed) → answer m host (chain_taken (taken [] 0 l)) ≡ chain_of m host l
@@ -178,15 +135,9 @@ module _ {B : Type 0} (m : Memory) (host : Host B) where
       ∙ ap (λ n. and_then (segments_of m host l) (λ ss. and_then (if_chain ss (chain_fault ss)) (λ ss.
       Ok (record { id = l.last.id; slots = n }, ss)))) count
 
-  wants_taken : (t : Taken) → MayWantAny m host (chain_taken t) → MayWantLast m host t.last
-  wants_taken t w = elim (wants_then m host (last_behind t.segments t.last) (λ ss. gives (chain_made t ss)) w) [
-    | inl a ↦ wants_last t.segments t.last a
-    | inr (ss, gave, b) ↦ absurd b
-  ]
-
   module _ (q : PackedState) (flags : ℕ)
       (there : word_at m host q.desc_ring (16 * q.next_avail.slot + 14) ≡ Ok flags) where
-    abbrev ones : Asks Taken
+    abbrev ones : Tree Taken
     ones = listing q.desc_ring q.size (q.size - slots_out q.size q.next_avail q.next_used) [] 0 q.next_avail.slot
         (Some flags)
 
@@ -205,31 +156,17 @@ module _ {B : Type 0} (m : Memory) (host : Host B) where
         ∙ ap (λ r. and_then r (λ t. answer m host (chain_taken t))) answer_ones
         ∙ chain_listed (next_listed m host q)
 
-    wants_known : MayWantAny m host (chain_known q flags) → MayWantSegments m host q
-    wants_known w = elim (wants_then m host ones chain_taken w) [
-      | inl a ↦ inl (wants_listing q.desc_ring q.size (q.size - slots_out q.size q.next_avail q.next_used) [] 0
-          q.next_avail.slot (Some flags) (found_flags q.desc_ring q.next_avail.slot flags there) a)
-      | inr (t, gave, b) ↦ inr (kept t gave (wants_taken t b))
-    ]
-      where
-        kept : (t : Taken) → answer m host ones ≡ Ok t → MayWantLast m host t.last
-            → (l : Listed) × (next_listed m host q ≡ Ok l) × MayWantLast m host l.last
-        kept t gave b =
-            let (l, is, same) = then_ok (next_listed m host q) (λ l. Ok (taken [] 0 l)) t (sym answer_ones ∙ gave) in
-            let so : t ≡ taken [] 0 l = cc in
-            (l, is, subst (λ (t : Taken). MayWantLast m host t.last) so b)
-
   -- ---- what is popped
 
   module _ (q : PackedState) where
-    abbrev some : PackedBuffer × List Segment → Asks (Option (PackedBuffer × List Segment))
+    abbrev some : PackedBuffer × List Segment → Tree (Option (PackedBuffer × List Segment))
     some p = gives (Ok (Some p))
 
     abbrev flags_at : Result ℕ QueueError
     flags_at = word_at m host q.desc_ring (16 * q.next_avail.slot + 14)
 
     by_available : (flags : ℕ) → flags_at ≡ Ok flags → (b : Bool)
-        → answer m host (if b then and_asks (chain_known q flags) some else gives (Ok None)) ≡ if_next m host q b
+        → answer m host (if b then and_takes (chain_known q flags) some else gives (Ok None)) ≡ if_next m host q b
     by_available flags there true = answer_then m host (chain_known q flags) some
         ∙ ap (λ r. and_then r (λ p. Ok (Some p))) (answer_known q flags there)
     by_available flags there false = refl
@@ -250,35 +187,12 @@ module _ {B : Type 0} (m : Memory) (host : Host B) where
     answer_popping : answer m host (popping q) ≡ popped m host q
     answer_popping = by_ready q.ready
 
-    wants_available : (flags : ℕ) → flags_at ≡ Ok flags → (b : Bool)
-        → MayWantAny m host (if b then and_asks (chain_known q flags) some else gives (Ok None))
-        → (b ≡ true) × MayWantSegments m host q
-    wants_available flags there true w = elim (wants_then m host (chain_known q flags) some w) [
-      | inl a ↦ (refl, wants_known q flags there a)
-      | inr (p, gave, b) ↦ absurd b
-    ]
-    wants_available flags there false w = absurd w
-
-    wants_ready : (ready : Bool) → q.ready ≡ ready → MayWantAny m host
-        (if ready then takes (word q.desc_ring (16 * q.next_avail.slot + 14)) (chain_behind q)
-        else gives (Err errors.QueueNotReady))
-        → MayWantChain m host q
-    wants_ready true is (inl w) = inl (is, w)
-    wants_ready true is (inr (flags, there, w)) = inr (
-      is_available flags q.next_avail.wrap,
-      ap (λ (b : Bool). and_then (if b then flags_at else Err errors.QueueNotReady)
-          (λ flags. Ok (is_available flags q.next_avail.wrap))) is
-          ∙ ap (λ r. and_then r (λ flags. Ok (is_available flags q.next_avail.wrap))) there,
-      wants_available flags there (is_available flags q.next_avail.wrap) w,
-    )
-    wants_ready false is w = absurd w
-
     -- a pop by looks at it answers what it holds
     pub pops_held : (result : Result (Option (PackedBuffer × List Segment)) QueueError)
         → Answers (MayWantAny m host (popping q)) (answer m host (popping q)) result
         → Answers (MayWantChain m host q) (popped m host q) result
     pops_held result (inl is) = inl (is ∙ answer_popping)
-    pops_held result (inr (full, w)) = inr (full, wants_ready q.ready refl w)
+    pops_held result (inr full) = inr full
 
     not_found : (b : Bool) → if_next m host q b ≡ Ok None → b ≡ false
     not_found true is = by (next_chain m host q) is

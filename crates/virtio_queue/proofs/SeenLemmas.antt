@@ -1,12 +1,13 @@
 -- What looks found makes the answer.
 use Rattle.std.proofs.Common.{◌≡◌, ◌⊎◌, ◌∙◌, ℕ, List, [], ◌∷◌, Result, Ok, Err, ap, inl, inr, refl, subst, sym}
-use Rattle.virtio_queue.specs.Looks.{Asks, Follows, Found, Place, Saw, Seen, gives, keeps, row, saw, takes, word}
+use Rattle.vm_memory_guest.specs.Window.{Window}
+use Rattle.virtio_queue.specs.Looks.{Follows, Given, Saw, Seen, Step, Tree, gives, keeps, loads, room, row, saw, spot, stores, takes, word, writes}
 use Rattle.virtio_queue.specs.declared.descriptor.Descriptor.{Descriptor}
 use Rattle.virtio_queue.specs.declared.error.QueueError.{QueueError}
 use Rattle.virtio_queue.specs.declared.error.QueueError.TheVariants as errors
 
 -- looks of any kind found something, one after another
-pub seen_of : {S T : Type 0} (look : S → (p : Place) → Result (Found p) QueueError → S → Type 0) (t : Asks T)
+pub seen_of : {S T : Type 0} (look : S → (p : Step) → Result (Given p) QueueError → S → Type 0) (t : Tree T)
     (old new : S) (result : Result T QueueError) → Follows look t old result new
     → (seen : List Seen) × Follows Saw t seen result []
 seen_of look (gives r) old new result (is, same) = ([], (is, refl))
@@ -18,18 +19,34 @@ seen_of look (keeps t) old new result (inl more) =
     let (seen, rest) = seen_of look t old new result more in (seen, inl rest)
 seen_of look (keeps t) old new result (inr (is, same)) = ([], inr (is, refl))
 
--- two things that one look found are the same
-abbrev in_word : Seen → Result ℕ QueueError
-in_word (saw (word base offset) found) = found
-in_word (saw (row table i) found) = Err errors.Memory
+-- two things that one step gave are the same
+abbrev number_in : Seen → Result ℕ QueueError
+number_in (saw (word base offset) given) = given
+number_in (saw (room base offset n) given) = given
+number_in (saw (loads base offset) given) = given
+number_in seen = Err errors.Memory
 
-abbrev in_row : Seen → Result Descriptor QueueError
-in_row (saw (word base offset) found) = Err errors.Memory
-in_row (saw (row table i) found) = found
+abbrev row_in : Seen → Result Descriptor QueueError
+row_in (saw (row table i) given) = given
+row_in seen = Err errors.Memory
 
-same_found : (p : Place) (one other : Result (Found p) QueueError) → saw p one ≡ saw p other → one ≡ other
-same_found (word base offset) one other is = ap in_word is
-same_found (row table i) one other is = ap in_row is
+abbrev window_in : Seen → Result Window QueueError
+window_in (saw (spot access base offset) given) = given
+window_in seen = Err errors.Memory
+
+abbrev nothing_in : Seen → Result (Unit {0}) QueueError
+nothing_in (saw (writes base offset bytes) given) = given
+nothing_in (saw (stores base offset value) given) = given
+nothing_in seen = Err errors.Memory
+
+same_found : (p : Step) (one other : Result (Given p) QueueError) → saw p one ≡ saw p other → one ≡ other
+same_found (word base offset) one other is = ap number_in is
+same_found (row table i) one other is = ap row_in is
+same_found (room base offset n) one other is = ap number_in is
+same_found (spot access base offset) one other is = ap window_in is
+same_found (writes base offset bytes) one other is = ap nothing_in is
+same_found (stores base offset value) one other is = ap nothing_in is
+same_found (loads base offset) one other is = ap number_in is
 
 abbrev first_of : List Seen → Seen → Seen
 first_of [] s = s
@@ -39,7 +56,7 @@ abbrev others_of : List Seen → List Seen
 others_of [] = []
 others_of (x ∷ xs) = xs
 
-module _ (p : Place) (seen rest left : List Seen) (one other : Result (Found p) QueueError)
+module _ (p : Step) (seen rest left : List Seen) (one other : Result (Given p) QueueError)
     (is : seen ≡ saw p one ∷ rest) (so : seen ≡ saw p other ∷ left) where
   one_found : one ≡ other
   one_found = same_found p one other (ap (λ (xs : List Seen). first_of xs (saw p one)) (sym is ∙ so))
@@ -48,7 +65,7 @@ module _ (p : Place) (seen rest left : List Seen) (one other : Result (Found p) 
   one_rest = ap others_of (sym so ∙ is)
 
 -- what is found decides
-pub same_seen : {T : Type 0} (t : Asks T) (seen : List Seen) (one other : Result T QueueError)
+pub same_seen : {T : Type 0} (t : Tree T) (seen : List Seen) (one other : Result T QueueError)
     → Follows Saw t seen one [] → Follows Saw t seen other []
     → (one ≡ other) ⊎ (one ≡ Err errors.Memory) ⊎ (other ≡ Err errors.Memory)
 same_seen (gives r) seen one other (is, same) (so, also) = inl (is ∙ sym so)

@@ -3,10 +3,9 @@ use Rattle.std.specs.Prelude.{◌≡◌, ℕ, false, if◌then◌else◌, List, 
 use Rattle.vm_memory_device.specs.declared.chain.Segment.{Segment}
 use Rattle.vm_memory_guest.specs.Host.{Host}
 use Rattle.vm_memory_guest.specs.Memory.{Memory}
-use Rattle.virtio_queue.specs.Asking.{needing, packed_needing}
 use Rattle.virtio_queue.specs.Available as split_available
 use Rattle.virtio_queue.specs.Fields.{stored_at}
-use Rattle.virtio_queue.specs.Looks.{Asks, and_asks, gives}
+use Rattle.virtio_queue.specs.Looks.{MayWantAny, Tree, and_takes, gives}
 use Rattle.virtio_queue.specs.Notification as split_notification
 use Rattle.virtio_queue.specs.Packed as packed
 use Rattle.virtio_queue.specs.PackedEvents as packed_events
@@ -16,8 +15,6 @@ use Rattle.virtio_queue.specs.PackedUsed as packed_used
 use Rattle.virtio_queue.specs.Popping as split_popping
 use Rattle.virtio_queue.specs.Rings.{behind}
 use Rattle.virtio_queue.specs.State as split
-use Rattle.virtio_queue.specs.Stores as stores
-use Rattle.virtio_queue.specs.Stores.{Does}
 use Rattle.virtio_queue.specs.Used as split_used
 use Rattle.virtio_queue.specs.declared.any.AnyQueue.{AnyQueue}
 use Rattle.virtio_queue.specs.declared.any.AnyQueue.TheVariants.{Split, Packed}
@@ -93,26 +90,26 @@ after_asked (Split q) answer = Split (split_notification.after_asked q answer)
 after_asked (Packed q) answer = Packed (packed_events.after_asked q answer)
 
 -- what a pop looks at, and asking whether the driver has to be notified
-abbrev pub popping : AnyQueue → Asks (Option (PackedBuffer × List Segment))
-popping (Split q) = and_asks (split_popping.popping q.state) (λ found. gives (by_head (Ok found)))
+abbrev pub popping : AnyQueue → Tree (Option (PackedBuffer × List Segment))
+popping (Split q) = and_takes (split_popping.popping q.state) (λ found. gives (by_head (Ok found)))
 popping (Packed q) = packed_popping.popping q.state
 
-abbrev pub asking : AnyQueue → Asks Bool
-asking (Split q) = needing q
-asking (Packed q) = packed_needing q
+abbrev pub asking : AnyQueue → Tree Bool
+asking (Split q) = split_notification.needing q
+asking (Packed q) = packed_events.needing q
 
 -- what a return does, and asking to notify and not to notify
-abbrev pub returning : AnyQueue → PackedBuffer → ℕ → Does (Unit {0})
-returning (Split q) buffer len = stores.returning q.state buffer.id len
-returning (Packed q) buffer len = stores.packed_returning q.state buffer len
+abbrev pub returning : AnyQueue → PackedBuffer → ℕ → Tree (Unit {0})
+returning (Split q) buffer len = split_used.returning q.state buffer.id len
+returning (Packed q) buffer len = packed_used.returning q.state buffer len
 
-abbrev pub enabling : AnyQueue → Does Bool
-enabling (Split q) = stores.enabling q.state
-enabling (Packed q) = stores.packed_enabling q.state
+abbrev pub enabling : AnyQueue → Tree Bool
+enabling (Split q) = split_notification.enabling q.state
+enabling (Packed q) = packed_events.enabling q.state
 
-abbrev pub disabling : AnyQueue → Does (Unit {0})
-disabling (Split q) = stores.disabling q.state
-disabling (Packed q) = stores.packed_disabling q.state
+abbrev pub disabling : AnyQueue → Tree (Unit {0})
+disabling (Split q) = split_notification.disabling q.state
+disabling (Packed q) = packed_events.disabling q.state
 
 module _ {B : Type 0} (m : Memory) (host : Host B) where
   -- what is popped: the next chain, with what it is returned by, if there is one
@@ -121,8 +118,8 @@ module _ {B : Type 0} (m : Memory) (host : Host B) where
   popped (Packed q) = packed_ring.popped m host q.state
 
   abbrev pub MayWantChain : AnyQueue → Type 0
-  MayWantChain (Split q) = split_available.MayWantChain m host q.state
-  MayWantChain (Packed q) = packed_ring.MayWantChain m host q.state
+  MayWantChain (Split q) = split_popping.MayWantChain m host q.state
+  MayWantChain (Packed q) = packed_popping.MayWantChain m host q.state
 
   -- the driver has made no chain available beyond those that were popped
   abbrev pub HasNone : AnyQueue → Type 0
@@ -144,8 +141,7 @@ module _ {B : Type 0} (m : Memory) (host : Host B) where
   needs_notification (Packed q) = packed_events.needs_notification m host q
 
   abbrev pub MayWantNeeds : AnyQueue → Type 0
-  MayWantNeeds (Split q) = split_notification.MayWantNeeds m host q
-  MayWantNeeds (Packed q) = packed_events.MayWantNeeds m host q
+  MayWantNeeds q = MayWantAny m host (asking q)
 
   -- a device waits for the next chain, and the driver finds in memory that it has to notify it
   abbrev pub Waits : AnyQueue → Type 0

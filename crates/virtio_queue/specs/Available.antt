@@ -1,5 +1,5 @@
 -- What the driver publishes: the available ring, and the chains of descriptors that its heads lead to.
-use Rattle.std.specs.Prelude.{◌≡◌, ◌⊎◌, ℕ, zero, suc, ◌+◌, ◌*◌, ◌/◌, ◌%◌, ◌^◌, ◌<◌, ◌≤◌, nat_lt, true, false, ◌&&◌, ◌==◌, if◌then◌else◌, List, [], ◌∷◌, ◌++◌, Option, Some, None, Result, Ok, Err}
+use Rattle.std.specs.Prelude.{◌≡◌, ℕ, zero, suc, ◌+◌, ◌*◌, ◌/◌, ◌%◌, ◌^◌, nat_lt, true, ◌&&◌, ◌==◌, if◌then◌else◌, List, [], ◌∷◌, ◌++◌, Option, Some, None, Result, Ok, Err}
 use Rattle.vm_memory_base.specs.declared.iotlb.Permissions.TheVariants.{Read}
 use Rattle.vm_memory_device.specs.Chain.{chain_fault}
 use Rattle.vm_memory_device.specs.declared.chain.ChainFault.{ChainFault}
@@ -8,7 +8,7 @@ use Rattle.vm_memory_guest.specs.Host.{Host}
 use Rattle.vm_memory_guest.specs.Memory.{Memory}
 use Rattle.virtio_queue.specs.Descriptor.{has_next, is_indirect, segment_of}
 use Rattle.virtio_queue.specs.Fields.{MayWant, descriptor_at, word_at}
-use Rattle.virtio_queue.specs.Rings.{WantsThen, ahead, and_then, behind, next_in, slot}
+use Rattle.virtio_queue.specs.Rings.{and_then, behind, next_in}
 use Rattle.virtio_queue.specs.declared.descriptor.Descriptor.{Descriptor}
 use Rattle.virtio_queue.specs.declared.error.QueueError.{QueueError}
 use Rattle.virtio_queue.specs.declared.error.QueueError.TheVariants as errors
@@ -80,28 +80,6 @@ module _ {B : Type 0} (m : Memory) (host : Host B) where
   abbrev pub chain_at : QueueState → ℕ → Result (List Segment) QueueError
   chain_at q head = and_then (segments_at q head) (λ segments. if_chain segments (chain_fault segments))
 
-  -- a direct descriptor can be read there, so its segment is kept
-  abbrev pub IsKept : ℕ → ℕ → Type 0
-  IsKept table i = (d : Descriptor) × (descriptor_at m host table i ≡ Ok d) × (is_indirect d ≡ false)
-
-  -- following `next` from an index of a table may fail to allocate: for the access to the first descriptor, or, if its
-  -- segment is kept, for that, and then for what comes behind it too
-  abbrev pub MayWantFollow : ℕ → ℕ → ℕ → Type 0
-  MayWantFollow table len i = (i < len) × (MayWant m host table (16 * i) 16 Read ⊎ IsKept table i)
-
-  -- the same in an indirect table, where a descriptor leads to one
-  abbrev pub MayWantTable : Descriptor → Type 0
-  MayWantTable d = (n : ℕ) × (indirect_len d ≡ Ok n) × MayWantFollow d.addr n 0
-
-  abbrev pub MayWantIndirect : Option Descriptor → Type 0
-  MayWantIndirect None = ⊥
-  MayWantIndirect (Some d) = MayWantTable d
-
-  -- the segments of a head may fail to be allocated
-  abbrev pub MayWantSegments : QueueState → ℕ → Type 0
-  MayWantSegments q head = WantsThen (MayWantFollow q.desc_table q.size head)
-      (followed_in q.desc_table q.size head) (λ f. MayWantIndirect f.indirect)
-
   -- ---- the available ring
 
   -- the driver's index
@@ -124,22 +102,9 @@ module _ {B : Type 0} (m : Memory) (host : Host B) where
   abbrev pub popped : QueueState → Result (Option (ℕ × List Segment)) QueueError
   popped q = and_then (next_head q) (chain_of q)
 
-  -- reading the driver's index may fail to allocate; reading the next head too, if the driver has published one; and
-  -- popping, if there is a head
+  -- reading the driver's index may fail to allocate
   abbrev pub MayWantIdx : QueueState → Type 0
   MayWantIdx q = (q.ready ≡ true) × MayWant m host q.avail_ring 2 2 Read
-
-  abbrev pub MayWantHead : QueueState → Type 0
-  MayWantHead q = WantsThen (MayWantIdx q) (avail_idx q) (λ idx.
-      (0 < ahead idx q.next_avail) × (ahead idx q.next_avail ≤ q.size)
-      × MayWant m host q.avail_ring (4 + 2 * slot q.size q.next_avail) 2 Read)
-
-  abbrev pub MayWantFound : QueueState → Option ℕ → Type 0
-  MayWantFound q None = ⊥
-  MayWantFound q (Some head) = MayWantSegments q head
-
-  abbrev pub MayWantChain : QueueState → Type 0
-  MayWantChain q = WantsThen (MayWantHead q) (next_head q) (MayWantFound q)
 
 -- the state that popping leaves: one entry on if a chain was popped
 abbrev pub after_pop : {X : Type 0} → QueueState → Result (Option X) QueueError → QueueState

@@ -1,5 +1,4 @@
 pub mod Any
-pub mod Asking
 pub mod Available
 pub mod Descriptor
 pub mod Driver
@@ -22,5 +21,4 @@ pub mod PackedUsed
 pub mod Popping
 pub mod Rings
 pub mod State
-pub mod Stores
 pub mod Used

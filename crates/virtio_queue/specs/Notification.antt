@@ -1,13 +1,14 @@
 -- Notifications: by flags, or by event indices.
 use Rattle.std.specs.Prelude.{◌≡◌, ℕ, ◌+◌, ◌*◌, nat_lt, Bool, true, not, ◌==◌, if◌then◌else◌, Option, Some, None, Result, Ok, Err, MatchBool, MatchResult}
-use Rattle.vm_memory_base.specs.declared.iotlb.Permissions.TheVariants as permissions
+use Rattle.vm_memory_base.specs.declared.iotlb.Permissions.TheVariants.{Read, Write}
 use Rattle.vm_memory_guest.specs.Host.{Host}
 use Rattle.vm_memory_guest.specs.Memory.{Memory}
 use Rattle.vm_memory_guest.specs.Window.{Window}
 use Rattle.virtio_queue.specs.Available.{avail_idx}
 use Rattle.virtio_queue.specs.Descriptor.{has_flag}
-use Rattle.virtio_queue.specs.Fields.{stored_at, window_at, word_at, word_window, MayWant, Refuses, StoresWord}
-use Rattle.virtio_queue.specs.Rings.{WantsThen, ahead, and_then, before}
+use Rattle.virtio_queue.specs.Fields.{stored_at, window_at, word_at, word_window, Refuses, StoresWord}
+use Rattle.virtio_queue.specs.Looks.{MayWantAny, Tree, gives, if_ready, loads, setting, spot, stores, takes, word}
+use Rattle.virtio_queue.specs.Rings.{ahead, and_then, before}
 use Rattle.virtio_queue.specs.State.{Virtqueue}
 use Rattle.virtio_queue.specs.declared.error.QueueError.{QueueError}
 use Rattle.virtio_queue.specs.declared.error.QueueError.TheVariants as errors
@@ -30,15 +31,6 @@ module _ {B : Type 0} (m : Memory) (host : Host B) where
   needs_notification q =
       if q.state.ready then wants_notification q.state q.added else Err errors.QueueNotReady
 
-  -- to find out may fail to allocate, where it is not known without a look
-  abbrev pub MayWantEvent : QueueState → Option ℕ → Type 0
-  MayWantEvent q None = ⊥
-  MayWantEvent q (Some n) =
-      MayWant m host q.avail_ring (if q.event_idx_enabled then 4 + 2 * q.size else 0) 2 permissions.Read
-
-  abbrev pub MayWantNeeds : Virtqueue → Type 0
-  MayWantNeeds q = (q.state.ready ≡ true) × MayWantEvent q.state q.added
-
   -- whether the driver has published more than was popped
   abbrev pub has_more : QueueState → Result Bool QueueError
   has_more q = and_then (avail_idx m host q) (λ idx. Ok (not (idx == q.next_avail)))
@@ -59,12 +51,32 @@ kick_value q = if q.event_idx_enabled then q.next_avail else 0
 -- where a device writes this, and where it finds the driver's index
 abbrev pub kick_places : {B : Type 0} → Memory → Host B → QueueState → Result (Window × Window) QueueError
 kick_places m host q = and_then (word_window m host q.used_ring (kick_offset q)) (λ kick.
-    and_then (window_at m host q.avail_ring 2 permissions.Read) (λ idx. Ok (kick, idx)))
+    and_then (window_at m host q.avail_ring 2 Read) (λ idx. Ok (kick, idx)))
 
--- to look both up may fail to allocate
-abbrev pub MayWantKick : {B : Type 0} → Memory → Host B → QueueState → Type 0
-MayWantKick m host q = WantsThen (MayWant m host q.used_ring (kick_offset q) 2 permissions.Write)
-    (word_window m host q.used_ring (kick_offset q)) (λ kick. MayWant m host q.avail_ring 2 2 permissions.Read)
+-- ---- step by step
+
+-- whether the driver wants to know of the last entries: one look, at its event or at its flags
+abbrev pub wanting : QueueState → Option ℕ → Tree Bool
+wanting q None = gives (Ok true)
+wanting q (Some n) = if q.event_idx_enabled
+    then takes (word q.avail_ring (4 + 2 * q.size)) (λ event. gives (Ok (is_among n q.next_used event)))
+    else takes (word q.avail_ring 0) (λ flags. gives (Ok (not (has_flag flags 1))))
+
+abbrev pub needing : Virtqueue → Tree Bool
+needing q = if_ready q.state.ready (wanting q.state q.added)
+
+-- the driver is asked to notify, and after that the device looks at its index
+abbrev pub enabling : QueueState → Tree Bool
+enabling q = if_ready q.ready
+    (takes (spot Write q.used_ring (kick_offset q)) (λ _. takes (spot Read q.avail_ring 2) (λ _.
+    takes (stores q.used_ring (kick_offset q) (kick_value q)) (λ _. takes (loads q.avail_ring 2) (λ idx.
+    gives (Ok (not (idx == q.next_avail))))))))
+
+-- the driver is asked not to notify
+abbrev pub disabling : QueueState → Tree (Unit {0})
+disabling q = if_ready q.ready (if q.event_idx_enabled then gives (Ok tt) else setting q.used_ring 0 1)
+
+-- ---- memory that nobody else writes
 
 -- what a device waits for: the driver finds in memory when to notify it, the value that asks for a notification of the
 -- next head, and has published no head beyond those that were popped
@@ -79,7 +91,7 @@ module _ {B : Type 0} (marks : B → ℕ → ℕ → B → Type 0) (m : Memory) 
   Enables old answer new = MatchResult answer
       (λ more. StoresWord marks m q.used_ring (kick_offset q) (kick_value q) old (Ok tt) new
       × (has_more m new q ≡ Ok more))
-      (λ e. Refuses (MayWantKick m old q) (kick_places m old q) e × (new ≡ old))
+      (λ e. Refuses (MayWantAny m old (enabling q)) (kick_places m old q) e × (new ≡ old))
 
   -- a queue that is not ready is refused, and nothing changes
   abbrev pub EnablesIfReady : Host B → Result Bool QueueError → Host B → Type 0

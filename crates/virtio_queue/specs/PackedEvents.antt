@@ -1,14 +1,15 @@
 -- Notifications of packed queues: the event suppression structures, of 4 bytes each. The first 16 bits are an offset
 -- with its wrap counter, and the others are flags.
 use Rattle.std.specs.Prelude.{◌≡◌, ℕ, ◌+◌, ◌-◌, ◌*◌, ◌%◌, nat_lt, nat_le, Bool, true, false, not, ◌==◌, ◌&&◌, ◌||◌, if◌then◌else◌, Option, Some, None, All, Contains, Result, Ok, Err, MatchBool, MatchResult}
-use Rattle.vm_memory_base.specs.declared.iotlb.Permissions.TheVariants as permissions
+use Rattle.vm_memory_base.specs.declared.iotlb.Permissions.TheVariants.{Read, Write}
 use Rattle.vm_memory_guest.specs.Host.{Host}
 use Rattle.vm_memory_guest.specs.Memory.{Memory}
 use Rattle.vm_memory_guest.specs.Window.{Window, cells_of}
-use Rattle.virtio_queue.specs.Fields.{stored_at, window_at, word_at, word_window, MayWant, Refuses, StoresWord}
+use Rattle.virtio_queue.specs.Fields.{stored_at, window_at, word_at, word_window, Refuses, StoresWord}
+use Rattle.virtio_queue.specs.Looks.{MayWantAny, Tree, gives, if_ready, loads, setting, spot, stores, takes, word}
 use Rattle.virtio_queue.specs.Packed.{PackedVirtqueue, of_bits, to_bits}
-use Rattle.virtio_queue.specs.PackedRing.{has_next}
-use Rattle.virtio_queue.specs.Rings.{WantsThen, and_then}
+use Rattle.virtio_queue.specs.PackedRing.{has_next, is_available}
+use Rattle.virtio_queue.specs.Rings.{and_then}
 use Rattle.virtio_queue.specs.declared.error.QueueError.{QueueError}
 use Rattle.virtio_queue.specs.declared.error.QueueError.TheVariants as errors
 use Rattle.virtio_queue.specs.declared.packed.position.RingPosition.{RingPosition}
@@ -49,16 +50,6 @@ module _ {B : Type 0} (m : Memory) (host : Host B) where
   needs_notification q =
       if q.state.ready then wants_notification q.state q.added else Err errors.QueueNotReady
 
-  -- to find out may fail to allocate, where it is not known without a look
-  abbrev pub MayWantEvent : PackedState → Option ℕ → Type 0
-  MayWantEvent q None = ⊥
-  MayWantEvent q (Some n) = WantsThen (MayWant m host q.driver_area 2 2 permissions.Read)
-      (word_at m host q.driver_area 2) (λ flags. (q.event_idx_enabled && is_by_offset flags ≡ true)
-      × MayWant m host q.driver_area 0 2 permissions.Read)
-
-  abbrev pub MayWantNeeds : PackedVirtqueue → Type 0
-  MayWantNeeds q = (q.state.ready ≡ true) × MayWantEvent q.state q.added
-
 -- the queue after it was asked whether the driver needs a notification: from now on slots count anew
 abbrev pub after_asked : PackedVirtqueue → Result Bool QueueError → PackedVirtqueue
 after_asked q (Ok needs) = record { state = q.state; added = Some 0 }
@@ -73,15 +64,38 @@ kick_flags q = if q.event_idx_enabled then 2 else 0
 abbrev pub kick_places : {B : Type 0} → Memory → Host B → PackedState → Result (Window × Window × Window) QueueError
 kick_places m host q = and_then (word_window m host q.device_area 0) (λ offset.
     and_then (word_window m host q.device_area 2) (λ flags.
-    and_then (window_at m host q.desc_ring (16 * q.next_avail.slot + 14) permissions.Read) (λ next.
+    and_then (window_at m host q.desc_ring (16 * q.next_avail.slot + 14) Read) (λ next.
     Ok (offset, flags, next))))
 
--- to look them up may fail to allocate
-abbrev pub MayWantKick : {B : Type 0} → Memory → Host B → PackedState → Type 0
-MayWantKick m host q = WantsThen (MayWant m host q.device_area 0 2 permissions.Write)
-    (word_window m host q.device_area 0) (λ offset.
-    WantsThen (MayWant m host q.device_area 2 2 permissions.Write) (word_window m host q.device_area 2) (λ flags.
-    MayWant m host q.desc_ring (16 * q.next_avail.slot + 14) 2 permissions.Read))
+-- ---- step by step
+
+-- whether the driver wants to know: a look at its flags, and then at its offset, if the flags say that it waits for one
+abbrev pub by_flags : PackedState → ℕ → ℕ → Tree Bool
+by_flags q n flags = if q.event_idx_enabled && is_by_offset flags
+    then takes (word q.driver_area 0) (λ event. gives (Ok (is_passed q.size n q.next_used (of_bits event))))
+    else gives (Ok (not (is_disabled flags)))
+
+abbrev pub wanting : PackedState → Option ℕ → Tree Bool
+wanting q None = gives (Ok true)
+wanting q (Some n) = takes (word q.driver_area 2) (by_flags q n)
+
+abbrev pub needing : PackedVirtqueue → Tree Bool
+needing q = if_ready q.state.ready (wanting q.state q.added)
+
+-- the driver is asked to notify: the offset, then the flags, and after that the device looks at the flags of the next
+-- slot
+abbrev pub enabling : PackedState → Tree Bool
+enabling q = if_ready q.ready (takes (spot Write q.device_area 0) (λ _. takes (spot Write q.device_area 2) (λ _.
+    takes (spot Read q.desc_ring (16 * q.next_avail.slot + 14)) (λ _.
+    takes (stores q.device_area 0 (to_bits q.next_avail)) (λ _. takes (stores q.device_area 2 (kick_flags q)) (λ _.
+    takes (loads q.desc_ring (16 * q.next_avail.slot + 14)) (λ flags.
+    gives (Ok (is_available flags q.next_avail.wrap)))))))))
+
+-- the driver is asked not to notify
+abbrev pub disabling : PackedState → Tree (Unit {0})
+disabling q = if_ready q.ready (setting q.device_area 2 1)
+
+-- ---- memory that nobody else writes
 
 -- no byte is in both windows
 abbrev pub AreApart : Window → Window → Type 0
@@ -108,7 +122,7 @@ module _ {B : Type 0} (marks : B → ℕ → ℕ → B → Type 0) (m : Memory) 
   Enables old answer new = MatchResult answer
       (λ more. (mid : Host B) × StoresWord marks m q.device_area 0 (to_bits q.next_avail) old (Ok tt) mid
       × StoresWord marks m q.device_area 2 (kick_flags q) mid (Ok tt) new × (has_next m new q ≡ Ok more))
-      (λ e. Refuses (MayWantKick m old q) (kick_places m old q) e × (new ≡ old))
+      (λ e. Refuses (MayWantAny m old (enabling q)) (kick_places m old q) e × (new ≡ old))
 
   -- a queue that is not ready is refused, and nothing changes
   abbrev pub EnablesIfReady : Host B → Result Bool QueueError → Host B → Type 0

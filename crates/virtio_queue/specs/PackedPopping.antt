@@ -1,9 +1,11 @@
--- What a pop of a packed queue looks at.
+-- A pop of a packed queue: what it looks at, and what it makes of what it finds.
 use Rattle.std.specs.Prelude.{ℕ, zero, suc, ◌+◌, ◌-◌, ◌*◌, if◌then◌else◌, List, [], ◌∷◌, ◌++◌, Option, Some, None, Result, Ok, Err}
 use Rattle.vm_memory_device.specs.Chain.{chain_fault}
 use Rattle.vm_memory_device.specs.declared.chain.Segment.{Segment}
+use Rattle.vm_memory_guest.specs.Host.{Host}
+use Rattle.vm_memory_guest.specs.Memory.{Memory}
 use Rattle.virtio_queue.specs.Available.{if_chain, indirect_len}
-use Rattle.virtio_queue.specs.Looks.{Asks, and_asks, gives, if_ok, keeps, takes, row, word}
+use Rattle.virtio_queue.specs.Looks.{MayWantAny, Tree, and_takes, gives, if_ok, if_ready, keeps, takes, row, word}
 use Rattle.virtio_queue.specs.Packed.{slot_after, slots_out}
 use Rattle.virtio_queue.specs.PackedRing.{is_available, is_indirect, is_last, packed_of, plain, segment_of}
 use Rattle.virtio_queue.specs.Rings.{and_then}
@@ -26,7 +28,7 @@ pub record Taken : Type 0 where
 
 -- from a slot on, behind these segments of so many slots: one look at each descriptor. At most so many, and one more is a
 -- loop. The flags of the first one are known, if it was found to be available
-unfoldable pub listing : ℕ → ℕ → ℕ → List Segment → ℕ → ℕ → Option ℕ → Asks Taken
+unfoldable pub listing : ℕ → ℕ → ℕ → List Segment → ℕ → ℕ → Option ℕ → Tree Taken
 listing ring size zero front slots i known = gives (Err errors.DescriptorLoop)
 listing ring size (suc most) front slots i known = takes (row ring i) (λ d.
     let p = with_known known (packed_of d) in
@@ -34,13 +36,13 @@ listing ring size (suc most) front slots i known = takes (row ring i) (λ d.
     else keeps (listing ring size most (front ++ segment_of p ∷ []) (slots + 1) (slot_after size i) None))
 
 -- the segments of N descriptors of an indirect table from an index on, behind these: one look at each
-unfoldable pub rows_behind : ℕ → ℕ → List Segment → ℕ → Asks (List Segment)
+unfoldable pub rows_behind : ℕ → ℕ → List Segment → ℕ → Tree (List Segment)
 rows_behind table zero front i = gives (Ok front)
 rows_behind table (suc n) front i = takes (row table i) (λ d.
     keeps (rows_behind table n (front ++ segment_of (packed_of d) ∷ []) (i + 1)))
 
 -- the segments of the last descriptor behind these: its own, or those of its table
-abbrev pub last_behind : List Segment → PackedDescriptor → Asks (List Segment)
+abbrev pub last_behind : List Segment → PackedDescriptor → Tree (List Segment)
 last_behind front d = if is_indirect d then if_ok (λ n. rows_behind d.addr n front 0) (indirect_len (plain d))
     else keeps (gives (Ok (front ++ segment_of d ∷ [])))
 
@@ -49,21 +51,23 @@ abbrev pub chain_made : Taken → List Segment → Result (PackedBuffer × List 
 chain_made t ss =
     and_then (if_chain ss (chain_fault ss)) (λ ss. Ok (record { id = t.last.id; slots = t.slots }, ss))
 
-abbrev pub chain_taken : Taken → Asks (PackedBuffer × List Segment)
-chain_taken t = and_asks (last_behind t.segments t.last) (λ ss. gives (chain_made t ss))
+abbrev pub chain_taken : Taken → Tree (PackedBuffer × List Segment)
+chain_taken t = and_takes (last_behind t.segments t.last) (λ ss. gives (chain_made t ss))
 
 -- the chain of the next slot, whose flags are known: no more slots than are free
-abbrev pub chain_known : PackedState → ℕ → Asks (PackedBuffer × List Segment)
-chain_known q flags = and_asks
+abbrev pub chain_known : PackedState → ℕ → Tree (PackedBuffer × List Segment)
+chain_known q flags = and_takes
     (listing q.desc_ring q.size (q.size - slots_out q.size q.next_avail q.next_used) [] 0 q.next_avail.slot (Some flags))
     chain_taken
 
 -- what is popped: a look at the flags of the next slot, and then its chain, if they say that it is available
-abbrev pub chain_behind : PackedState → ℕ → Asks (Option (PackedBuffer × List Segment))
+abbrev pub chain_behind : PackedState → ℕ → Tree (Option (PackedBuffer × List Segment))
 chain_behind q flags = if is_available flags q.next_avail.wrap
-    then and_asks (chain_known q flags) (λ p. gives (Ok (Some p)))
+    then and_takes (chain_known q flags) (λ p. gives (Ok (Some p)))
     else gives (Ok None)
 
-abbrev pub popping : PackedState → Asks (Option (PackedBuffer × List Segment))
-popping q = if q.ready then takes (word q.desc_ring (16 * q.next_avail.slot + 14)) (chain_behind q)
-    else gives (Err errors.QueueNotReady)
+abbrev pub popping : PackedState → Tree (Option (PackedBuffer × List Segment))
+popping q = if_ready q.ready (takes (word q.desc_ring (16 * q.next_avail.slot + 14)) (chain_behind q))
+
+abbrev pub MayWantChain : {B : Type 0} → Memory → Host B → PackedState → Type 0
+MayWantChain m host q = MayWantAny m host (popping q)

@@ -1,6 +1,5 @@
 -- What the driver makes available: descriptors in a packed ring, and the chain that a device pops next.
-use Rattle.std.specs.Prelude.{◌≡◌, ◌⊎◌, ℕ, zero, suc, ◌+◌, ◌-◌, ◌*◌, ◌^◌, ◌<◌, Bool, true, false, not, ◌&&◌, if◌then◌else◌, List, [], ◌∷◌, ◌++◌, length, map, Option, Some, None, Result, Ok, Err, MatchBool}
-use Rattle.vm_memory_base.specs.declared.iotlb.Permissions.TheVariants.{Read}
+use Rattle.std.specs.Prelude.{ℕ, zero, suc, ◌+◌, ◌-◌, ◌*◌, ◌^◌, Bool, true, false, not, ◌&&◌, if◌then◌else◌, List, [], ◌∷◌, ◌++◌, length, map, Option, Some, None, Result, Ok, Err}
 use Rattle.vm_memory_device.specs.Chain.{chain_fault}
 use Rattle.vm_memory_device.specs.declared.chain.Segment.{Segment}
 use Rattle.vm_memory_guest.specs.Host.{Host}
@@ -8,10 +7,10 @@ use Rattle.vm_memory_guest.specs.Memory.{Memory}
 use Rattle.virtio_queue.specs.Available.{if_chain, indirect_len}
 use Rattle.virtio_queue.specs.Descriptor as split
 use Rattle.virtio_queue.specs.Descriptor.{has_flag}
-use Rattle.virtio_queue.specs.Fields.{MayWant, descriptor_at, word_at}
+use Rattle.virtio_queue.specs.Fields.{descriptor_at, word_at}
 use Rattle.virtio_queue.specs.Linked as linked
 use Rattle.virtio_queue.specs.Packed.{moved, slot_after, slots_out}
-use Rattle.virtio_queue.specs.Rings.{WantsThen, and_then}
+use Rattle.virtio_queue.specs.Rings.{and_then}
 use Rattle.virtio_queue.specs.declared.descriptor.Descriptor.{Descriptor}
 use Rattle.virtio_queue.specs.declared.error.QueueError.{QueueError}
 use Rattle.virtio_queue.specs.declared.error.QueueError.TheVariants as errors
@@ -131,38 +130,6 @@ module _ {B : Type 0} (m : Memory) (host : Host B) where
 
   abbrev pub popped : PackedState → Result (Option (PackedBuffer × List Segment)) QueueError
   popped q = and_then (has_next q) (if_next q)
-
-  -- ---- what may fail to allocate
-
-  -- the access to the flags
-  abbrev pub MayWantFlags : PackedState → Type 0
-  MayWantFlags q = (q.ready ≡ true) × MayWant m host q.desc_ring (16 * q.next_avail.slot + 14) 2 Read
-
-  -- the access to the first descriptor of a chain, or, if its segment is kept, that and what comes behind it
-  abbrev pub IsKept : ℕ → ℕ → Type 0
-  IsKept ring i = (d : PackedDescriptor) × (packed_at ring i ≡ Ok d) × (is_last d ≡ false)
-
-  abbrev pub MayWantListed : ℕ → ℕ → Type 0
-  MayWantListed ring i = MayWant m host ring (16 * i) 16 Read ⊎ IsKept ring i
-
-  -- the same of an indirect table
-  abbrev pub MayWantRows : ℕ → Type 0
-  MayWantRows table = MayWant m host table (16 * 0) 16 Read
-      ⊎ ((d : PackedDescriptor) × (packed_at table 0 ≡ Ok d))
-
-  abbrev pub MayWantTable : PackedDescriptor → Type 0
-  MayWantTable d = (n : ℕ) × (indirect_len (plain d) ≡ Ok n) × MayWantRows d.addr
-
-  -- the segments of a chain: a direct one is kept
-  abbrev pub MayWantLast : PackedDescriptor → Type 0
-  MayWantLast d = MatchBool (is_indirect d) (MayWantTable d) (Unit {0})
-
-  abbrev pub MayWantSegments : PackedState → Type 0
-  MayWantSegments q = WantsThen ((0 < room q) × MayWantListed q.desc_ring q.next_avail.slot) (next_listed q)
-      (λ l. MayWantLast l.last)
-
-  abbrev pub MayWantChain : PackedState → Type 0
-  MayWantChain q = WantsThen (MayWantFlags q) (has_next q) (λ more. (more ≡ true) × MayWantSegments q)
 
 -- the state that popping leaves: the place moves on over the slots of a chain that was popped
 abbrev pub after_pop : {X : Type 0} → PackedState → Result (Option (PackedBuffer × X)) QueueError → PackedState

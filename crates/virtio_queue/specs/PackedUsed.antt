@@ -6,9 +6,10 @@ use Rattle.vm_memory_guest.specs.Host.{Host}
 use Rattle.vm_memory_guest.specs.Memory.{Memory}
 use Rattle.vm_memory_guest.specs.Walk.{NeedsPieces}
 use Rattle.vm_memory_guest.specs.Window.{Window}
-use Rattle.virtio_queue.specs.Fields.{lies_whole, room_at, word_window, MayWant, Refuses, StoresWord, WritesBytes}
+use Rattle.virtio_queue.specs.Fields.{lies_whole, room_at, word_window, Refuses, StoresWord, WritesBytes}
+use Rattle.virtio_queue.specs.Looks.{MayWantAny, Tree, gives, handing, if_ready}
 use Rattle.virtio_queue.specs.Packed.{PackedVirtqueue, moved, slots_out}
-use Rattle.virtio_queue.specs.Rings.{WantsThen, and_then}
+use Rattle.virtio_queue.specs.Rings.{and_then}
 use Rattle.virtio_queue.specs.declared.error.QueueError.{QueueError}
 use Rattle.virtio_queue.specs.declared.error.QueueError.TheVariants as errors
 use Rattle.virtio_queue.specs.declared.packed.state.PackedBuffer.{PackedBuffer}
@@ -58,14 +59,11 @@ module _ {B : Type 0} (m : Memory) (host : Host B) where
   used_places q buffer = and_then (rest_place q buffer) (λ a.
       and_then (word_window m host q.desc_ring (16 * q.next_used.slot + 14)) (λ w. Ok (a, w)))
 
-  -- returning a buffer may fail to allocate: for length and id, or, where these can be written, for the flags
-  abbrev pub MayWantRest : PackedState → PackedBuffer → Type 0
-  MayWantRest q buffer = (q.ready ≡ true) × (is_out q buffer ≡ true)
-      × MayWant m host q.desc_ring (16 * q.next_used.slot + 8) 6 permissions.Write
-
-  abbrev pub MayWantUsed : PackedState → PackedBuffer → Type 0
-  MayWantUsed q buffer = WantsThen (MayWantRest q buffer) (rest_place q buffer)
-      (λ a. MayWant m host q.desc_ring (16 * q.next_used.slot + 14) 2 permissions.Write)
+-- a chain is returned: length and id, and then the flags of the slot
+abbrev pub returning : PackedState → PackedBuffer → ℕ → Tree (Unit {0})
+returning q buffer len = if_ready q.ready (if not (is_out q buffer) then gives (Err errors.InvalidDescriptorIndex)
+    else handing q.desc_ring (16 * q.next_used.slot + 8) (rest_bytes buffer len) (16 * q.next_used.slot + 14)
+    (used_flags q.next_used.wrap len))
 
 module _ {B : Type 0} (marks : B → ℕ → ℕ → B → Type 0) (m : Memory) (q : PackedState) (buffer : PackedBuffer)
     (len : ℕ) where
@@ -83,7 +81,7 @@ module _ {B : Type 0} (marks : B → ℕ → ℕ → B → Type 0) (m : Memory) 
   abbrev pub AddsUsed : Host B → Result (Unit {0}) QueueError → Host B → Type 0
   AddsUsed old answer new = MatchResult answer
       (λ _. (mid : Host B) × WritesRest old mid × StoresFlags mid new)
-      (λ e. Refuses (MayWantUsed m old q buffer) (used_places m old q buffer) e × (new ≡ old))
+      (λ e. Refuses (MayWantAny m old (returning q buffer len)) (used_places m old q buffer) e × (new ≡ old))
 
 -- the queue after a buffer was returned, or was not: the place moves on over as many slots as the buffer took
 abbrev pub after_used : PackedVirtqueue → PackedBuffer → Result (Unit {0}) QueueError → PackedVirtqueue

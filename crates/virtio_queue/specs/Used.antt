@@ -1,5 +1,5 @@
 -- What the device gives back: the used ring, and whether a queue's areas lie in memory.
-use Rattle.std.specs.Prelude.{◌≡◌, ◌⊎◌, ℕ, ◌+◌, ◌*◌, ◌<◌, nat_le, true, not, ◌&&◌, min, if◌then◌else◌, List, ◌++◌, option_map, Bool, Result, Ok, Err, MatchResult}
+use Rattle.std.specs.Prelude.{◌≡◌, ◌⊎◌, ℕ, ◌+◌, ◌*◌, nat_le, true, not, ◌&&◌, min, if◌then◌else◌, List, ◌++◌, option_map, Bool, Result, Ok, Err, MatchResult}
 use Rattle.std.specs.Int.{w32, to_le_bytes}
 use Rattle.vm_memory_base.specs.declared.iotlb.Permissions.TheVariants as permissions
 use Rattle.vm_memory_guest.specs.Host.{Host}
@@ -7,7 +7,8 @@ use Rattle.vm_memory_guest.specs.Memory.{Memory}
 use Rattle.vm_memory_guest.specs.Walk.{NeedsPieces}
 use Rattle.vm_memory_guest.specs.Window.{Window}
 use Rattle.virtio_queue.specs.Fields.{lies_whole, room_at, word_at, word_window, MayWant, Refuses, StoresWord, WritesBytes}
-use Rattle.virtio_queue.specs.Rings.{WantsThen, and_then, behind, slot}
+use Rattle.virtio_queue.specs.Looks.{MayWantAny, Tree, gives, handing, if_ready}
+use Rattle.virtio_queue.specs.Rings.{and_then, behind, slot}
 use Rattle.virtio_queue.specs.State.{Virtqueue}
 use Rattle.virtio_queue.specs.declared.error.QueueError.{QueueError}
 use Rattle.virtio_queue.specs.declared.error.QueueError.TheVariants as errors
@@ -52,18 +53,14 @@ module _ {B : Type 0} (m : Memory) (host : Host B) where
   used_places q head =
       and_then (entry_place q head) (λ a. and_then (word_window m host q.used_ring 2) (λ w. Ok (a, w)))
 
-  -- returning a head may fail to allocate: for its entry, or, where that can be written, for the index
-  abbrev pub MayWantEntry : QueueState → ℕ → Type 0
-  MayWantEntry q head = (q.ready ≡ true) × (head < q.size)
-      × MayWant m host q.used_ring (4 + 8 * slot q.size q.next_used) 8 permissions.Write
-
-  abbrev pub MayWantUsed : QueueState → ℕ → Type 0
-  MayWantUsed q head = WantsThen (MayWantEntry q head) (entry_place q head)
-      (λ a. MayWant m host q.used_ring 2 2 permissions.Write)
-
 -- the bytes of an entry: a head and how many bytes the device wrote, each with its lowest byte first
 abbrev pub entry_bytes : ℕ → ℕ → List ℕ
 entry_bytes head len = to_le_bytes w32 head ++ to_le_bytes w32 len
+
+-- a chain is returned: the entry, and then the index that publishes it
+abbrev pub returning : QueueState → ℕ → ℕ → Tree (Unit {0})
+returning q head len = if_ready q.ready (if nat_le q.size head then gives (Err errors.InvalidDescriptorIndex)
+    else handing q.used_ring (4 + 8 * slot q.size q.next_used) (entry_bytes head len) 2 (behind q.next_used))
 
 module _ {B : Type 0} (marks : B → ℕ → ℕ → B → Type 0) (m : Memory) (q : QueueState) (head len : ℕ) where
   -- the entry was written, and nothing else changed
@@ -79,7 +76,7 @@ module _ {B : Type 0} (marks : B → ℕ → ℕ → B → Type 0) (m : Memory) 
   abbrev pub AddsUsed : Host B → Result (Unit {0}) QueueError → Host B → Type 0
   AddsUsed old answer new = MatchResult answer
       (λ _. (mid : Host B) × WritesEntry old mid × StoresIndex mid new)
-      (λ e. Refuses (MayWantUsed m old q head) (used_places m old q head) e × (new ≡ old))
+      (λ e. Refuses (MayWantAny m old (returning q head len)) (used_places m old q head) e × (new ≡ old))
 
 -- one entry more is counted, up to 65536
 abbrev pub one_more : ℕ → ℕ

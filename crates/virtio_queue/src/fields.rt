@@ -38,7 +38,7 @@ pub(crate) fn place(base: u64, offset: u64, size: u64) -> Result<u64, QueueError
 }
 
 // Loads the number of 16 bits so far behind an address.
-#[inline]
+#[inline(always)]
 pub(crate) fn load_word<M: GuestMemory, B: Bitmap>(
     mem: &M,
     host: &HostMemory<B>,

@@ -2,7 +2,7 @@
 ghost use Rattle.std.specs.Prelude.{◌≡◌, ◌+◌, ◌^◌, ◌<◌, Result};
 ghost use Rattle.vm_memory_guest.specs.Host.{shape_of, Holds};
 ghost use Rattle.virtio_queue.specs.Holding.{holds_prop};
-ghost use Rattle.virtio_queue.specs.Looks.{Finds, Found, Place, row, word};
+ghost use Rattle.virtio_queue.specs.Looks.{Finds, Given, Step, row, word};
 ghost use Rattle.virtio_queue.specs.declared.error.QueueError.{QueueError};
 
 use crate::descriptor::Descriptor;
@@ -16,8 +16,8 @@ use vm_memory_guest::{GuestMemory, HostMemory};
 /// A ghost member says what is known of a look. A call that is generic over this trait knows no more of memory than what
 /// its looks found, and the fact that they were made.
 pub trait Looks {
-    /// A look: what looked before it, the place, what was found or why nothing, and what looks after it.
-    ghost looks: { Self → (p : Place) → Result (Found p) QueueError → Self → Type 0 };
+    /// A look: what looked before it, the step, what was found or why nothing, and what looks after it.
+    ghost looks: { Self → (s : Step) → Result (Given s) QueueError → Self → Type 0 };
 
     /// The number of 16 bits so far behind an address, by one load.
     fn word(&mut self, base: u64, offset: u64) -> Result<u16, QueueError>
@@ -38,7 +38,7 @@ pub(crate) struct Lent<'a, M: GuestMemory, B: Bitmap> {
 }
 
 impl<M: GuestMemory, B: Bitmap> Looks for Lent<'_, M, B> {
-    ghost looks = { λ s p found after. Finds (M.memory s.mem.now) s.host.now p found × (after ≡ s) };
+    ghost looks = { λ lent s given after. Finds (M.memory lent.mem.now) lent.host.now s given × (after ≡ lent) };
 
     #[inline(always)]
     fn word(&mut self, base: u64, offset: u64) -> Result<u16, QueueError> {

@@ -1,12 +1,10 @@
 //! Stores into guest memory, which a driver may write at any moment.
-ghost use Rattle.std.specs.Prelude.{◌≡◌, ◌+◌, ◌++◌, ◌^◌, ◌<◌, true, IfOk, IsTrue, Ok, Result};
+ghost use Rattle.std.specs.Prelude.{◌+◌, ◌++◌, ◌^◌, ◌<◌, IfOk, Ok, Result};
 ghost use Rattle.std.specs.Int.{w16, w32, to_le_bytes};
 ghost use Rattle.vm_memory_base.specs.declared.iotlb.Permissions.{Permissions};
 ghost use Rattle.vm_memory_base.specs.declared.iotlb.Permissions.TheVariants.{Read, Write};
 ghost use Rattle.vm_memory_guest.specs.Host.{shape_of, Holds};
-ghost use Rattle.vm_memory_guest.specs.Window.{window_names};
-ghost use Rattle.virtio_queue.specs.Fields.{is_word, lies_whole, room_at, window_at};
-ghost use Rattle.virtio_queue.specs.Stores.{Given, IsAt, Lead, Step, Takes, done, loads, room, spot, stores, to_room, to_spot, writes};
+ghost use Rattle.virtio_queue.specs.Looks.{Given, IsAt, Step, Takes, loads, room, spot, stores, writes};
 ghost use Rattle.virtio_queue.specs.declared.error.QueueError.{QueueError};
 
 use crate::error::QueueError;
@@ -29,16 +27,16 @@ pub trait Stores<H> {
     ghost held: { Self → H → Type 0 };
 
     /// A place that was looked up may still be used.
-    ghost leads: { Self → H → Lead → Type 0 };
+    ghost leads: { Self → H → (s : Step) → Given s → Type 0 };
 
     /// Looks up where `size` bytes go so far behind an address.
     fn room(&self, host: &mut H, base: u64, offset: u64, size: u64) -> Result<u64, QueueError>
         requires held { held self.now host.old }
         requires some { 0 < size }
         requires near { offset + size < 2 ^ 32 }
-        ensures step { steps self.now host.old (room base offset size) (done result) host.new }
-        ensures found { IfOk result (λ a. leads self.now host.new (to_room a base offset size)) }
-        ensures stay { (x : Lead) → leads self.now host.old x → leads self.now host.new x }
+        ensures step { steps self.now host.old (room base offset size) result host.new }
+        ensures found { IfOk result (λ a. leads self.now host.new (room base offset size) a) }
+        ensures stay { (s : Step) (x : Given s) → leads self.now host.old s x → leads self.now host.new s x }
         ensures held { held self.now host.new };
 
     /// Looks up where a load or a store of a number of 16 bits goes so far behind an address.
@@ -51,9 +49,9 @@ pub trait Stores<H> {
     ) -> Result<VolatileSlice, QueueError>
         requires held { held self.now host.old }
         requires near { offset + 2 < 2 ^ 32 }
-        ensures step { steps self.now host.old (spot access base offset) (done result) host.new }
-        ensures found { IfOk result (λ w. leads self.now host.new (to_spot w access base offset)) }
-        ensures stay { (x : Lead) → leads self.now host.old x → leads self.now host.new x }
+        ensures step { steps self.now host.old (spot access base offset) result host.new }
+        ensures found { IfOk result (λ w. leads self.now host.new (spot access base offset) w) }
+        ensures stay { (s : Step) (x : Given s) → leads self.now host.old s x → leads self.now host.new s x }
         ensures held { held self.now host.new };
 
     /// Writes two numbers of 32 bits at a place that was looked up, each byte once.
@@ -67,10 +65,10 @@ pub trait Stores<H> {
         second: u32,
     ) -> Result<(), QueueError>
         requires held { held self.now host.old }
-        requires found { leads self.now host.old (to_room addr base offset 8) }
+        requires found { leads self.now host.old (room base offset 8) addr }
         ensures step { steps self.now host.old
             (writes base offset (to_le_bytes w32 first ++ to_le_bytes w32 second)) result host.new }
-        ensures stay { (x : Lead) → leads self.now host.old x → leads self.now host.new x }
+        ensures stay { (s : Step) (x : Given s) → leads self.now host.old s x → leads self.now host.new s x }
         ensures held { held self.now host.new };
 
     /// Writes a number of 32 bits and one of 16 bits at a place that was looked up, each byte once.
@@ -84,26 +82,26 @@ pub trait Stores<H> {
         id: u16,
     ) -> Result<(), QueueError>
         requires held { held self.now host.old }
-        requires found { leads self.now host.old (to_room addr base offset 6) }
+        requires found { leads self.now host.old (room base offset 6) addr }
         ensures step { steps self.now host.old
             (writes base offset (to_le_bytes w32 len ++ to_le_bytes w16 id)) result host.new }
-        ensures stay { (x : Lead) → leads self.now host.old x → leads self.now host.new x }
+        ensures stay { (s : Step) (x : Given s) → leads self.now host.old s x → leads self.now host.new s x }
         ensures held { held self.now host.new };
 
     /// Stores a number of 16 bits at a place that was looked up, by one store.
-    fn store(&self, host: &mut H, base: u64, offset: u64, spot: &VolatileSlice, value: u16)
+    fn store(&self, host: &mut H, base: u64, offset: u64, window: &VolatileSlice, value: u16)
         requires held { held self.now host.old }
-        requires found { leads self.now host.old (to_spot spot.now Write base offset) }
+        requires found { leads self.now host.old (spot Write base offset) window.now }
         ensures step { steps self.now host.old (stores base offset value) (Ok tt) host.new }
-        ensures stay { (x : Lead) → leads self.now host.old x → leads self.now host.new x }
+        ensures stay { (s : Step) (x : Given s) → leads self.now host.old s x → leads self.now host.new s x }
         ensures held { held self.now host.new };
 
     /// Loads the number of 16 bits at a place that was looked up, by one load.
-    fn load(&self, host: &mut H, base: u64, offset: u64, spot: &VolatileSlice) -> u16
+    fn load(&self, host: &mut H, base: u64, offset: u64, window: &VolatileSlice) -> u16
         requires held { held self.now host.old }
-        requires found { leads self.now host.old (to_spot spot.now Read base offset) }
+        requires found { leads self.now host.old (spot Read base offset) window.now }
         ensures step { steps self.now host.old (loads base offset) (Ok result) host.new }
-        ensures stay { (x : Lead) → leads self.now host.old x → leads self.now host.new x }
+        ensures stay { (s : Step) (x : Given s) → leads self.now host.old s x → leads self.now host.new s x }
         ensures held { held self.now host.new };
 }
 
@@ -114,11 +112,11 @@ pub(crate) struct Whole<'a, M: GuestMemory> {
 }
 
 impl<M: GuestMemory, B: Bitmap> Stores<HostMemory<B>> for Whole<'_, M> {
-    ghost steps = { λ s old p given new. Takes B.marks (M.memory s.mem.now) old p given new };
+    ghost steps = { λ whole old s given new. Takes B.marks (M.memory whole.mem.now) old s given new };
 
-    ghost held = { λ s host. Holds (shape_of host) (M.names s.mem.now) };
+    ghost held = { λ whole host. Holds (shape_of host) (M.names whole.mem.now) };
 
-    ghost leads = { λ s host x. IsAt (M.memory s.mem.now) host x };
+    ghost leads = { λ whole host s x. IsAt (M.memory whole.mem.now) host s x };
 
     #[inline(always)]
     fn room(
@@ -176,17 +174,23 @@ impl<M: GuestMemory, B: Bitmap> Stores<HostMemory<B>> for Whole<'_, M> {
         host: &mut HostMemory<B>,
         base: u64,
         offset: u64,
-        spot: &VolatileSlice,
+        window: &VolatileSlice,
         value: u16,
     ) {
         written_is_read_back();
         writes_keep_shapes::<B>();
-        store_in(spot, host, value);
+        store_in(window, host, value);
     }
 
     #[inline(always)]
-    fn load(&self, host: &mut HostMemory<B>, base: u64, offset: u64, spot: &VolatileSlice) -> u16 {
+    fn load(
+        &self,
+        host: &mut HostMemory<B>,
+        base: u64,
+        offset: u64,
+        window: &VolatileSlice,
+    ) -> u16 {
         loads_and_stores_are_by_bytes::<()>();
-        load_in(spot, host)
+        load_in(window, host)
     }
 }

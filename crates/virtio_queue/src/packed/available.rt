@@ -4,8 +4,8 @@ ghost use Rattle.vm_memory_guest.specs.Host.{shape_of, Holds};
 ghost use Rattle.virtio_queue.specs.Fields.{Answers};
 ghost use Rattle.virtio_queue.specs.Looks.{Follows};
 ghost use Rattle.virtio_queue.specs.Packed.{with_state};
-ghost use Rattle.virtio_queue.specs.PackedPopping.{popping};
-ghost use Rattle.virtio_queue.specs.PackedRing.{MayWantChain, after_pop, has_next, popped};
+ghost use Rattle.virtio_queue.specs.PackedPopping.{MayWantChain, popping};
+ghost use Rattle.virtio_queue.specs.PackedRing.{after_pop, has_next, popped};
 
 use super::PackedQueue;
 use super::chain::next_chain;
@@ -64,7 +64,7 @@ impl PackedQueue {
         if !is_available(flags, next.wrap) {
             return Ok(None);
         }
-        self.barrier.full_barrier();
+        self.barrier.acquire_release_barrier();
         let (buffer, chain) = next_chain(alloc, looks, &self.state, flags)?;
         let size = self.state.size;
         self.state.next_avail = next.moved(size, buffer.slots);

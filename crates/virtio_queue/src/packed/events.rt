@@ -1,11 +1,9 @@
 //! Notifications: when the driver has to be notified of used slots, and the device of available ones.
 ghost use Rattle.std.specs.Prelude.{◌≡◌, ◌*◌, ◌<◌, ◌≤◌, ◌^◌, false, Ok, OnOk};
 ghost use Rattle.vm_memory_guest.specs.Host.{shape_of, Holds};
-ghost use Rattle.virtio_queue.specs.Asking.{packed_needing, packed_wanting};
 ghost use Rattle.virtio_queue.specs.Fields.{Answers};
-ghost use Rattle.virtio_queue.specs.Looks.{Follows};
-ghost use Rattle.virtio_queue.specs.PackedEvents.{Disables, EnablesIfReady, MayWantNeeds, Offers, Waits, after_asked, count_of, is_passed, kick_flags, needs_notification};
-ghost use Rattle.virtio_queue.specs.Stores.{packed_disabling, packed_enabling};
+ghost use Rattle.virtio_queue.specs.Looks.{Follows, MayWantAny};
+ghost use Rattle.virtio_queue.specs.PackedEvents.{Disables, EnablesIfReady, Offers, Waits, after_asked, count_of, disabling, enabling, is_passed, kick_flags, needing, needs_notification, wanting};
 
 use super::PackedQueue;
 use super::descriptor::is_available;
@@ -61,6 +59,7 @@ fn is_passed(size: u16, count: u32, next: RingPosition, event: RingPosition) -> 
 }
 
 // Whether the driver wants to know of the last slots, if it is known how many are new.
+#[inline(always)]
 fn wants_notification<L: Looks>(
     looks: &mut L,
     state: &PackedState,
@@ -69,14 +68,14 @@ fn wants_notification<L: Looks>(
 ) -> Result<bool, QueueError>
     requires fits { state.now.size ≤ 2 ^ 15 }
     requires slot { state.now.next_used.slot < state.now.size }
-    ensures { Follows L.looks (packed_wanting state.now added) looks.old result looks.new }
+    ensures { Follows L.looks (wanting state.now added) looks.old result looks.new }
 {
     let Some(count) = added else {
         return Ok(true);
     };
     let flags = looks.word(state.driver_area, 2)? % 4;
     if state.event_idx_enabled && flags == VRING_PACKED_EVENT_FLAG_DESC {
-        barrier.full_barrier();
+        barrier.acquire_release_barrier();
         let event = RingPosition::from_bits(looks.word(state.driver_area, 0)?);
         return Ok(is_passed(state.size, count, state.next_used, event));
     }
@@ -107,7 +106,7 @@ impl PackedQueue {
     ) -> Result<bool, QueueError>
         requires { Holds (shape_of host.now) (M.names mem.now) }
         ensures needs { let m = M.memory mem.now in
-            Answers (MayWantNeeds m host.now self.old) (needs_notification m host.now self.old) result }
+            Answers (MayWantAny m host.now (needing self.old)) (needs_notification m host.now self.old) result }
         ensures asked { self.new ≡ after_asked self.old result }
     {
         let mut lent = Lent { mem, host };
@@ -118,7 +117,7 @@ impl PackedQueue {
     /// driver's flags, and then, if these say so, at its offset, each once.
     #[inline]
     pub fn needs_notification_from<L: Looks>(&mut self, looks: &mut L) -> Result<bool, QueueError>
-        ensures looks { Follows L.looks (packed_needing self.old) looks.old result looks.new }
+        ensures looks { Follows L.looks (needing self.old) looks.old result looks.new }
         ensures asked { self.new ≡ after_asked self.old result }
     {
         if !self.state.ready {
@@ -159,7 +158,7 @@ impl PackedQueue {
         host: &mut H,
     ) -> Result<bool, QueueError>
         requires { S.held mem.now host.old }
-        ensures stores { Follows (S.steps mem.now) (packed_enabling self.now.state) host.old result host.new }
+        ensures stores { Follows (S.steps mem.now) (enabling self.now.state) host.old result host.new }
         ensures held { S.held mem.now host.new }
     {
         if !self.state.ready {
@@ -172,7 +171,7 @@ impl PackedQueue {
         let flags = mem.spot(host, Permissions::Write, area, 2)?;
         let next = mem.spot(host, Permissions::Read, state.desc_ring, behind)?;
         mem.store(host, area, 0, &offset, state.next_avail.to_bits());
-        self.barrier.full_barrier();
+        self.barrier.acquire_release_barrier();
         mem.store(host, area, 2, &flags, kick_flags(state));
         self.barrier.full_barrier();
         let found = mem.load(host, state.desc_ring, behind, &next);
@@ -200,7 +199,7 @@ impl PackedQueue {
         host: &mut H,
     ) -> Result<(), QueueError>
         requires { S.held mem.now host.old }
-        ensures stores { Follows (S.steps mem.now) (packed_disabling self.now.state) host.old result host.new }
+        ensures stores { Follows (S.steps mem.now) (disabling self.now.state) host.old result host.new }
         ensures held { S.held mem.now host.new }
     {
         if !self.state.ready {

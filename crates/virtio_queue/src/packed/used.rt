@@ -4,8 +4,7 @@ ghost use Rattle.vm_memory_guest.specs.Host.{shape_of, Holds};
 ghost use Rattle.virtio_queue.specs.Fields.{Answers};
 ghost use Rattle.virtio_queue.specs.Looks.{Follows};
 ghost use Rattle.virtio_queue.specs.Packed.{are_positions};
-ghost use Rattle.virtio_queue.specs.PackedUsed.{AddsUsed, MayWantValid, after_used, is_out, used_flags, valid};
-ghost use Rattle.virtio_queue.specs.Stores.{packed_returning};
+ghost use Rattle.virtio_queue.specs.PackedUsed.{AddsUsed, MayWantValid, after_used, is_out, returning, used_flags, valid};
 
 use super::PackedQueue;
 use super::descriptor::{VRING_PACKED_DESC_F_AVAIL, VRING_PACKED_DESC_F_USED};
@@ -109,7 +108,7 @@ impl PackedQueue {
         len: u32,
     ) -> Result<(), QueueError>
         requires { S.held mem.now host.old }
-        ensures stores { Follows (S.steps mem.now) (packed_returning self.old.state buffer len) host.old result host.new }
+        ensures stores { Follows (S.steps mem.now) (returning self.old.state buffer len) host.old result host.new }
         ensures moved { self.new ≡ after_used self.old buffer result }
         ensures held { S.held mem.now host.new }
     {
@@ -126,7 +125,7 @@ impl PackedQueue {
         let rest = mem.room(host, ring, offset, 6)?;
         let flags = mem.spot(host, Permissions::Write, ring, last)?;
         mem.write_rest(host, ring, offset, rest, len, buffer.id)?;
-        self.barrier.full_barrier();
+        self.barrier.acquire_release_barrier();
         mem.store(host, ring, last, &flags, used_flags(next.wrap, len));
         let size = self.state.size;
         self.state.next_used = next.moved(size, buffer.slots);

@@ -1,11 +1,10 @@
 //! What the driver publishes: the available ring, and the chains of its heads.
 ghost use Rattle.std.specs.Prelude.{◌≡◌, ◌<◌, true, None, Ok};
 ghost use Rattle.vm_memory_guest.specs.Host.{shape_of, Holds};
-ghost use Rattle.virtio_queue.specs.Asking.{index_of};
-ghost use Rattle.virtio_queue.specs.Available.{MayWantChain, MayWantIdx, after_pop, avail_idx, popped};
+ghost use Rattle.virtio_queue.specs.Available.{MayWantIdx, after_pop, avail_idx, popped};
 ghost use Rattle.virtio_queue.specs.Fields.{Answers};
-ghost use Rattle.virtio_queue.specs.Looks.{Follows, word};
-ghost use Rattle.virtio_queue.specs.Popping.{next_head, popping};
+ghost use Rattle.virtio_queue.specs.Looks.{Follows, index_of, word};
+ghost use Rattle.virtio_queue.specs.Popping.{MayWantChain, next_head, popping};
 ghost use Rattle.virtio_queue.specs.State.{with_state};
 
 use super::Queue;
@@ -44,7 +43,7 @@ fn next_head<L: Looks>(
         return Err(QueueError::InvalidAvailRingIndex);
     }
     let slot = state.next_avail % state.size;
-    barrier.full_barrier();
+    barrier.acquire_release_barrier();
     let head = looks.word(state.avail_ring, 4 + 2 * u64::from(slot))?;
     Ok(Some(head))
 }

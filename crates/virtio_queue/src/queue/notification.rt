@@ -1,11 +1,9 @@
 //! Notifications: when the driver has to be notified of used entries, and the device of available ones.
 ghost use Rattle.std.specs.Prelude.{◌≡◌, ◌<◌, ◌^◌, false, Ok, OnOk};
 ghost use Rattle.vm_memory_guest.specs.Host.{shape_of, Holds};
-ghost use Rattle.virtio_queue.specs.Asking.{needing, wanting};
 ghost use Rattle.virtio_queue.specs.Fields.{Answers, stored_at};
-ghost use Rattle.virtio_queue.specs.Looks.{Follows};
-ghost use Rattle.virtio_queue.specs.Notification.{Disables, EnablesIfReady, MayWantNeeds, Waits, after_asked, is_among, kick_offset, kick_value, needs_notification};
-ghost use Rattle.virtio_queue.specs.Stores.{disabling, enabling};
+ghost use Rattle.virtio_queue.specs.Looks.{Follows, MayWantAny};
+ghost use Rattle.virtio_queue.specs.Notification.{Disables, EnablesIfReady, Waits, after_asked, disabling, enabling, is_among, kick_offset, kick_value, needing, needs_notification, wanting};
 
 use super::Queue;
 use crate::error::QueueError;
@@ -30,6 +28,7 @@ fn is_among(count: u32, next: u16, index: u16) -> bool
 }
 
 // Whether the driver wants to know of the last entries, if it is known how many are new.
+#[inline(always)]
 fn wants_notification<L: Looks>(
     looks: &mut L,
     state: &QueueState,
@@ -85,7 +84,7 @@ impl Queue {
     ) -> Result<bool, QueueError>
         requires { Holds (shape_of host.now) (M.names mem.now) }
         ensures needs { let m = M.memory mem.now in
-            Answers (MayWantNeeds m host.now self.old) (needs_notification m host.now self.old) result }
+            Answers (MayWantAny m host.now (needing self.old)) (needs_notification m host.now self.old) result }
         ensures asked { self.new ≡ after_asked self.old result }
     {
         let mut lent = Lent { mem, host };

@@ -1,11 +1,9 @@
 //! What the device returns: the used ring.
 ghost use Rattle.std.specs.Prelude.{◌≡◌};
 ghost use Rattle.vm_memory_guest.specs.Host.{shape_of, Holds};
-ghost use Rattle.virtio_queue.specs.Asking.{index_of};
 ghost use Rattle.virtio_queue.specs.Fields.{Answers};
-ghost use Rattle.virtio_queue.specs.Looks.{Follows};
-ghost use Rattle.virtio_queue.specs.Stores.{returning};
-ghost use Rattle.virtio_queue.specs.Used.{AddsUsed, MayWantUsedIdx, MayWantValid, after_used, one_more, used_idx, valid};
+ghost use Rattle.virtio_queue.specs.Looks.{Follows, index_of};
+ghost use Rattle.virtio_queue.specs.Used.{AddsUsed, MayWantUsedIdx, MayWantValid, after_used, one_more, returning, used_idx, valid};
 
 use super::Queue;
 use crate::error::QueueError;
@@ -122,7 +120,7 @@ impl Queue {
         let index = mem.spot(host, Permissions::Write, ring, 2)?;
         mem.write_pair(host, ring, offset, entry, u32::from(head), len)?;
         let next = self.state.next_used.wrapping_add(1);
-        self.barrier.full_barrier();
+        self.barrier.acquire_release_barrier();
         mem.store(host, ring, 2, &index, next);
         self.state.next_used = next;
         self.added = self.added.map(one_more);

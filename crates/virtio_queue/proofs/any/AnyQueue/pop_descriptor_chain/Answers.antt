@@ -1,5 +1,6 @@
 use Rattle.std.proofs.Common.{Err}
-use Rattle.virtio_queue.specs.Available.{MayWantChain, popped}
+use Rattle.virtio_queue.specs.Available.{popped}
+use Rattle.virtio_queue.specs.Popping.{MayWantChain}
 use Rattle.virtio_queue.proofs.AnyLemmas.{answers_by_head}
 use Rattle.virtio_queue.proofs.any.AnyQueue.pop_descriptor_chain.Goals as goal
 

@@ -1,13 +1,13 @@
 use Rattle.std.proofs.Common.{Some, None, Ok, List, refl, ℕ, Option}
 use Rattle.vm_memory_device.specs.declared.chain.Segment.{Segment}
 use Rattle.virtio_queue.specs.Any.{by_head}
-use Rattle.virtio_queue.specs.Looks.{Asks, gives}
+use Rattle.virtio_queue.specs.Looks.{Tree, gives}
 use Rattle.virtio_queue.specs.Popping.{popping}
 use Rattle.virtio_queue.specs.declared.packed.state.PackedBuffer.{PackedBuffer}
 use Rattle.virtio_queue.proofs.LookLemmas.{then_fails, then_follows}
 use Rattle.virtio_queue.proofs.any.AnyQueue.pop_from.Goals as goal
 
-abbrev named : Option (ℕ × List Segment) → Asks (Option (PackedBuffer × List Segment))
+abbrev named : Option (ℕ × List Segment) → Tree (Option (PackedBuffer × List Segment))
 named found = gives (by_head (Ok found))
 
 pub returns-in-Ok-Some-clause-looks : goal.returns-in-Ok-Some-clause-looks

@@ -1,4 +1,4 @@
-use Rattle.virtio_queue.specs.Asking.{packed_needing}
+use Rattle.virtio_queue.specs.PackedEvents.{needing}
 use Rattle.virtio_queue.proofs.AskingLemmas.{packed_needs_held}
 use Rattle.virtio_queue.proofs.StillLemmas.{still}
 use Rattle.virtio_queue.proofs.packed.PackedQueue.needs_notification.Goals as goal
@@ -9,4 +9,4 @@ returns-clause-needs g c =
     let host = c.args.host.now in
     let r = c.needs_notification_from in
     packed_needs_held m host c.args.self.now r.result
-    (still m host _ _ (λ p found new looked. looked) (packed_needing c.args.self.now) r.new.looks r.result r.ensures.looks)
+    (still m host _ _ (λ p found new looked. looked) (needing c.args.self.now) r.new.looks r.result r.ensures.looks)

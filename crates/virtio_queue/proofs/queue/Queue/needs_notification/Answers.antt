@@ -1,4 +1,4 @@
-use Rattle.virtio_queue.specs.Asking.{needing}
+use Rattle.virtio_queue.specs.Notification.{needing}
 use Rattle.virtio_queue.proofs.AskingLemmas.{needs_held}
 use Rattle.virtio_queue.proofs.StillLemmas.{still}
 use Rattle.virtio_queue.proofs.queue.Queue.needs_notification.Goals as goal

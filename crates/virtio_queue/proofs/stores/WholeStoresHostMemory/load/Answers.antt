@@ -11,5 +11,5 @@ returns-clause-step g c =
     let each = g.met.M.GuestMemory.each_fits c.args.self.now.mem.now in
     let loads = λ (a : ℕ). c.loads_and_stores_are_by_bytes.ensures.loads m.regions (route m host.tables) a 2 Read
     host.blocks each in
-    let word = word_in_window m host c.args.base c.args.offset c.args.spot.now loads c.requires.found.0 in
+    let word = word_in_window m host c.args.base c.args.offset c.args.window.now loads c.requires.found.0 in
     (c.load_in.result, refl, word ∙ ap Ok (sym c.load_in.ensures), refl)

@@ -10,7 +10,7 @@ returns-clause-step g c =
     let m = g.M.GuestMemory.memory c.args.self.now.mem.now in
     let old = c.args.host.now in
     let new = c.store_in.new.host in
-    let w = c.args.spot.now in
+    let w = c.args.window.now in
     let value = c.args.value in
     let (is, held, word) = c.requires.found in
     let wrote = c.store_in.ensures.written in
@@ -25,6 +25,6 @@ returns-clause-stay g c =
     let m = g.M.GuestMemory.memory c.args.self.now.mem.now in
     let old = c.args.host.now in
     let new = c.store_in.new.host in
-    let tables = c.writes_keep_shapes.ensures.tables (c.args.spot.now ∷ []) (to_le_bytes w16 c.args.value) old new
+    let tables = c.writes_keep_shapes.ensures.tables (c.args.window.now ∷ []) (to_le_bytes w16 c.args.value) old new
     c.store_in.ensures.written in
     is_at_stays m old new tables c.store_in.ensures.shape
