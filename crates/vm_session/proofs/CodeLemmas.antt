@@ -3,6 +3,7 @@ use Rattle.std.proofs.Common.{◌≡◌, Bool, false, IsTrue, List, ℕ, Option,
 use Rattle.std.proofs.lemmas.Bool.{false≢true}
 use Rattle.std.proofs.lemmas.Option.{slice_get_past, slice_get_read}
 use Rattle.vm_memory.specs.State.{State}
+use Rattle.vm_session.specs.DeviceSteps.{Still, marks_pages}
 use Rattle.vm_session.specs.Kinds.{is_access, is_message, is_queue, is_work, kinds, marks, sets_up}
 use Rattle.vm_session.specs.QueueCodes.{no_such}
 use Rattle.vm_session.specs.Queues.{OnBoth, Refuses, WorksOn}
@@ -67,8 +68,8 @@ pub access_answers : (old : SessionState) (kind : Kind) (call : Call) (input out
     → Served old.machine kind call input out a out' new.machine → new.queues ≡ old.queues
     → Answers old call input out a out' new
 access_answers old kind call input out a out' new is access served same =
-    subst (λ (o : Option Kind). AnswersIf o old call input out a out' new) (sym is)
-    (subst (λ (b : Bool). AnswersOf b kind old call input out a out' new) (sym (no-work kind access))
+    subst (λ (o : Option Kind). AnswersIf (Still marks_pages) o old call input out a out' new) (sym is)
+    (subst (λ (b : Bool). AnswersOf (Still marks_pages) b kind old call input out a out' new) (sym (no-work kind access))
     (subst (λ (b : Bool). AnswersOther b kind old call input out a out' new) (sym (no-queue kind access)) (
       subst (λ (b : Bool). AnswersKind b kind old.machine call input out a out' new.machine)
           (sym (no-setup kind access))
@@ -84,8 +85,8 @@ pub work_answers : (old : SessionState) (kind : Kind) (call : Call) (input out :
     (new : SessionState) → slice_get kinds call.kind ≡ Some kind → IsTrue (is_work kind)
     → OnBoth kind old call input out a new out' → Answers old call input out a out' new
 work_answers old kind call input out a out' new is work h =
-    subst (λ (o : Option Kind). AnswersIf o old call input out a out' new) (sym is)
-    (subst (λ (b : Bool). AnswersOf b kind old call input out a out' new) (sym work) h)
+    subst (λ (o : Option Kind). AnswersIf (Still marks_pages) o old call input out a out' new) (sym is)
+    (subst (λ (b : Bool). AnswersOf (Still marks_pages) b kind old call input out a out' new) (sym work) h)
 
 -- a call on a queue that there is, and on one that there is not
 module _ (k : Kind) (old : SessionState) (call : Call) (input out : List ℕ) (a : Answer) (out' : List ℕ) where

@@ -9,19 +9,19 @@ use Rattle.vm_memory_base.specs.Pages.{PageSet}
 use Rattle.vm_memory_guest.specs.Host.{Host}
 use Rattle.vm_memory_guest.specs.Memory.{Memory}
 use Rattle.vm_memory_device.specs.declared.chain.Segment.{Segment}
-use Rattle.virtio_queue.specs.Any.{AddsUsed}
 use Rattle.virtio_queue.specs.declared.error.QueueError.{QueueError}
 use Rattle.virtio_queue.specs.declared.error.QueueError.TheVariants.{InvalidDescriptorIndex}
 use Rattle.virtio_queue.specs.declared.packed.state.PackedBuffer.{PackedBuffer}
+use Rattle.vm_session.specs.DeviceSteps.{DeviceStep, Races, Returned, Steps, Still, adds_used, marks_pages}
 use Rattle.vm_session.specs.Kinds.{is_queue, is_work, kinds}
 use Rattle.vm_session.specs.QueueCodes.{answer_of_done, answer_of_queue, in_flight, no_such, not_in_flight, too_many}
 use Rattle.vm_session.specs.Codes.{bad_call, coded, no_memory}
 use Rattle.vm_session.specs.Answers.{valued}
-use Rattle.vm_session.specs.Queues.{AnswersQueue, Completes, CompletesIf, Forgets, KeepsQueue, MakesQueue, OnBoth, OneQueue, OnQueue, Refuses, Returns, ReturnsIf, Works, WorksOn, after_popped, after_popped_if, after_returned, forgotten, is_past, marks_pages, refusal_of_chain, unfinished, unused}
+use Rattle.vm_session.specs.Queues.{AnswersQueue, Completes, CompletesIf, Forgets, KeepsQueue, MakesQueue, OnBothBy, OneQueue, OnQueue, Refuses, Returns, ReturnsIf, Works, WorksOnBy, after_popped, after_popped_if, after_returned, forgotten, is_past, refusal_of_chain, unfinished, unused}
 use Rattle.vm_session.proofs.RetryLemmas.{readies_queues, told_as, told_done}
 use Rattle.vm_session.specs.Messages.{regions_in}
-use Rattle.vm_session.specs.Retries.{WholeSession, message_at}
-use Rattle.vm_session.specs.Run.{EndsFlight, EndsIf, Event, Exchange, HappenAll, Happens, calls, chain_at, ends_flight, forgets, gives_back, lends, writes}
+use Rattle.vm_session.specs.Retries.{AnswersCallBy, WholeSession, message_at}
+use Rattle.vm_session.specs.Run.{EndsFlight, EndsIf, Event, Exchange, HappenAll, Happens, calls, chain_at, ends_flight, forgets, gives_back, lends, races, writes}
 use Rattle.vm_session.specs.Session.{AnswersIf, AnswersOf, AnswersOther}
 use Rattle.vm_session.specs.SessionState.{DeviceQueue, SessionState, buffer_of, chain_of, descriptors_in}
 use Rattle.vm_session.specs.declared.call.Answer.{Answer}
@@ -134,46 +134,48 @@ module _ (call : Call) (head : ℕ) (chain : List Segment) where
       ∙ taken_keeps q.flight call.third head chain (λ e. ends e (ap (λ (x : Answer). x.code) told)) here
   returned_keeps q (Err e) a q' told is ends = same_keeps q q' head chain is
 
-  module _ {B : Type 0} (marks : B → ℕ → ℕ → B → Type 0) (m : Memory) where
+  module _ {B : Type 0} (marks : B → ℕ → ℕ → B → Type 0) (m : Memory)
+      (step : Host B → (s : DeviceStep) → Returned s → Host B → Type 0) where
     returns_keeps : (q : DeviceQueue) (old : Host B) (a : Answer) (q' : DeviceQueue) (new : Host B)
-        → Returns marks m q call.third call.value old a q' new
+        → Returns step q call.third call.value old a q' new
         → ((call.third == head) ≡ true → a.code ≡ 0 → ⊥) → Keeps q head chain q'
     returns_keeps q old a q' new h ends = at (chain_of q call.third) h
       where
         at : (o : Option (List Segment)) → MatchOption o ((a ≡ not_in_flight) × (q' ≡ q) × (new ≡ old))
             (λ c. (r : Result (Unit {0}) QueueError)
-            × AddsUsed marks m q.queue (buffer_of q call.third) call.value old r new × (a ≡ answer_of_done r) × (q' ≡ after_returned q call.third r)) → Keeps q head chain q'
+            × step old (adds_used q.queue (buffer_of q call.third) call.value) r new × (a ≡ answer_of_done r)
+            × (q' ≡ after_returned q call.third r)) → Keeps q head chain q'
         at None k = same_keeps q q' head chain k.1
         at (Some c) k = returned_keeps q k.0 a q' k.2 k.3 ends
 
     returns_if_keeps : (q : DeviceQueue) (old : Host B) (a : Answer) (q' : DeviceQueue) (new : Host B)
-        → ReturnsIf marks m call q old a q' new → ((call.third == head) ≡ true → a.code ≡ 0 → ⊥)
+        → ReturnsIf step call q old a q' new → ((call.third == head) ≡ true → a.code ≡ 0 → ⊥)
         → Keeps q head chain q'
     returns_if_keeps q old a q' new h ends = at (nat_lt call.value (2 ^ 32)) h
       where
-        at : (b : Bool) → MatchBool b (Returns marks m q call.third call.value old a q' new)
+        at : (b : Bool) → MatchBool b (Returns step q call.third call.value old a q' new)
             ((a ≡ bad_call) × (q' ≡ q) × (new ≡ old)) → Keeps q head chain q'
         at true k = returns_keeps q old a q' new k ends
         at false k = same_keeps q q' head chain k.1
 
     completes_if_keeps : (input : List ℕ) (q : DeviceQueue) (old : Host B) (a : Answer) (q' : DeviceQueue) (new : Host B)
-        → CompletesIf marks m call input q old a q' new → ((call.third == head) ≡ true → a.code ≡ 0 → ⊥)
+        → CompletesIf marks m step call input q old a q' new → ((call.third == head) ≡ true → a.code ≡ 0 → ⊥)
         → Keeps q head chain q'
     completes_if_keeps input q old a q' new h ends = at (nat_lt call.value (2 ^ 32)) h
       where
         whole : (told : Answer) (mid : Host B) (b : Bool) → MatchBool b
-            (Returns marks m q call.third call.value mid a q' new)
+            (Returns step q call.third call.value mid a q' new)
             ((a ≡ unfinished (length input) told) × (q' ≡ q) × (new ≡ mid)) → Keeps q head chain q'
         whole told mid true k = returns_keeps q mid a q' new k ends
         whole told mid false k = same_keeps q q' head chain k.1
 
-        at : (b : Bool) → MatchBool b (Completes marks m call input q old a q' new)
+        at : (b : Bool) → MatchBool b (Completes marks m step call input q old a q' new)
             ((a ≡ bad_call) × (q' ≡ q) × (new ≡ old)) → Keeps q head chain q'
         at true k = whole k.0 k.1 (k.0.code == 0 && k.0.count == length input) k.3
         at false k = same_keeps q q' head chain k.1
 
     works_keeps : (k : Kind) (input : List ℕ) (q : DeviceQueue) (old : Host B) (out : List ℕ) (a : Answer)
-        (q' : DeviceQueue) (new : Host B) (out' : List ℕ) → Works marks m k call input q old out a q' new out'
+        (q' : DeviceQueue) (new : Host B) (out' : List ℕ) → Works marks m step k call input q old out a q' new out'
         → (ends_flight k call.third head ≡ true → a.code ≡ 0 → ⊥) → Keeps q head chain q'
     works_keeps kind.QueueIsValid input q old out a q' new out' h ends = same_keeps q q' head chain h.1
     works_keeps kind.AvailIdx input q old out a q' new out' h ends = same_keeps q q' head chain h.1
@@ -243,21 +245,23 @@ module _ (number head : ℕ) (chain : List Segment) where
             ∙ set_stays old.queues call.first q h.0 is
             (λ e. one_keeps call head chain k q out a h.0 out' h.1 (ends e)) here
 
-    both_stays : (input : List ℕ) → OnBoth k old call input out a new out' → Stays number head chain old new
-    both_stays input h = at (slice_get old.queues call.first) refl h
+    both_stays : (steps : Steps) (input : List ℕ) → OnBothBy steps k old call input out a new out'
+        → Stays number head chain old new
+    both_stays steps input h = at (slice_get old.queues call.first) refl h
       where
         kept : (q q' : DeviceQueue) (o : Option Memory)
             → MatchOption o ((a ≡ no_such) × (new.machine ≡ old.machine) × (q' ≡ q) × (out' ≡ out))
-            (λ m. (host : Host PageSet) × Works marks_pages m k call input q old.machine.host out a q' host out'
+            (λ m. (host : Host PageSet)
+            × Works marks_pages m (steps m) k call input q old.machine.host out a q' host out'
             × (new.machine ≡ record old.machine { host = host }))
             → (call.first == number) ≡ true → Keeps q head chain q'
         kept q q' None h e = same_keeps q q' head chain h.2
         kept q q' (Some m) h e =
-            works_keeps call head chain marks_pages m k input q old.machine.host out a q' h.0 out' h.1 (ends e)
+            works_keeps call head chain marks_pages m (steps m) k input q old.machine.host out a q' h.0 out' h.1 (ends e)
 
         at : (o : Option DeviceQueue) → slice_get old.queues call.first ≡ o
             → MatchOption o (Refuses no_such old out a new out') (λ q.
-            (q' : DeviceQueue) × WorksOn k call input old.machine q out a new.machine q' out'
+            (q' : DeviceQueue) × WorksOnBy steps k call input old.machine q out a new.machine q' out'
             × (new.queues ≡ slice_set old.queues call.first q')) → Stays number head chain old new
         at None is h = same_stays old new (ap (λ (s : SessionState). s.queues) h.1)
         at (Some q) is h = λ here.
@@ -299,24 +303,25 @@ module _ (number head : ℕ) (chain : List Segment) where
       alone_stays k old new e.call e.before e.answer e.after (ends_of e k is not) k refl e.input h
   other_stays false e k old new is not h = same_stays old new h.1
 
-  any_stays : (b : Bool) (e : Exchange) (k : Kind) (old new : SessionState) → slice_get kinds e.call.kind ≡ Some k
-      → (EndsFlight number head (calls e) → ⊥)
-      → AnswersOf b k old e.call e.input e.before e.answer e.after new → Stays number head chain old new
-  any_stays true e k old new is not h =
-      both_stays k old new e.call e.before e.answer e.after (ends_of e k is not) e.input h
-  any_stays false e k old new is not h = other_stays (is_queue k) e k old new is not h
+  any_stays : (steps : Steps) (b : Bool) (e : Exchange) (k : Kind) (old new : SessionState)
+      → slice_get kinds e.call.kind ≡ Some k → (EndsFlight number head (calls e) → ⊥)
+      → AnswersOf steps b k old e.call e.input e.before e.answer e.after new → Stays number head chain old new
+  any_stays steps true e k old new is not h =
+      both_stays k old new e.call e.before e.answer e.after (ends_of e k is not) steps e.input h
+  any_stays steps false e k old new is not h = other_stays (is_queue k) e k old new is not h
 
-  call_stays : (o : Option Kind) (e : Exchange) (old new : SessionState) → slice_get kinds e.call.kind ≡ o
-      → (EndsFlight number head (calls e) → ⊥)
-      → AnswersIf o old e.call e.input e.before e.answer e.after new → Stays number head chain old new
-  call_stays None e old new is not h = same_stays old new (ap (λ (s : SessionState). s.queues) h.2)
-  call_stays (Some k) e old new is not h = any_stays (is_work k) e k old new is not h
+  call_stays : (steps : Steps) (o : Option Kind) (e : Exchange) (old new : SessionState)
+      → slice_get kinds e.call.kind ≡ o → (EndsFlight number head (calls e) → ⊥)
+      → AnswersIf steps o old e.call e.input e.before e.answer e.after new → Stays number head chain old new
+  call_stays steps None e old new is not h = same_stays old new (ap (λ (s : SessionState). s.queues) h.2)
+  call_stays steps (Some k) e old new is not h = any_stays steps (is_work k) e k old new is not h
 
-  event_stays : (shared : List ℕ) (e : Event) (old new : WholeSession) → Happens shared old e new
-      → (EndsFlight number head e → ⊥) → Stays number head chain old.parts new.parts
-  event_stays shared (calls e) old new h not = λ here.
+  answered_stays : (steps : Steps) (e : Exchange) (old new : WholeSession)
+      → AnswersCallBy steps old e.call e.input e.before e.answer e.after new
+      → (EndsFlight number head (calls e) → ⊥) → Stays number head chain old.parts new.parts
+  answered_stays steps e old new h not = λ here.
       ap (λ (s : WholeSession). chain_at s.parts number head) h.4
-      ∙ call_stays (slice_get kinds e.call.kind) (record e { answer = h.0 }) h.2.0 h.1.parts refl
+      ∙ call_stays steps (slice_get kinds e.call.kind) (record e { answer = h.0 }) h.2.0 h.1.parts refl
       (λ ends. not (
         told_done h.0 e.answer (told_as h.1 e.call (length e.input) h.0 e.answer new.retry h.3) ends.0,
         ends.1,
@@ -324,6 +329,11 @@ module _ (number head : ℕ) (chain : List Segment) where
       )) h.2.2
       (same_stays old.parts h.2.0 (readies_queues old.retry (regions_in (drop 32 e.input))
       (message_at old.parts.machine e.call e.input) old.parts h.2.0 h.2.1) here)
+
+  event_stays : (shared : List ℕ) (e : Event) (old new : WholeSession) → Happens shared old e new
+      → (EndsFlight number head e → ⊥) → Stays number head chain old.parts new.parts
+  event_stays shared (calls e) old new h not = answered_stays (Still marks_pages) e old new h not
+  event_stays shared (races e) old new h not = answered_stays (Races shared) e old new h not
   event_stays shared (lends bytes page a) old new h not = same_stays old.parts new.parts h.1
   event_stays shared (gives_back block a) old new h not = same_stays old.parts new.parts h.1
   event_stays shared forgets old new h not =

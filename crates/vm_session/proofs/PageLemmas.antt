@@ -28,10 +28,12 @@ use Rattle.virtio_queue.specs.declared.packed.state.PackedState.{PackedState}
 use Rattle.virtio_queue.specs.declared.state.QueueState.{QueueState}
 use Rattle.virtio_blk.specs.Steps.{Finishes, Told, gapless, status_fault}
 use Rattle.virtio_blk.specs.Texts.{WritesAt}
+use Rattle.virtio_blk.specs.declared.request.Request.{Request}
 use Rattle.virtio_blk.specs.declared.request.Terms.{Terms}
 use Rattle.vm_session.specs.Codes.{bad_call}
-use Rattle.vm_session.specs.QueueCodes.{answer_of_bytes, answer_of_done, answer_of_length, not_in_flight}
-use Rattle.vm_session.specs.Queues.{BeginsRequest, Completes, CompletesIf, FinishesIf, FinishesRequest, Returns, ReturnsIf, TellsAvail, TellsUsed, Works, WritesChain, after_returned, marks_pages, terms_of, unfinished}
+use Rattle.vm_session.specs.DeviceSteps.{DeviceStep, Returned, Still, adds_used, begins, disables, enables, finishes, marks_pages, needs, pops, reads_avail, reads_used}
+use Rattle.vm_session.specs.QueueCodes.{answer_of_begun, answer_of_bytes, answer_of_done, answer_of_length, not_in_flight}
+use Rattle.vm_session.specs.Queues.{BeginsRequest, Completes, CompletesIf, FinishesIf, FinishesRequest, Returns, ReturnsIf, TellsAvail, TellsUsed, Works, WritesChain, after_returned, terms_of, unfinished}
 use Rattle.vm_session.specs.SessionState.{DeviceQueue, buffer_of, chain_of}
 use Rattle.vm_session.specs.declared.call.Answer.{Answer}
 use Rattle.vm_session.specs.declared.call.Call.{Call}
@@ -182,14 +184,6 @@ module _ {B : Type 0} (marks : B → ℕ → ℕ → B → Type 0) (pages : B �
     any_needs (Split q) host r h = h
     any_needs (Packed q) host r h = h
 
-    any_avail : (q : AnyQueue) (host : Host B) (a : Answer) → TellsAvail m host q a → TellsAvail m (seen host) q a
-    any_avail (Split q) host a h = h
-    any_avail (Packed q) host a h = h
-
-    any_used : (q : AnyQueue) (host : Host B) (a : Answer) → TellsUsed m host q a → TellsUsed m (seen host) q a
-    any_used (Split q) host a h = h
-    any_used (Packed q) host a h = h
-
     any_adds : (q : AnyQueue) (buffer : PackedBuffer) (len : ℕ) (old : Host B)
         (answer : Result (Unit {0}) QueueError) (new : Host B) → any.AddsUsed marks m q buffer len old answer new
         → any.AddsUsed marks_pages m q buffer len (seen old) answer (seen new)
@@ -226,57 +220,6 @@ module _ {B : Type 0} (marks : B → ℕ → ℕ → B → Type 0) (pages : B �
             × (a ≡ answer_of_bytes r))
         at None h = (h.0, ap seen h.1)
         at (Some chain) h = (h.0, h.1, text_seen _ bytes old h.0 h.1 new h.2, h.3)
-
-    returns_seen : (q : DeviceQueue) (head len : ℕ) (old : Host B) (a : Answer) (q' : DeviceQueue) (new : Host B)
-        → Returns marks m q head len old a q' new → Returns marks_pages m q head len (seen old) a q' (seen new)
-    returns_seen q head len old a q' new h = at (chain_of q head) h
-      where
-        at : (o : Option (List Segment))
-            → MatchOption o ((a ≡ not_in_flight) × (q' ≡ q) × (new ≡ old)) (λ chain.
-            (r : Result (Unit {0}) QueueError) × any.AddsUsed marks m q.queue (buffer_of q head) len old r new
-            × (a ≡ answer_of_done r) × (q' ≡ after_returned q head r))
-            → MatchOption o ((a ≡ not_in_flight) × (q' ≡ q) × (seen new ≡ seen old)) (λ chain.
-            (r : Result (Unit {0}) QueueError)
-            × any.AddsUsed marks_pages m q.queue (buffer_of q head) len (seen old) r (seen new)
-            × (a ≡ answer_of_done r) × (q' ≡ after_returned q head r))
-        at None h = (h.0, h.1, ap seen h.2)
-        at (Some chain) h = (h.0, any_adds q.queue (buffer_of q head) len old h.0 new h.1, h.2, h.3)
-
-    returns_if : (call : Call) (q : DeviceQueue) (old : Host B) (a : Answer) (q' : DeviceQueue) (new : Host B)
-        → ReturnsIf marks m call q old a q' new → ReturnsIf marks_pages m call q (seen old) a q' (seen new)
-    returns_if call q old a q' new h = at (nat_lt call.value (2 ^ 32)) h
-      where
-        at : (b : Bool) → MatchBool b (Returns marks m q call.third call.value old a q' new)
-            ((a ≡ bad_call) × (q' ≡ q) × (new ≡ old))
-            → MatchBool b (Returns marks_pages m q call.third call.value (seen old) a q' (seen new))
-            ((a ≡ bad_call) × (q' ≡ q) × (seen new ≡ seen old))
-        at true h = returns_seen q call.third call.value old a q' new h
-        at false h = (h.0, h.1, ap seen h.2)
-
-    completes_if : (call : Call) (input : List ℕ) (q : DeviceQueue) (old : Host B) (a : Answer) (q' : DeviceQueue)
-        (new : Host B) → CompletesIf marks m call input q old a q' new
-        → CompletesIf marks_pages m call input q (seen old) a q' (seen new)
-    completes_if call input q old a q' new h = at (nat_lt call.value (2 ^ 32)) h
-      where
-        whole : (told : Answer) (mid : Host B) (b : Bool) → MatchBool b
-            (Returns marks m q call.third call.value mid a q' new)
-            ((a ≡ unfinished (length input) told) × (q' ≡ q) × (new ≡ mid)) → MatchBool b
-            (Returns marks_pages m q call.third call.value (seen mid) a q' (seen new))
-            ((a ≡ unfinished (length input) told) × (q' ≡ q) × (seen new ≡ seen mid))
-        whole told mid true k = returns_seen q call.third call.value mid a q' new k
-        whole told mid false k = (k.0, k.1, ap seen k.2)
-
-        at : (b : Bool) → MatchBool b (Completes marks m call input q old a q' new)
-            ((a ≡ bad_call) × (q' ≡ q) × (new ≡ old))
-            → MatchBool b (Completes marks_pages m call input q (seen old) a q' (seen new))
-            ((a ≡ bad_call) × (q' ≡ q) × (seen new ≡ seen old))
-        at true k = (
-          k.0,
-          seen k.1,
-          chain_seen q call.third call.address input old k.0 k.1 k.2,
-          whole k.0 k.1 (k.0.code == 0 && k.0.count == length input) k.3,
-        )
-        at false k = (k.0, k.1, ap seen k.2)
 
     -- the status of a request
     at_seen : (es : List Entry) (bytes : List ℕ) (old new : Host B) → WritesAt marks m es bytes old new
@@ -318,9 +261,86 @@ module _ {B : Type 0} (marks : B → ℕ → ℕ → B → Type 0) (pages : B �
               (is_ok answer && is_none (status_fault m old.tables es)) h.1,
         )
 
+    -- so is each step of a device
+    step_seen : (s : DeviceStep) (old : Host B) (r : Returned s) (new : Host B) → Still marks m old s r new
+        → Still marks_pages m (seen old) s r (seen new)
+    step_seen (pops q) old r new h = (any_pops q old r h.0, ap seen h.1)
+    step_seen (adds_used q buffer len) old r new h = any_adds q buffer len old r new h
+    step_seen (needs q) old r new h = (any_needs q old r h.0, ap seen h.1)
+    step_seen (enables q) old r new h = any_enables q old r new h
+    step_seen (disables q) old r new h = any_disables q old r new h
+    step_seen (reads_avail q) old r new h = (h.0, ap seen h.1)
+    step_seen (reads_used q) old r new h = (h.0, ap seen h.1)
+    step_seen (begins terms chain) old r new h = (h.0, ap seen h.1)
+    step_seen (finishes chain status moved) old r new h =
+        finishes_seen (text (writable chain)) status moved old r new h
+
+    avail_seen : (q : AnyQueue) (old : Host B) (a : Answer) (new : Host B) → TellsAvail (Still marks m) q old a new
+        → TellsAvail (Still marks_pages m) q (seen old) a (seen new)
+    avail_seen (Split q) old a new h = (h.0, step_seen (reads_avail q) old h.0 new h.1, h.2)
+    avail_seen (Packed q) old a new h = (h.0, ap seen h.1)
+
+    used_seen : (q : AnyQueue) (old : Host B) (a : Answer) (new : Host B) → TellsUsed (Still marks m) q old a new
+        → TellsUsed (Still marks_pages m) q (seen old) a (seen new)
+    used_seen (Split q) old a new h = (h.0, step_seen (reads_used q) old h.0 new h.1, h.2)
+    used_seen (Packed q) old a new h = (h.0, ap seen h.1)
+
+    returns_seen : (q : DeviceQueue) (head len : ℕ) (old : Host B) (a : Answer) (q' : DeviceQueue) (new : Host B)
+        → Returns (Still marks m) q head len old a q' new
+        → Returns (Still marks_pages m) q head len (seen old) a q' (seen new)
+    returns_seen q head len old a q' new h = at (chain_of q head) h
+      where
+        at : (o : Option (List Segment))
+            → MatchOption o ((a ≡ not_in_flight) × (q' ≡ q) × (new ≡ old)) (λ chain.
+            (r : Result (Unit {0}) QueueError) × any.AddsUsed marks m q.queue (buffer_of q head) len old r new
+            × (a ≡ answer_of_done r) × (q' ≡ after_returned q head r))
+            → MatchOption o ((a ≡ not_in_flight) × (q' ≡ q) × (seen new ≡ seen old)) (λ chain.
+            (r : Result (Unit {0}) QueueError)
+            × any.AddsUsed marks_pages m q.queue (buffer_of q head) len (seen old) r (seen new)
+            × (a ≡ answer_of_done r) × (q' ≡ after_returned q head r))
+        at None h = (h.0, h.1, ap seen h.2)
+        at (Some chain) h = (h.0, any_adds q.queue (buffer_of q head) len old h.0 new h.1, h.2, h.3)
+
+    returns_if : (call : Call) (q : DeviceQueue) (old : Host B) (a : Answer) (q' : DeviceQueue) (new : Host B)
+        → ReturnsIf (Still marks m) call q old a q' new
+        → ReturnsIf (Still marks_pages m) call q (seen old) a q' (seen new)
+    returns_if call q old a q' new h = at (nat_lt call.value (2 ^ 32)) h
+      where
+        at : (b : Bool) → MatchBool b (Returns (Still marks m) q call.third call.value old a q' new)
+            ((a ≡ bad_call) × (q' ≡ q) × (new ≡ old))
+            → MatchBool b (Returns (Still marks_pages m) q call.third call.value (seen old) a q' (seen new))
+            ((a ≡ bad_call) × (q' ≡ q) × (seen new ≡ seen old))
+        at true h = returns_seen q call.third call.value old a q' new h
+        at false h = (h.0, h.1, ap seen h.2)
+
+    completes_if : (call : Call) (input : List ℕ) (q : DeviceQueue) (old : Host B) (a : Answer) (q' : DeviceQueue)
+        (new : Host B) → CompletesIf marks m (Still marks m) call input q old a q' new
+        → CompletesIf marks_pages m (Still marks_pages m) call input q (seen old) a q' (seen new)
+    completes_if call input q old a q' new h = at (nat_lt call.value (2 ^ 32)) h
+      where
+        whole : (told : Answer) (mid : Host B) (b : Bool) → MatchBool b
+            (Returns (Still marks m) q call.third call.value mid a q' new)
+            ((a ≡ unfinished (length input) told) × (q' ≡ q) × (new ≡ mid)) → MatchBool b
+            (Returns (Still marks_pages m) q call.third call.value (seen mid) a q' (seen new))
+            ((a ≡ unfinished (length input) told) × (q' ≡ q) × (seen new ≡ seen mid))
+        whole told mid true k = returns_seen q call.third call.value mid a q' new k
+        whole told mid false k = (k.0, k.1, ap seen k.2)
+
+        at : (b : Bool) → MatchBool b (Completes marks m (Still marks m) call input q old a q' new)
+            ((a ≡ bad_call) × (q' ≡ q) × (new ≡ old))
+            → MatchBool b (Completes marks_pages m (Still marks_pages m) call input q (seen old) a q' (seen new))
+            ((a ≡ bad_call) × (q' ≡ q) × (seen new ≡ seen old))
+        at true k = (
+          k.0,
+          seen k.1,
+          chain_seen q call.third call.address input old k.0 k.1 k.2,
+          whole k.0 k.1 (k.0.code == 0 && k.0.count == length input) k.3,
+        )
+        at false k = (k.0, k.1, ap seen k.2)
+
     request_seen : (q : DeviceQueue) (head status moved : ℕ) (old : Host B) (a : Answer) (new : Host B)
-        → FinishesRequest marks m q head status moved old a new
-        → FinishesRequest marks_pages m q head status moved (seen old) a (seen new)
+        → FinishesRequest (Still marks m) q head status moved old a new
+        → FinishesRequest (Still marks_pages m) q head status moved (seen old) a (seen new)
     request_seen q head status moved old a new h = at (chain_of q head) h
       where
         at : (o : Option (List Segment)) → MatchOption o ((a ≡ not_in_flight) × (new ≡ old)) (λ chain.
@@ -333,33 +353,43 @@ module _ {B : Type 0} (marks : B → ℕ → ℕ → B → Type 0) (pages : B �
         at (Some chain) h = (h.0, finishes_seen (text (writable chain)) status moved old h.0 new h.1, h.2)
 
     finish_if : (call : Call) (q : DeviceQueue) (old : Host B) (a : Answer) (new : Host B)
-        → FinishesIf marks m call q old a new → FinishesIf marks_pages m call q (seen old) a (seen new)
+        → FinishesIf (Still marks m) call q old a new → FinishesIf (Still marks_pages m) call q (seen old) a (seen new)
     finish_if call q old a new h = at (nat_lt call.value (2 ^ 8)) h
       where
-        at : (b : Bool) → MatchBool b (FinishesRequest marks m q call.third call.value call.length old a new)
+        at : (b : Bool) → MatchBool b (FinishesRequest (Still marks m) q call.third call.value call.length old a new)
             ((a ≡ bad_call) × (new ≡ old))
-            → MatchBool b (FinishesRequest marks_pages m q call.third call.value call.length (seen old) a (seen new))
+            → MatchBool b
+            (FinishesRequest (Still marks_pages m) q call.third call.value call.length (seen old) a (seen new))
             ((a ≡ bad_call) × (seen new ≡ seen old))
         at true h = request_seen q call.third call.value call.length old a new h
         at false h = (h.0, ap seen h.1)
 
-    begins_seen : (q : DeviceQueue) (head : ℕ) (o : Option Terms) (host : Host B) (a : Answer)
-        → BeginsRequest m host q head o a → BeginsRequest m (seen host) q head o a
-    begins_seen q head None host a h = h
-    begins_seen q head (Some terms) host a h = h
+    begins_seen : (q : DeviceQueue) (head : ℕ) (o : Option Terms) (old : Host B) (a : Answer) (new : Host B)
+        → BeginsRequest (Still marks m) q head o old a new
+        → BeginsRequest (Still marks_pages m) q head o (seen old) a (seen new)
+    begins_seen q head None old a new h = (h.0, ap seen h.1)
+    begins_seen q head (Some terms) old a new h = at (chain_of q head) h
+      where
+        at : (o : Option (List Segment)) → MatchOption o ((a ≡ not_in_flight) × (new ≡ old)) (λ chain.
+            (r : Result Request GuestMemoryError) × Still marks m old (begins terms chain) r new
+            × (a ≡ answer_of_begun r))
+            → MatchOption o ((a ≡ not_in_flight) × (seen new ≡ seen old)) (λ chain.
+            (r : Result Request GuestMemoryError)
+            × Still marks_pages m (seen old) (begins terms chain) r (seen new) × (a ≡ answer_of_begun r))
+        at None h = (h.0, ap seen h.1)
+        at (Some chain) h = (h.0, step_seen (begins terms chain) old h.0 new h.1, h.2)
 
     -- so is each call on a queue and a memory
     pub work_seen : (k : Kind) (call : Call) (input : List ℕ) (q : DeviceQueue) (old : Host B) (out : List ℕ)
         (a : Answer) (q' : DeviceQueue) (new : Host B) (out' : List ℕ)
-        → Works marks m k call input q old out a q' new out'
-        → Works marks_pages m k call input q (seen old) out a q' (seen new) out'
+        → Works marks m (Still marks m) k call input q old out a q' new out'
+        → Works marks_pages m (Still marks_pages m) k call input q (seen old) out a q' (seen new) out'
     work_seen kind.QueueIsValid call input q old out a q' new out' h =
         ((h.0.0, any_valid q.queue old h.0.0 h.0.1, h.0.2), h.1, ap seen h.2, h.3)
-    work_seen kind.AvailIdx call input q old out a q' new out' h =
-        (any_avail q.queue old a h.0, h.1, ap seen h.2, h.3)
-    work_seen kind.UsedIdx call input q old out a q' new out' h = (any_used q.queue old a h.0, h.1, ap seen h.2, h.3)
+    work_seen kind.AvailIdx call input q old out a q' new out' h = (avail_seen q.queue old a new h.0, h.1, h.2)
+    work_seen kind.UsedIdx call input q old out a q' new out' h = (used_seen q.queue old a new h.0, h.1, h.2)
     work_seen kind.Pop call input q old out a q' new out' h =
-        ((h.0.0, any_pops q.queue old h.0.0 h.0.1, h.0.2), ap seen h.1, h.2)
+        ((h.0.0, step_seen (pops q.queue) old h.0.0 new h.0.1, h.0.2), h.1)
     work_seen kind.ReadChain call input q old out a q' new out' h = (h.0, h.1, ap seen h.2)
     work_seen kind.WriteChain call input q old out a q' new out' h =
         (chain_seen q call.third call.address input old a new h.0, h.1, h.2)
@@ -367,12 +397,12 @@ module _ {B : Type 0} (marks : B → ℕ → ℕ → B → Type 0) (pages : B �
     work_seen kind.CompleteChain call input q old out a q' new out' h =
         (completes_if call input q old a q' new h.0, h.1)
     work_seen kind.NeedsNotification call input q old out a q' new out' h =
-        ((h.0.0, any_needs q.queue old h.0.0 h.0.1, h.0.2, h.0.3), ap seen h.1, h.2)
+        ((h.0.0, step_seen (needs q.queue) old h.0.0 new h.0.1, h.0.2, h.0.3), h.1)
     work_seen kind.EnableNotification call input q old out a q' new out' h =
-        ((h.0.0, any_enables q.queue old h.0.0 new h.0.1, h.0.2), h.1, h.2)
+        ((h.0.0, step_seen (enables q.queue) old h.0.0 new h.0.1, h.0.2), h.1, h.2)
     work_seen kind.DisableNotification call input q old out a q' new out' h =
-        ((h.0.0, any_disables q.queue old h.0.0 new h.0.1, h.0.2), h.1, h.2)
+        ((h.0.0, step_seen (disables q.queue) old h.0.0 new h.0.1, h.0.2), h.1, h.2)
     work_seen kind.BeginRequest call input q old out a q' new out' h =
-        (begins_seen q call.third (terms_of call) old a h.0, h.1, ap seen h.2, h.3)
+        (begins_seen q call.third (terms_of call) old a new h.0, h.1, h.2)
     work_seen kind.FinishRequest call input q old out a q' new out' h = (finish_if call q old a new h.0, h.1, h.2)
     work_seen k call input q old out a q' new out' h = absurd h

@@ -2,14 +2,13 @@
 use Rattle.std.proofs.Common.{◌≡◌, ◌∙◌, ◌<◌, ◌+◌, ℕ, zero, suc, true, is_some, List, ◌∷◌, [], ◌++◌, length, drop, min, replicate, slice_set, Option, Some, None, MatchOption, Result, Err, refl, ap, arith, add-one}
 use Rattle.std.proofs.lemmas.Bool.{false≢true}
 use Rattle.std.proofs.lemmas.List.{drop_min}
-use Rattle.vm_memory_guest.specs.Host.{Host}
-use Rattle.vm_memory_guest.specs.Memory.{Memory}
 use Rattle.vm_memory_device.specs.declared.chain.Segment.{Segment}
-use Rattle.virtio_queue.specs.Any.{AddsUsed, after_used}
+use Rattle.virtio_queue.specs.Any.{after_used}
 use Rattle.virtio_queue.specs.declared.any.AnyQueue.{AnyQueue}
 use Rattle.virtio_queue.specs.declared.any.AnyQueue.TheVariants.{Split, Packed}
 use Rattle.virtio_queue.specs.declared.error.QueueError.{QueueError}
 use Rattle.virtio_queue.specs.declared.packed.state.PackedBuffer.{PackedBuffer}
+use Rattle.vm_session.specs.DeviceSteps.{DeviceStep, Returned, adds_used}
 use Rattle.vm_session.specs.QueueCodes.{answer_of_done, not_in_flight}
 use Rattle.vm_session.specs.Queues.{Returns, after_returned}
 use Rattle.vm_session.specs.SessionState.{DeviceQueue, buffer_of, chain_of}
@@ -39,15 +38,15 @@ not_used (Split q) buffer e = refl
 not_used (Packed q) buffer e = refl
 
 -- a chain that is in flight was returned, or that was refused
-pub returned : {B : Type 0} (marks : B → ℕ → ℕ → B → Type 0) (m : Memory) (q : DeviceQueue) (head len : ℕ)
-    (old : Host B) (a : Answer) (q' : DeviceQueue) (new : Host B) (r : Result (Unit {0}) QueueError)
-    → is_some (chain_of q head) ≡ true → AddsUsed marks m q.queue (buffer_of q head) len old r new → a ≡ answer_of_done r
-    → q' ≡ after_returned q head r → Returns marks m q head len old a q' new
-returned marks m q head len old a q' new r there adds told is = at (chain_of q head) there
+pub returned : {H : Type 0} (step : H → (s : DeviceStep) → Returned s → H → Type 0) (q : DeviceQueue) (head len : ℕ)
+    (old : H) (a : Answer) (q' : DeviceQueue) (new : H) (r : Result (Unit {0}) QueueError)
+    → is_some (chain_of q head) ≡ true → step old (adds_used q.queue (buffer_of q head) len) r new → a ≡ answer_of_done r
+    → q' ≡ after_returned q head r → Returns step q head len old a q' new
+returned step q head len old a q' new r there adds told is = at (chain_of q head) there
   where
     at : (o : Option (List Segment)) → is_some o ≡ true
         → MatchOption o ((a ≡ not_in_flight) × (q' ≡ q) × (new ≡ old)) (λ chain.
-        (r : Result (Unit {0}) QueueError) × AddsUsed marks m q.queue (buffer_of q head) len old r new
+        (r : Result (Unit {0}) QueueError) × step old (adds_used q.queue (buffer_of q head) len) r new
         × (a ≡ answer_of_done r) × (q' ≡ after_returned q head r))
     at None h = absurd (false≢true h)
     at (Some chain) h = (r, adds, told, is)

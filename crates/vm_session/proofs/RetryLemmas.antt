@@ -8,6 +8,7 @@ use Rattle.vm_memory.specs.declared.machine.setup.Setup as setups
 use Rattle.vm_memory.specs.declared.machine.setup.Setup.TheVariants as setup
 use Rattle.vhost_message.specs.declared.iotlb.IotlbMessage.{IotlbMessage}
 use Rattle.vhost_message.specs.declared.regions.MemoryRegion.{MemoryRegion}
+use Rattle.vm_session.specs.DeviceSteps.{Still, marks_pages}
 use Rattle.vm_session.specs.Kinds.{is_access, is_message, is_table, is_work, kinds}
 use Rattle.vm_session.specs.Messages.{is_announced, regions_in}
 use Rattle.vm_session.specs.Retries.{Clears, IsServed, Readies, WholeSession, bound_of, forgotten, heard, is_due, is_sent, limit_made, limits_after, message_at, missed, noted, noted_miss}
@@ -169,9 +170,9 @@ pub table_answers : (old new : SessionState) (call : Call) (input out : List ℕ
     → slice_get kinds call.kind ≡ Some k → IsTrue (is_table k) → IsSetUp old.machine k call a new.machine
     → new.queues ≡ old.queues → Answers old call input out a out new
 table_answers old new call input out a kind.Table is t h same =
-    subst (λ (o : Option Kind). AnswersIf o old call input out a out new) (sym is) ((h, refl), same)
+    subst (λ (o : Option Kind). AnswersIf (Still marks_pages) o old call input out a out new) (sym is) ((h, refl), same)
 table_answers old new call input out a kind.LimitedTable is t h same =
-    subst (λ (o : Option Kind). AnswersIf o old call input out a out new) (sym is) ((h, refl), same)
+    subst (λ (o : Option Kind). AnswersIf (Still marks_pages) o old call input out a out new) (sym is) ((h, refl), same)
 table_answers old new call input out a k is t h same = absurd (false≢true t)
 
 -- such a call makes something, so that memory may be wanting

@@ -13,7 +13,8 @@ use Rattle.vm_memory.specs.Parts.{Parts, state_of}
 use Rattle.vm_memory.specs.declared.machine.refusal.Refusal.{Refusal}
 use Rattle.vm_session.proofs.PageLemmas.{work_seen}
 use Rattle.vm_session.specs.QueueCodes.{no_such}
-use Rattle.vm_session.specs.Queues.{CompletesIf, NeedsNotification, Pops, ReadsInto, ReturnsIf, Works, WorksOn, WritesChain, marks_pages}
+use Rattle.vm_session.specs.DeviceSteps.{Still, marks_pages}
+use Rattle.vm_session.specs.Queues.{CompletesIf, NeedsNotification, Pops, ReadsInto, ReturnsIf, Works, WorksOn, WritesChain}
 use Rattle.vm_session.specs.SessionState.{DeviceQueue}
 use Rattle.vm_session.specs.declared.call.Answer.{Answer}
 use Rattle.vm_session.specs.declared.call.Call.{Call}
@@ -36,11 +37,13 @@ module _ {R I B W : Type 0} (region : R → Region) (number : I → ℕ) (marks 
     abbrev Done : Option Memory → Type 0
     Done o = MatchOption o ((a ≡ no_such) × (state_of region number pages new ≡ state_of region number pages old)
         × (q' ≡ q) × (out' ≡ out))
-        (λ m. (host : Host PageSet) × Works marks_pages m k call input q (with_pages pages old.host) out a q' host out'
+        (λ m. (host : Host PageSet)
+        × Works marks_pages m (Still marks_pages m) k call input q (with_pages pages old.host) out a q' host out'
         × (state_of region number pages new ≡ record (state_of region number pages old) { host = host }))
 
     -- the work of a call was done
-    done : ((m : Memory) → does w m old.host w' new.host → Works marks m k call input q old.host out a q' new.host out')
+    done : ((m : Memory) → does w m old.host w' new.host
+        → Works marks m (Still marks m) k call input q old.host out a q' new.host out')
         → (o : Option (MachineMemory R I)) (u : Unit {0}) → LendsIf region number does o old w (Ok u) w' new
         → Done (option_map (memory_meant region number) o)
     done works None u h = absurd (cc)
@@ -58,7 +61,8 @@ module _ {R I B W : Type 0} (region : R → Region) (number : I → ℕ) (marks 
     refused told None e h = (told.0, ap (state_of region number pages) h.2, told.1, told.2)
 
     pub work_done : (u : Unit {0}) → Lends region number does old call.second w (Ok u) w' new
-        → ((m : Memory) → does w m old.host w' new.host → Works marks m k call input q old.host out a q' new.host out')
+        → ((m : Memory) → does w m old.host w' new.host
+        → Works marks m (Still marks m) k call input q old.host out a q' new.host out')
         → WorksOn k call input (state_of region number pages old) q out a (state_of region number pages new) q' out'
     work_done u h works =
         subst Done (sym (slice_get-map (memory_meant region number) old.memories call.second))
@@ -86,7 +90,7 @@ module _ {B : Type 0} (marks : B → ℕ → ℕ → B → Type 0) where
   abbrev pub PopDoes : PopWork → Memory → Host B → PopWork → Host B → Type 0
   PopDoes w m host after host' = (after.queue.ghost_name ≡ w.queue.ghost_name)
       × (after.answer.ghost_name ≡ w.answer.ghost_name)
-      × Pops m host w.queue.now after.answer.now after.queue.now × (host' ≡ host)
+      × Pops (Still marks m) w.queue.now host after.answer.now after.queue.now host'
 
   abbrev pub ReadDoes : ReadWork → Memory → Host B → ReadWork → Host B → Type 0
   ReadDoes w m host after host' = (after.output.ghost_name ≡ w.output.ghost_name)
@@ -101,19 +105,19 @@ module _ {B : Type 0} (marks : B → ℕ → ℕ → B → Type 0) where
   abbrev pub UsedDoes : UsedWork → Memory → Host B → UsedWork → Host B → Type 0
   UsedDoes w m host after host' = (after.queue.ghost_name ≡ w.queue.ghost_name)
       × (after.answer.ghost_name ≡ w.answer.ghost_name)
-      × ReturnsIf marks m w.call.now w.queue.now host after.answer.now after.queue.now host'
+      × ReturnsIf (Still marks m) w.call.now w.queue.now host after.answer.now after.queue.now host'
 
   abbrev pub CompleteDoes : CompleteWork → Memory → Host B → CompleteWork → Host B → Type 0
   CompleteDoes w m host after host' = (after.queue.ghost_name ≡ w.queue.ghost_name)
       × (after.answer.ghost_name ≡ w.answer.ghost_name)
-      × CompletesIf marks m w.call.now w.input.now w.queue.now host after.answer.now after.queue.now host'
+      × CompletesIf marks m (Still marks m) w.call.now w.input.now w.queue.now host after.answer.now after.queue.now host'
 
   abbrev pub NotifyDoes : NotifyWork → Memory → Host B → NotifyWork → Host B → Type 0
   NotifyDoes w m host after host' = (after.queue.ghost_name ≡ w.queue.ghost_name)
       × (after.answer.ghost_name ≡ w.answer.ghost_name)
-      × NeedsNotification m host w.queue.now after.answer.now after.queue.now × (host' ≡ host)
+      × NeedsNotification (Still marks m) w.queue.now host after.answer.now after.queue.now host'
 
   abbrev pub QueueDoes : QueueWork → Memory → Host B → QueueWork → Host B → Type 0
   QueueDoes w m host after host' = (after.answer.ghost_name ≡ w.answer.ghost_name)
-      × ((input out : List ℕ) → Works marks m w.kind w.call.now input w.queue.now host out
+      × ((input out : List ℕ) → Works marks m (Still marks m) w.kind w.call.now input w.queue.now host out
       after.answer.now w.queue.now host' out)

@@ -1,19 +1,17 @@
 -- What calls on queues are answered, and what they leave.
 use Rattle.std.specs.Prelude.{◌≡◌, ◌⊎◌, ◌<◌, ◌+◌, ◌*◌, ◌%◌, ◌^◌, ◌==◌, ◌&&◌, nat_lt, nat_le, if◌then◌else◌, ℕ, Bool, List, [], ◌∷◌, ◌++◌, length, take, drop, flat_map, replicate, slice_get, slice_set, Option, Some, None, option_map, is_some, MatchBool, MatchOption, true, false, Result, Ok, Err, ◌≤◌}
 use Rattle.std.specs.Int.{w64, to_le_bytes}
-use Rattle.vm_memory_base.specs.Pages.{PageSet, marked}
+use Rattle.vm_memory_base.specs.Pages.{PageSet}
 use Rattle.vm_memory_guest.specs.Host.{Host}
 use Rattle.vm_memory_guest.specs.Memory.{Memory}
 use Rattle.vm_memory_guest.specs.declared.region.error.GuestMemoryError.{GuestMemoryError}
 use Rattle.vm_memory_device.specs.Chain.{Entry, ReadsText, WritesText, readable, text, writable}
 use Rattle.vm_memory_device.specs.declared.chain.Segment.{Segment}
-use Rattle.virtio_queue.specs.Any.{AddsUsed, Disables, Enables, MayWantChain, MayWantNeeds, MayWantValid, after_asked, after_used, max_size_of, needs_notification, past, popped, unset, valid}
-use Rattle.virtio_queue.specs.Available.{MayWantIdx, avail_idx}
+use Rattle.virtio_queue.specs.Any.{MayWantValid, after_asked, after_used, max_size_of, past, unset, valid}
 use Rattle.virtio_queue.specs.Fields.{Answers as AnswersAs}
 use Rattle.virtio_queue.specs.Packed as packed
 use Rattle.virtio_queue.specs.Packed.{PackedVirtqueue}
 use Rattle.virtio_queue.specs.State.{Virtqueue, is_size, new_queue, set_if, with_state}
-use Rattle.virtio_queue.specs.Used.{MayWantUsedIdx, used_idx}
 use Rattle.virtio_queue.specs.declared.any.AnyQueue.{AnyQueue}
 use Rattle.virtio_queue.specs.declared.any.AnyQueue.TheVariants.{Split, Packed}
 use Rattle.virtio_queue.specs.declared.error.QueueError.{QueueError}
@@ -21,13 +19,13 @@ use Rattle.virtio_queue.specs.declared.error.QueueError.TheVariants as errors
 use Rattle.virtio_queue.specs.declared.packed.state.PackedBuffer.{PackedBuffer}
 use Rattle.virtio_queue.specs.declared.packed.state.PackedState.{PackedState}
 use Rattle.virtio_queue.specs.declared.state.QueueState.{QueueState}
-use Rattle.virtio_blk.specs.Steps.{Begins, Finishes, breaks_limits}
 use Rattle.virtio_blk.specs.declared.request.Request.{Request}
 use Rattle.virtio_blk.specs.declared.request.Terms.{Terms}
 use Rattle.vm_memory.specs.State.{State}
 use Rattle.vm_memory.specs.declared.machine.command.Fault.TheVariants as fault
 use Rattle.vm_session.specs.Answers.{answer_of_fault, number_of_truth, valued}
 use Rattle.vm_session.specs.Codes.{bad_call, coded, no_memory, short_of}
+use Rattle.vm_session.specs.DeviceSteps.{DeviceStep, Returned, Steps, Still, adds_used, begins, disables, enables, finishes, marks_pages, needs, pops, reads_avail, reads_used}
 use Rattle.vm_session.specs.Kinds.{limit_at, part_at, read_only_at, switch_at}
 use Rattle.vm_session.specs.QueueCodes.{answer_of_begun, answer_of_bytes, answer_of_done, answer_of_length, answer_of_number, answer_of_queue, answer_of_truth, in_flight, no_chain, no_such, not_in_flight, popped_as, too_many}
 use Rattle.vm_session.specs.SessionState.{DeviceQueue, SessionState, buffer_of, chain_of, descriptors_in}
@@ -229,36 +227,76 @@ after_returned q head (Ok u) = record q {
 }
 after_returned q head (Err e) = q
 
-module _ {B : Type 0} (m : Memory) (host : Host B) where
-  abbrev pub Pops : DeviceQueue → Answer → DeviceQueue → Type 0
-  Pops old a new = (r : Result (Option (PackedBuffer × List Segment)) QueueError)
-      × AnswersAs (MayWantChain m host old.queue) (popped m host old.queue) r × ((a, new) ≡ after_popped old r)
+-- a call on a queue takes one step on guest memory, of which this is known, and what it answers and leaves is made of what
+-- that returned
+module _ {H : Type 0} (step : H → (s : DeviceStep) → Returned s → H → Type 0) where
+  abbrev pub Pops : DeviceQueue → H → Answer → DeviceQueue → H → Type 0
+  Pops old host a new host' = (r : Result (Option (PackedBuffer × List Segment)) QueueError)
+      × step host (pops old.queue) r host' × ((a, new) ≡ after_popped old r)
 
+  abbrev pub NeedsNotification : DeviceQueue → H → Answer → DeviceQueue → H → Type 0
+  NeedsNotification old host a new host' = (r : Result Bool QueueError) × step host (needs old.queue) r host'
+      × (a ≡ answer_of_truth r) × (new ≡ record old { queue = after_asked old.queue r })
+
+  -- a packed queue has no such indices
+  abbrev pub TellsAvail : AnyQueue → H → Answer → H → Type 0
+  TellsAvail (Split q) host a host' =
+      (r : Result ℕ QueueError) × step host (reads_avail q) r host' × (a ≡ answer_of_number r)
+  TellsAvail (Packed q) host a host' = (a ≡ bad_call) × (host' ≡ host)
+
+  abbrev pub TellsUsed : AnyQueue → H → Answer → H → Type 0
+  TellsUsed (Split q) host a host' =
+      (r : Result ℕ QueueError) × step host (reads_used q) r host' × (a ≡ answer_of_number r)
+  TellsUsed (Packed q) host a host' = (a ≡ bad_call) × (host' ≡ host)
+
+  -- what a chain in flight asks a block device for
+  abbrev pub BeginsRequest : DeviceQueue → ℕ → Option Terms → H → Answer → H → Type 0
+  BeginsRequest q head None host a host' = (a ≡ bad_call) × (host' ≡ host)
+  BeginsRequest q head (Some terms) host a host' =
+      MatchOption (chain_of q head) ((a ≡ not_in_flight) × (host' ≡ host)) (λ chain.
+      (r : Result Request GuestMemoryError) × step host (begins terms chain) r host' × (a ≡ answer_of_begun r))
+
+  -- the request of a chain in flight is finished, with a status, if N bytes were written before
+  abbrev pub FinishesRequest : DeviceQueue → ℕ → ℕ → ℕ → H → Answer → H → Type 0
+  FinishesRequest q head status moved old a new =
+      MatchOption (chain_of q head) ((a ≡ not_in_flight) × (new ≡ old)) (λ chain.
+      (r : Result ℕ GuestMemoryError) × step old (finishes chain status moved) r new × (a ≡ answer_of_length r))
+
+  -- a chain in flight is returned, with how many bytes were written to it
+  abbrev pub Returns : DeviceQueue → ℕ → ℕ → H → Answer → DeviceQueue → H → Type 0
+  Returns q head len old a q' new = MatchOption (chain_of q head) ((a ≡ not_in_flight) × (q' ≡ q) × (new ≡ old))
+      (λ chain. (r : Result (Unit {0}) QueueError) × step old (adds_used q.queue (buffer_of q head) len) r new
+      × (a ≡ answer_of_done r) × (q' ≡ after_returned q head r))
+
+  abbrev pub AsksToNotify : DeviceQueue → H → Answer → H → Type 0
+  AsksToNotify q old a new = (r : Result Bool QueueError) × step old (enables q.queue) r new × (a ≡ answer_of_truth r)
+
+  abbrev pub AsksNotToNotify : DeviceQueue → H → Answer → H → Type 0
+  AsksNotToNotify q old a new =
+      (r : Result (Unit {0}) QueueError) × step old (disables q.queue) r new × (a ≡ answer_of_done r)
+
+  -- how many bytes were written to a chain that is returned is a number of 32 bits
+  abbrev pub ReturnsIf : Call → DeviceQueue → H → Answer → DeviceQueue → H → Type 0
+  ReturnsIf call q old a q' new = MatchBool (nat_lt call.value (2 ^ 32))
+      (Returns q call.third call.value old a q' new) ((a ≡ bad_call) × (q' ≡ q) × (new ≡ old))
+
+  -- a status is a number of 8 bits
+  abbrev pub FinishesIf : Call → DeviceQueue → H → Answer → H → Type 0
+  FinishesIf call q old a new = MatchBool (nat_lt call.value (2 ^ 8))
+      (FinishesRequest q call.third call.value call.length old a new) ((a ≡ bad_call) × (new ≡ old))
+
+-- ---- chains in flight, and queues as they lie in memory: on memory that stands still
+
+module _ {B : Type 0} (m : Memory) (host : Host B) where
   -- the readable bytes of a chain in flight, from an offset on, come to a buffer
   abbrev pub ReadsChain : DeviceQueue → ℕ → ℕ → List ℕ → Answer → List ℕ → Type 0
   ReadsChain q head offset buf a buf' = MatchOption (chain_of q head) ((a ≡ not_in_flight) × (buf' ≡ buf))
       (λ chain. (r : Result ℕ GuestMemoryError) × (left : List Entry)
       × ReadsText m host (drop offset (text (readable chain))) buf r left buf' × (a ≡ answer_of_bytes r))
 
-  abbrev pub NeedsNotification : DeviceQueue → Answer → DeviceQueue → Type 0
-  NeedsNotification old a new = (r : Result Bool QueueError)
-      × AnswersAs (MayWantNeeds m host old.queue) (needs_notification m host old.queue) r
-      × (a ≡ answer_of_truth r) × (new ≡ record old { queue = after_asked old.queue r })
-
   abbrev pub TellsValid : DeviceQueue → Answer → Type 0
   TellsValid q a = (r : Result Bool QueueError)
       × AnswersAs (MayWantValid m host q.queue) (valid m host q.queue) r × (a ≡ answer_of_truth r)
-
-  -- a packed queue has no such indices
-  abbrev pub TellsAvail : AnyQueue → Answer → Type 0
-  TellsAvail (Split q) a = (r : Result ℕ QueueError)
-      × AnswersAs (MayWantIdx m host q.state) (avail_idx m host q.state) r × (a ≡ answer_of_number r)
-  TellsAvail (Packed q) a = a ≡ bad_call
-
-  abbrev pub TellsUsed : AnyQueue → Answer → Type 0
-  TellsUsed (Split q) a = (r : Result ℕ QueueError)
-      × AnswersAs (MayWantUsedIdx m host q.state) (used_idx m host q.state) r × (a ≡ answer_of_number r)
-  TellsUsed (Packed q) a = a ≡ bad_call
 
 -- what a request is held against
 abbrev pub terms_of : Call → Option Terms
@@ -270,41 +308,13 @@ terms_of call = option_map (λ read_only. record {
   size_max = limit_at call.other_length;
 }) (read_only_at call.access)
 
--- what a chain in flight asks a block device for
-abbrev pub BeginsRequest : {B : Type 0} → Memory → Host B → DeviceQueue → ℕ → Option Terms → Answer → Type 0
-BeginsRequest m host q head None a = a ≡ bad_call
-BeginsRequest m host q head (Some terms) a = MatchOption (chain_of q head) (a ≡ not_in_flight)
-    (λ chain. (r : Result Request GuestMemoryError)
-    × Begins m host terms (breaks_limits terms chain) (text (readable chain)) (text (writable chain)) r
-    × (a ≡ answer_of_begun r))
-
-module _ {B : Type 0} (marks : B → ℕ → ℕ → B → Type 0) (m : Memory) where
-  -- the request of a chain in flight is finished, with a status, if N bytes were written before
-  abbrev pub FinishesRequest : DeviceQueue → ℕ → ℕ → ℕ → Host B → Answer → Host B → Type 0
-  FinishesRequest q head status moved old a new = MatchOption (chain_of q head)
-      ((a ≡ not_in_flight) × (new ≡ old))
-      (λ chain. (r : Result ℕ GuestMemoryError) × Finishes marks m (text (writable chain)) status moved old r new
-      × (a ≡ answer_of_length r))
-
-  -- bytes go to the writable ones of a chain in flight, from an offset on
-  abbrev pub WritesChain : DeviceQueue → ℕ → ℕ → List ℕ → Host B → Answer → Host B → Type 0
-  WritesChain q head offset bytes old a new = MatchOption (chain_of q head) ((a ≡ not_in_flight) × (new ≡ old))
-      (λ chain. (r : Result ℕ GuestMemoryError) × (left : List Entry)
-      × WritesText marks m (drop offset (text (writable chain))) bytes old r left new × (a ≡ answer_of_bytes r))
-
-  -- a chain in flight is returned, with how many bytes were written to it
-  abbrev pub Returns : DeviceQueue → ℕ → ℕ → Host B → Answer → DeviceQueue → Host B → Type 0
-  Returns q head len old a q' new = MatchOption (chain_of q head) ((a ≡ not_in_flight) × (q' ≡ q) × (new ≡ old))
-      (λ chain. (r : Result (Unit {0}) QueueError) × AddsUsed marks m q.queue (buffer_of q head) len old r new
-      × (a ≡ answer_of_done r) × (q' ≡ after_returned q head r))
-
-  abbrev pub AsksToNotify : DeviceQueue → Host B → Answer → Host B → Type 0
-  AsksToNotify q old a new = (r : Result Bool QueueError) × Enables marks m q.queue old r new
-      × (a ≡ answer_of_truth r)
-
-  abbrev pub AsksNotToNotify : DeviceQueue → Host B → Answer → Host B → Type 0
-  AsksNotToNotify q old a new = (r : Result (Unit {0}) QueueError) × Disables marks m q.queue old r new
-      × (a ≡ answer_of_done r)
+-- bytes go to the writable ones of a chain in flight, from an offset on
+abbrev pub WritesChain : {B : Type 0} → (B → ℕ → ℕ → B → Type 0) → Memory → DeviceQueue → ℕ → ℕ → List ℕ → Host B
+    → Answer → Host B → Type 0
+WritesChain marks m q head offset bytes old a new =
+    MatchOption (chain_of q head) ((a ≡ not_in_flight) × (new ≡ old))
+    (λ chain. (r : Result ℕ GuestMemoryError) × (left : List Entry)
+    × WritesText marks m (drop offset (text (writable chain))) bytes old r left new × (a ≡ answer_of_bytes r))
 
 -- ---- calls on a queue and a memory
 
@@ -318,13 +328,14 @@ ReadsInto m call q host out a out' = ((length out < call.length) × (a ≡ short
 abbrev pub unfinished : ℕ → Answer → Answer
 unfinished n a = if a.code == 0 then answer_of_fault (fault.PartialBuffer n a.count) else a
 
-module _ {B : Type 0} (marks : B → ℕ → ℕ → B → Type 0) (m : Memory) where
+module _ {B : Type 0} (marks : B → ℕ → ℕ → B → Type 0) (m : Memory)
+    (step : Host B → (s : DeviceStep) → Returned s → Host B → Type 0) where
   -- bytes go to a chain in flight, which is returned if it took them all
   abbrev pub Completes : Call → List ℕ → DeviceQueue → Host B → Answer → DeviceQueue → Host B → Type 0
   Completes call bytes q old a q' new = (told : Answer) × (mid : Host B)
       × WritesChain marks m q call.third call.address bytes old told mid
       × MatchBool (told.code == 0 && told.count == length bytes)
-      (Returns marks m q call.third call.value mid a q' new)
+      (Returns step q call.third call.value mid a q' new)
       ((a ≡ unfinished (length bytes) told) × (q' ≡ q) × (new ≡ mid))
 
   -- how many bytes were written is a number of 32 bits
@@ -332,56 +343,48 @@ module _ {B : Type 0} (marks : B → ℕ → ℕ → B → Type 0) (m : Memory) 
   CompletesIf call bytes q old a q' new = MatchBool (nat_lt call.value (2 ^ 32))
       (Completes call bytes q old a q' new) ((a ≡ bad_call) × (q' ≡ q) × (new ≡ old))
 
-  -- so it is of a chain that is returned
-  abbrev pub ReturnsIf : Call → DeviceQueue → Host B → Answer → DeviceQueue → Host B → Type 0
-  ReturnsIf call q old a q' new = MatchBool (nat_lt call.value (2 ^ 32))
-      (Returns marks m q call.third call.value old a q' new) ((a ≡ bad_call) × (q' ≡ q) × (new ≡ old))
-
-  -- a status is a number of 8 bits
-  abbrev pub FinishesIf : Call → DeviceQueue → Host B → Answer → Host B → Type 0
-  FinishesIf call q old a new = MatchBool (nat_lt call.value (2 ^ 8))
-      (FinishesRequest marks m q call.third call.value call.length old a new) ((a ≡ bad_call) × (new ≡ old))
-
-  -- what a call of a kind does with a queue, a host and an output
+  -- what a call of a kind does with a queue, a host and an output. Bytes of a chain are moved in memory that stands still
   abbrev pub Works : Kind → Call → List ℕ → DeviceQueue → Host B → List ℕ → Answer → DeviceQueue → Host B → List ℕ
       → Type 0
   Works kind.QueueIsValid call input q host out a q' host' out' =
       TellsValid m host q a × (q' ≡ q) × (host' ≡ host) × (out' ≡ out)
   Works kind.AvailIdx call input q host out a q' host' out' =
-      TellsAvail m host q.queue a × (q' ≡ q) × (host' ≡ host) × (out' ≡ out)
+      TellsAvail step q.queue host a host' × (q' ≡ q) × (out' ≡ out)
   Works kind.UsedIdx call input q host out a q' host' out' =
-      TellsUsed m host q.queue a × (q' ≡ q) × (host' ≡ host) × (out' ≡ out)
-  Works kind.Pop call input q host out a q' host' out' = Pops m host q a q' × (host' ≡ host) × (out' ≡ out)
+      TellsUsed step q.queue host a host' × (q' ≡ q) × (out' ≡ out)
+  Works kind.Pop call input q host out a q' host' out' = Pops step q host a q' host' × (out' ≡ out)
   Works kind.ReadChain call input q host out a q' host' out' =
       ReadsInto m call q host out a out' × (q' ≡ q) × (host' ≡ host)
   Works kind.WriteChain call input q host out a q' host' out' =
       WritesChain marks m q call.third call.address input host a host' × (q' ≡ q) × (out' ≡ out)
-  Works kind.AddUsed call input q host out a q' host' out' = ReturnsIf call q host a q' host' × (out' ≡ out)
+  Works kind.AddUsed call input q host out a q' host' out' = ReturnsIf step call q host a q' host' × (out' ≡ out)
   Works kind.NeedsNotification call input q host out a q' host' out' =
-      NeedsNotification m host q a q' × (host' ≡ host) × (out' ≡ out)
+      NeedsNotification step q host a q' host' × (out' ≡ out)
   Works kind.EnableNotification call input q host out a q' host' out' =
-      AsksToNotify marks m q host a host' × (q' ≡ q) × (out' ≡ out)
+      AsksToNotify step q host a host' × (q' ≡ q) × (out' ≡ out)
   Works kind.DisableNotification call input q host out a q' host' out' =
-      AsksNotToNotify marks m q host a host' × (q' ≡ q) × (out' ≡ out)
+      AsksNotToNotify step q host a host' × (q' ≡ q) × (out' ≡ out)
   Works kind.BeginRequest call input q host out a q' host' out' =
-      BeginsRequest m host q call.third (terms_of call) a × (q' ≡ q) × (host' ≡ host) × (out' ≡ out)
+      BeginsRequest step q call.third (terms_of call) host a host' × (q' ≡ q) × (out' ≡ out)
   Works kind.FinishRequest call input q host out a q' host' out' =
-      FinishesIf call q host a host' × (q' ≡ q) × (out' ≡ out)
+      FinishesIf step call q host a host' × (q' ≡ q) × (out' ≡ out)
   Works kind.CompleteChain call input q host out a q' host' out' =
       CompletesIf call input q host a q' host' × (out' ≡ out)
   Works k call input q host out a q' host' out' = ⊥
 
--- marks of a bitmap whose pages are all that is known of it
-abbrev pub marks_pages : PageSet → ℕ → ℕ → PageSet → Type 0
-marks_pages old offset len new = new ≡ marked offset len old
+module _ (steps : Steps) where
+  -- a call on a queue and the memory that it names, if the machine has that
+  abbrev pub WorksOnBy : Kind → Call → List ℕ → State → DeviceQueue → List ℕ → Answer → State → DeviceQueue → List ℕ
+      → Type 0
+  WorksOnBy k call input old q out a new q' out' = MatchOption (slice_get old.memories call.second)
+      ((a ≡ no_such) × (new ≡ old) × (q' ≡ q) × (out' ≡ out))
+      (λ m. (host : Host PageSet) × Works marks_pages m (steps m) k call input q old.host out a q' host out'
+      × (new ≡ record old { host = host }))
 
--- a call on a queue and the memory that it names, if the machine has that
+-- the same, if nobody else writes memory meanwhile
 abbrev pub WorksOn : Kind → Call → List ℕ → State → DeviceQueue → List ℕ → Answer → State → DeviceQueue → List ℕ
     → Type 0
-WorksOn k call input old q out a new q' out' = MatchOption (slice_get old.memories call.second)
-    ((a ≡ no_such) × (new ≡ old) × (q' ≡ q) × (out' ≡ out))
-    (λ m. (host : Host PageSet) × Works marks_pages m k call input q old.host out a q' host out'
-    × (new ≡ record old { host = host }))
+WorksOn = WorksOnBy (Still marks_pages)
 
 -- ---- calls of a session
 
@@ -406,11 +409,14 @@ OnQueue k old call out a new out' = MatchOption (slice_get old.queues call.first
     × (new ≡ record { machine = old.machine; queues = slice_set old.queues call.first q' }))
 
 -- a call on a queue and a memory, if there are both
-abbrev pub OnBoth : Kind → SessionState → Call → List ℕ → List ℕ → Answer → SessionState → List ℕ → Type 0
-OnBoth k old call input out a new out' = MatchOption (slice_get old.queues call.first)
+abbrev pub OnBothBy : Steps → Kind → SessionState → Call → List ℕ → List ℕ → Answer → SessionState → List ℕ → Type 0
+OnBothBy steps k old call input out a new out' = MatchOption (slice_get old.queues call.first)
     (Refuses no_such old out a new out')
-    (λ q. (q' : DeviceQueue) × WorksOn k call input old.machine q out a new.machine q' out'
+    (λ q. (q' : DeviceQueue) × WorksOnBy steps k call input old.machine q out a new.machine q' out'
     × (new.queues ≡ slice_set old.queues call.first q'))
+
+abbrev pub OnBoth : Kind → SessionState → Call → List ℕ → List ℕ → Answer → SessionState → List ℕ → Type 0
+OnBoth = OnBothBy (Still marks_pages)
 
 -- what is answered to a call on queues alone
 abbrev pub AnswersQueue : Kind → SessionState → Call → List ℕ → List ℕ → Answer → SessionState → List ℕ → Type 0

@@ -12,10 +12,11 @@ use Rattle.vm_memory.specs.declared.machine.command.Reply.{Reply}
 use Rattle.vhost_message.specs.declared.iotlb.IotlbMessage.{IotlbMessage}
 use Rattle.vhost_message.specs.declared.iotlb.IotlbMessage.TheVariants as message
 use Rattle.vhost_message.specs.declared.regions.MemoryRegion.{MemoryRegion}
+use Rattle.vm_session.specs.DeviceSteps.{Still, Steps, marks_pages}
 use Rattle.vm_session.specs.Kinds.{is_message, is_table, kinds}
 use Rattle.vm_session.specs.Messages.{is_announced, message_of, regions_in}
 use Rattle.vm_session.specs.Misses.{memory_of}
-use Rattle.vm_session.specs.Session.{Answers, IsGivenBack, IsLent}
+use Rattle.vm_session.specs.Session.{AnswersBy, IsGivenBack, IsLent}
 use Rattle.vm_session.specs.SessionState.{SessionState, no_session, with_machine}
 use Rattle.vm_session.specs.declared.call.Answer.{Answer}
 use Rattle.vm_session.specs.declared.call.Call.{Call}
@@ -184,19 +185,27 @@ heard retry (Some p) a = heard_by retry p.0 p.1 a
 
 -- ---- calls
 
--- the parts of a session answer a call
-abbrev pub IsServed : WholeSession → Call → List ℕ → List ℕ → Answer → List ℕ → WholeSession → Type 0
-IsServed old call input out a out' new = (ready : SessionState)
-    × Readies old.retry (regions_in (drop 32 input)) (message_at old.parts.machine call input) old.parts ready
-    × Answers ready call input out a out' new.parts
-    × (new.limits ≡ limits_after (slice_get kinds call.kind) call a old.limits)
-    × (new.retry ≡ heard old.retry (message_at old.parts.machine call input) a)
+module _ (steps : Steps) where
+  -- the parts of a session answer a call
+  abbrev pub IsServedBy : WholeSession → Call → List ℕ → List ℕ → Answer → List ℕ → WholeSession → Type 0
+  IsServedBy old call input out a out' new = (ready : SessionState)
+      × Readies old.retry (regions_in (drop 32 input)) (message_at old.parts.machine call input) old.parts ready
+      × AnswersBy steps ready call input out a out' new.parts
+      × (new.limits ≡ limits_after (slice_get kinds call.kind) call a old.limits)
+      × (new.retry ≡ heard old.retry (message_at old.parts.machine call input) a)
 
--- what a session answers to a call with an input and an output, and leaves of the output
+  -- what a session answers to a call with an input and an output, and leaves of the output
+  abbrev pub AnswersCallBy : WholeSession → Call → List ℕ → List ℕ → Answer → List ℕ → WholeSession → Type 0
+  AnswersCallBy old call input out a out' new = (told : Answer) × (served : WholeSession)
+      × IsServedBy old call input out told out' served
+      × ((a, new.retry) ≡ noted served call (length input) told) × (new ≡ record served { retry = new.retry })
+
+-- the same, if nobody else writes memory meanwhile
+abbrev pub IsServed : WholeSession → Call → List ℕ → List ℕ → Answer → List ℕ → WholeSession → Type 0
+IsServed = IsServedBy (Still marks_pages)
+
 abbrev pub AnswersCall : WholeSession → Call → List ℕ → List ℕ → Answer → List ℕ → WholeSession → Type 0
-AnswersCall old call input out a out' new = (told : Answer) × (served : WholeSession)
-    × IsServed old call input out told out' served
-    × ((a, new.retry) ≡ noted served call (length input) told) × (new ≡ record served { retry = new.retry })
+AnswersCall = AnswersCallBy (Still marks_pages)
 
 -- what a session answers if these bytes are lent as a block, with pages of a size
 abbrev pub AnswersLent : WholeSession → List ℕ → ℕ → Answer → WholeSession → Type 0

@@ -1,5 +1,5 @@
 -- What happens to a session, one after another: calls, and steps of a guest that has blocks in common with it.
-use Rattle.std.specs.Prelude.{◌≡◌, ◌==◌, ◌⊎◌, ◌<◌, ℕ, Bool, true, false, List, [], ◌∷◌, All, Contains, IsTrue, Option, Some, None, Result, drop, length, map, slice_get}
+use Rattle.std.specs.Prelude.{◌≡◌, ◌==◌, ◌⊎◌, ◌<◌, ℕ, Bool, true, false, List, [], ◌∷◌, IsTrue, Option, Some, None, Result, drop, length, slice_get}
 use Rattle.std.specs.Option.{option_and_then}
 use Rattle.vm_memory.specs.Machine.{Step}
 use Rattle.vm_memory_device.specs.declared.chain.Segment.{Segment}
@@ -12,11 +12,12 @@ use Rattle.vm_memory.specs.declared.machine.setup.Setup as setups
 use Rattle.vm_memory.specs.declared.machine.setup.SetupReply.{SetupReply}
 use Rattle.vm_session.specs.Answers.{answer_of, answer_of_given_back, answer_of_setup}
 use Rattle.vm_session.specs.Codes.{bad_call, no_memory, short_of}
+use Rattle.vm_session.specs.DeviceSteps.{GuestWrites, Races, Still, Steps, marks_pages}
 use Rattle.vm_session.specs.Kinds.{is_command, is_message, is_queue, is_work, kinds, takes_list}
 use Rattle.vm_session.specs.Messages.{AnswersMessage, regions_in}
-use Rattle.vm_session.specs.Queues.{AnswersQueue, OnBoth}
+use Rattle.vm_session.specs.Queues.{AnswersQueue, OnBothBy}
 use Rattle.vm_session.specs.Requests.{IsSetup, command_at, is_without_size}
-use Rattle.vm_session.specs.Retries.{AnswersCall, AnswersGivenBack, AnswersLent, Readies, WholeSession, message_at, without_memories}
+use Rattle.vm_session.specs.Retries.{AnswersCall, AnswersCallBy, AnswersGivenBack, AnswersLent, Readies, WholeSession, message_at, without_memories}
 use Rattle.vm_session.specs.Session.{HasRoom, Marks, output_after, room_for}
 use Rattle.vm_session.specs.SessionState.{SessionState, chain_of, with_machine}
 use Rattle.vm_session.specs.declared.call.Answer.{Answer}
@@ -33,10 +34,12 @@ pub record Exchange : Type 0 where
   pub answer : Answer
   pub after : List ℕ
 
--- a call, or bytes that are lent as a block with pages of a size, or a block that is given back, and the answer; or the
--- regions, layouts and memories are forgotten; or a step of the guest, which leaves the blocks with these bytes
+-- a call during which the guest does not write; one during which it writes before each look and each store of a queue and
+-- of a block request; bytes that are lent as a block with pages of a size, or a block that is given back, and the answer;
+-- or the regions, layouts and memories are forgotten; or a step of the guest, which leaves the blocks with these bytes
 pub data Event : Type 0 where
   calls : Exchange → Event
+  races : Exchange → Event
   lends : List ℕ → ℕ → Answer → Event
   gives_back : ℕ → Answer → Event
   forgets : Event
@@ -46,13 +49,6 @@ pub data Event : Type 0 where
 abbrev pub with_blocks : State → List (List ℕ) → State
 with_blocks s blocks = record s { host = record s.host { blocks = blocks } }
 
--- a guest that has the blocks of these numbers in common with the session changes their bytes as it likes: no length
--- changes, all are bytes, and other blocks stay
-pub record GuestWrites (shared : List ℕ) (old new : List (List ℕ)) : Type 0 where
-  pub lengths : map length new ≡ map length old
-  pub bytes : All (All (λ byte. byte < 256)) new
-  pub others : (block : ℕ) → (Contains shared block → ⊥) → slice_get new block ≡ slice_get old block
-
 -- the guest writes: it changes bytes of shared blocks, and nothing else of a session
 abbrev pub WritesTo : List ℕ → SessionState → List (List ℕ) → SessionState → Type 0
 WritesTo shared old blocks new = GuestWrites shared old.machine.host.blocks blocks
@@ -61,6 +57,7 @@ WritesTo shared old blocks new = GuestWrites shared old.machine.host.blocks bloc
 -- an event leads from a session to a session
 abbrev pub Happens : List ℕ → WholeSession → Event → WholeSession → Type 0
 Happens shared old (calls e) new = AnswersCall old e.call e.input e.before e.answer e.after new
+Happens shared old (races e) new = AnswersCallBy (Races shared) old e.call e.input e.before e.answer e.after new
 Happens shared old (lends bytes page a) new = AnswersLent old bytes page a new
 Happens shared old (gives_back block a) new = AnswersGivenBack old block a new
 Happens shared old forgets new = new ≡ without_memories old
@@ -111,30 +108,30 @@ MayReady old e ready = (retry : Option Retry)
     × Readies retry (regions_in (drop 32 e.input)) (message_at old.machine e.call e.input) old ready
 
 -- a call asks for it, and its answer and its output are those of the reply. A call on a queue does what the queue's own
--- call does
-abbrev pub Does : SessionState → Exchange → Deed → SessionState → Type 0
-Does old e nothing new = IsRefused old e (slice_get kinds e.call.kind) × (e.after ≡ e.before) × (new ≡ old)
-Does old e (made s r) new = (kind : Kind) × (slice_get kinds e.call.kind ≡ Some kind) × IsSetup kind e.call s
+-- call does, if this is known of that
+abbrev pub Does : Steps → SessionState → Exchange → Deed → SessionState → Type 0
+Does steps old e nothing new = IsRefused old e (slice_get kinds e.call.kind) × (e.after ≡ e.before) × (new ≡ old)
+Does steps old e (made s r) new = (kind : Kind) × (slice_get kinds e.call.kind ≡ Some kind) × IsSetup kind e.call s
     × SetsUp old.machine s r new.machine × (new.queues ≡ old.queues) × (e.answer ≡ answer_of_setup r)
     × (e.after ≡ e.before)
-Does old e (lent r) new = ⊥
-Does old e (gave_back r) new = ⊥
-Does old e forgot new = ⊥
-Does old e (ran c r) new = (kind : Kind) × (slice_get kinds e.call.kind ≡ Some kind)
+Does steps old e (lent r) new = ⊥
+Does steps old e (gave_back r) new = ⊥
+Does steps old e forgot new = ⊥
+Does steps old e (ran c r) new = (kind : Kind) × (slice_get kinds e.call.kind ≡ Some kind)
     × (command_at kind e.call e.input ≡ Some c) × Step old.machine c r new.machine × (new.queues ≡ old.queues)
     × (e.answer ≡ answer_of r) × (e.after ≡ output_after old.machine c r e.before) × HasRoom old.machine c r e.before
-Does old e (marked r) new = (kind : Kind) × (slice_get kinds e.call.kind ≡ Some kind)
+Does steps old e (marked r) new = (kind : Kind) × (slice_get kinds e.call.kind ≡ Some kind)
     × Marks kind old.machine e.call r new.machine × (new.queues ≡ old.queues) × (e.answer ≡ answer_of r)
     × (e.after ≡ e.before)
-Does old e messaged new = (kind : Kind) × (slice_get kinds e.call.kind ≡ Some kind) × IsTrue (is_message kind)
+Does steps old e messaged new = (kind : Kind) × (slice_get kinds e.call.kind ≡ Some kind) × IsTrue (is_message kind)
     × ((ready : SessionState) × MayReady old e ready
     × AnswersMessage ready.machine e.call e.input e.answer new.machine) × (new.queues ≡ old.queues)
     × (e.after ≡ e.before)
-Does old e (queued kind) new = (slice_get kinds e.call.kind ≡ Some kind) × IsTrue (is_queue kind)
+Does steps old e (queued kind) new = (slice_get kinds e.call.kind ≡ Some kind) × IsTrue (is_queue kind)
     × AnswersQueue kind old e.call e.input e.before e.answer new e.after
-Does old e (worked kind) new = (slice_get kinds e.call.kind ≡ Some kind) × IsTrue (is_work kind)
-    × OnBoth kind old e.call e.input e.before e.answer new e.after
-Does old e (wrote blocks) new = ⊥
+Does steps old e (worked kind) new = (slice_get kinds e.call.kind ≡ Some kind) × IsTrue (is_work kind)
+    × OnBothBy steps kind old e.call e.input e.before e.answer new e.after
+Does steps old e (wrote blocks) new = ⊥
 
 -- a call is answered so, or instead of a miss that its table is too small
 abbrev pub IsToldAs : Answer → Answer → Type 0
@@ -156,7 +153,9 @@ IsGivenBackAs old block a d new = ⊥
 -- an event is this step of the model
 abbrev pub IsDeed : List ℕ → SessionState → Event → Deed → SessionState → Type 0
 IsDeed shared old (calls e) d new =
-    (told : Answer) × IsToldAs told e.answer × Does old (record e { answer = told }) d new
+    (told : Answer) × IsToldAs told e.answer × Does (Still marks_pages) old (record e { answer = told }) d new
+IsDeed shared old (races e) d new =
+    (told : Answer) × IsToldAs told e.answer × Does (Races shared) old (record e { answer = told }) d new
 IsDeed shared old (lends bytes page a) d new = IsLentAs old bytes page a d new
 IsDeed shared old (gives_back block a) d new = IsGivenBackAs old block a d new
 IsDeed shared old forgets d new = (d ≡ forgot) × (new ≡ with_machine old (without_regions old.machine))
@@ -196,6 +195,8 @@ EndsIf (Some k) third head = IsTrue (ends_flight k third head)
 -- an event ends the flight of a chain: a call that is done, and returns it, forgets it, or makes its queue what it was
 abbrev pub EndsFlight : ℕ → ℕ → Event → Type 0
 EndsFlight number head (calls e) = (e.answer.code ≡ 0) × (e.call.first ≡ number)
+    × EndsIf (slice_get kinds e.call.kind) e.call.third head
+EndsFlight number head (races e) = (e.answer.code ≡ 0) × (e.call.first ≡ number)
     × EndsIf (slice_get kinds e.call.kind) e.call.third head
 EndsFlight number head (lends bytes page a) = ⊥
 EndsFlight number head (gives_back block a) = ⊥

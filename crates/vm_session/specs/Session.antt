@@ -19,7 +19,8 @@ use Rattle.vm_session.specs.Answers.{answer_of, answer_of_given_back, answer_of_
 use Rattle.vm_session.specs.Codes.{bad_call, no_memory, short_of}
 use Rattle.vm_session.specs.Kinds.{is_message, is_queue, is_work, kinds, marks, sets_up, takes_list}
 use Rattle.vm_session.specs.Messages.{AnswersMessage}
-use Rattle.vm_session.specs.Queues.{AnswersQueue, OnBoth}
+use Rattle.vm_session.specs.DeviceSteps.{Still, Steps, marks_pages}
+use Rattle.vm_session.specs.Queues.{AnswersQueue, OnBothBy}
 use Rattle.vm_session.specs.Requests.{IsSetup, address, command_at, is_without_size}
 use Rattle.vm_session.specs.SessionState.{SessionState}
 use Rattle.vm_session.specs.declared.call.Answer.{Answer}
@@ -154,14 +155,20 @@ AnswersOther true kind old call input out a out' new = AnswersQueue kind old cal
 AnswersOther false kind old call input out a out' new =
     AnswersKind (sets_up kind) kind old.machine call input out a out' new.machine × (new.queues ≡ old.queues)
 
-abbrev pub AnswersOf : Bool → Kind → SessionState → Call → List ℕ → List ℕ → Answer → List ℕ → SessionState → Type 0
-AnswersOf true kind old call input out a out' new = OnBoth kind old call input out a new out'
-AnswersOf false kind old call input out a out' new = AnswersOther (is_queue kind) kind old call input out a out' new
+-- what a session answers to a call with an input and an output, and leaves of the output, if this is known of a device's
+-- steps
+module _ (steps : Steps) where
+  abbrev pub AnswersOf : Bool → Kind → SessionState → Call → List ℕ → List ℕ → Answer → List ℕ → SessionState → Type 0
+  AnswersOf true kind old call input out a out' new = OnBothBy steps kind old call input out a new out'
+  AnswersOf false kind old call input out a out' new = AnswersOther (is_queue kind) kind old call input out a out' new
 
-abbrev pub AnswersIf : Option Kind → SessionState → Call → List ℕ → List ℕ → Answer → List ℕ → SessionState → Type 0
-AnswersIf None old call input out a out' new = (a ≡ bad_call) × (out' ≡ out) × (new ≡ old)
-AnswersIf (Some kind) old call input out a out' new = AnswersOf (is_work kind) kind old call input out a out' new
+  abbrev pub AnswersIf : Option Kind → SessionState → Call → List ℕ → List ℕ → Answer → List ℕ → SessionState → Type 0
+  AnswersIf None old call input out a out' new = (a ≡ bad_call) × (out' ≡ out) × (new ≡ old)
+  AnswersIf (Some kind) old call input out a out' new = AnswersOf (is_work kind) kind old call input out a out' new
 
--- what a session answers to a call with an input and an output, and leaves of the output
+  abbrev pub AnswersBy : SessionState → Call → List ℕ → List ℕ → Answer → List ℕ → SessionState → Type 0
+  AnswersBy old call input out a out' new = AnswersIf (slice_get kinds call.kind) old call input out a out' new
+
+-- the same, if nobody else writes memory meanwhile
 abbrev pub Answers : SessionState → Call → List ℕ → List ℕ → Answer → List ℕ → SessionState → Type 0
-Answers old call input out a out' new = AnswersIf (slice_get kinds call.kind) old call input out a out' new
+Answers = AnswersBy (Still marks_pages)

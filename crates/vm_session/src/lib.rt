@@ -5,6 +5,7 @@ mod answer;
 mod call;
 mod code;
 mod commands;
+mod device_memory;
 pub mod laws;
 mod lists;
 mod marks;

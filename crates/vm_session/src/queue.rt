@@ -8,6 +8,7 @@ ghost use Rattle.vm_session.specs.SessionState.{buffer_of, chain_of, descriptors
 use crate::answer::refuse;
 use crate::call::{Answer, Call, QueuePart};
 use crate::code;
+use crate::device_memory::DeviceMemory;
 use crate::lists::list_segments;
 use crate::packed_answer::{any_part_set, put_any_state};
 use crate::queue_answer::{
@@ -15,7 +16,7 @@ use crate::queue_answer::{
 };
 use std::alloc::{AllocError, Global};
 use std::marker::Model;
-use virtio_blk::{Terms, begin, finish};
+use virtio_blk::Terms;
 use virtio_queue::{AnyQueue, PackedBuffer, PackedQueue, Queue, QueueError};
 use vm_memory_base::Bitmap;
 use vm_memory_device::Chain;
@@ -249,18 +250,19 @@ impl SessionQueue {
 
     // Pops the next chain. An answer is put where it is wanted, so that it is not copied.
     #[inline(always)]
-    pub(crate) fn pop<M: GuestMemory, B: Bitmap>(
+    pub(crate) fn pop<H, D: DeviceMemory<H>>(
         &mut self,
         alloc: Global,
-        mem: &M,
-        host: &HostMemory<B>,
+        mem: &D,
+        host: &mut H,
         answer: &mut Answer,
     )
-        requires { Holds (shape_of host.now) (M.names mem.now) }
-        ensures { Pops (M.memory mem.now) host.now self.old answer.new self.new }
+        requires { D.held mem.now host.old }
+        ensures pops { Pops (D.steps mem.now) self.old host.old answer.new self.new host.new }
+        ensures shape { D.shape mem.now host.new ≡ D.shape mem.now host.old }
     {
         let next = self.queue.next_avail();
-        match self.queue.pop_descriptor_chain(alloc, mem, host) {
+        match mem.pop(host, alloc, &mut self.queue) {
             Ok(Some((buffer, chain))) => {
                 let head = usize::from(buffer.id);
                 if let Some(refusal) = self.refusal_of(head, &chain) {
@@ -346,24 +348,24 @@ impl SessionQueue {
 
     // Returns a chain in flight. It is called, so that the calls of both kinds of memory need few registers.
     #[inline(never)]
-    pub(crate) fn add_used<M: GuestMemory, B: Bitmap>(
+    pub(crate) fn add_used<H, D: DeviceMemory<H>>(
         &mut self,
-        mem: &M,
-        host: &mut HostMemory<B>,
+        mem: &D,
+        host: &mut H,
         head: usize,
         len: u32,
         answer: &mut Answer,
     )
-        requires { Holds (shape_of host.old) (M.names mem.now) }
-        ensures returned { Returns B.marks (M.memory mem.now) self.old head len host.old answer.new self.new host.new }
-        ensures shape { shape_of host.new ≡ shape_of host.old }
+        requires { D.held mem.now host.old }
+        ensures returned { Returns (D.steps mem.now) self.old head len host.old answer.new self.new host.new }
+        ensures shape { D.shape mem.now host.new ≡ D.shape mem.now host.old }
     {
         if !self.has(head) || head >= self.flight.len() {
             refuse(code::NOT_IN_FLIGHT, answer);
             return;
         }
         let buffer = self.buffer(head);
-        match self.queue.add_used(mem, host, buffer, len) {
+        match mem.add_used(host, &mut self.queue, buffer, len) {
             Ok(()) => {
                 self.take(head);
                 *answer = Answer::of_code(code::DONE);
@@ -374,42 +376,39 @@ impl SessionQueue {
 
     // Whether the driver has to be notified.
     #[inline(always)]
-    pub(crate) fn needs_notification<M: GuestMemory, B: Bitmap>(
+    pub(crate) fn needs_notification<H, D: DeviceMemory<H>>(
         &mut self,
-        mem: &M,
-        host: &HostMemory<B>,
+        mem: &D,
+        host: &mut H,
         answer: &mut Answer,
     )
-        requires { Holds (shape_of host.now) (M.names mem.now) }
-        ensures { NeedsNotification (M.memory mem.now) host.now self.old answer.new self.new }
+        requires { D.held mem.now host.old }
+        ensures needs { NeedsNotification (D.steps mem.now) self.old host.old answer.new self.new host.new }
+        ensures shape { D.shape mem.now host.new ≡ D.shape mem.now host.old }
     {
-        *answer = asked(self.queue.needs_notification(mem, host));
+        *answer = asked(mem.needs_notification(host, &mut self.queue));
     }
 
     // Asks the driver to notify the device.
-    pub(crate) fn enable_notification<M: GuestMemory, B: Bitmap>(
-        &self,
-        mem: &M,
-        host: &mut HostMemory<B>,
-    ) -> Answer
-        requires { Holds (shape_of host.old) (M.names mem.now) }
-        ensures asks { AsksToNotify B.marks (M.memory mem.now) self.now host.old result host.new }
-        ensures shape { shape_of host.new ≡ shape_of host.old }
+    pub(crate) fn enable_notification<H, D: DeviceMemory<H>>(&self, mem: &D, host: &mut H) -> Answer
+        requires { D.held mem.now host.old }
+        ensures asks { AsksToNotify (D.steps mem.now) self.now host.old result host.new }
+        ensures shape { D.shape mem.now host.new ≡ D.shape mem.now host.old }
     {
-        asked(self.queue.enable_notification(mem, host))
+        asked(mem.enable_notification(host, &self.queue))
     }
 
     // Asks the driver not to notify the device.
-    pub(crate) fn disable_notification<M: GuestMemory, B: Bitmap>(
+    pub(crate) fn disable_notification<H, D: DeviceMemory<H>>(
         &self,
-        mem: &M,
-        host: &mut HostMemory<B>,
+        mem: &D,
+        host: &mut H,
     ) -> Answer
-        requires { Holds (shape_of host.old) (M.names mem.now) }
-        ensures asks { AsksNotToNotify B.marks (M.memory mem.now) self.now host.old result host.new }
-        ensures shape { shape_of host.new ≡ shape_of host.old }
+        requires { D.held mem.now host.old }
+        ensures asks { AsksNotToNotify (D.steps mem.now) self.now host.old result host.new }
+        ensures shape { D.shape mem.now host.new ≡ D.shape mem.now host.old }
     {
-        queue_done(self.queue.disable_notification(mem, host))
+        queue_done(mem.disable_notification(host, &self.queue))
     }
 
     // Whether what says whether there is a next chain lies at an address.
@@ -440,68 +439,62 @@ impl SessionQueue {
     }
 
     // The driver's index, which a packed queue does not have.
-    pub(crate) fn avail_idx<M: GuestMemory, B: Bitmap>(
-        &self,
-        mem: &M,
-        host: &HostMemory<B>,
-    ) -> Answer
-        requires { Holds (shape_of host.now) (M.names mem.now) }
-        ensures { TellsAvail (M.memory mem.now) host.now self.now.queue result }
+    pub(crate) fn avail_idx<H, D: DeviceMemory<H>>(&self, mem: &D, host: &mut H) -> Answer
+        requires { D.held mem.now host.old }
+        ensures tells { TellsAvail (D.steps mem.now) self.now.queue host.old result host.new }
+        ensures shape { D.shape mem.now host.new ≡ D.shape mem.now host.old }
     {
         match &self.queue {
-            AnyQueue::Split(queue) => number_told(queue.avail_idx(mem, host)),
+            AnyQueue::Split(queue) => number_told(mem.avail_idx(host, queue)),
             AnyQueue::Packed(_) => Answer::of_code(code::BAD_CALL),
         }
     }
 
     // The device's index, as it lies in the ring, which a packed queue does not have.
-    pub(crate) fn used_idx<M: GuestMemory, B: Bitmap>(
-        &self,
-        mem: &M,
-        host: &HostMemory<B>,
-    ) -> Answer
-        requires { Holds (shape_of host.now) (M.names mem.now) }
-        ensures { TellsUsed (M.memory mem.now) host.now self.now.queue result }
+    pub(crate) fn used_idx<H, D: DeviceMemory<H>>(&self, mem: &D, host: &mut H) -> Answer
+        requires { D.held mem.now host.old }
+        ensures tells { TellsUsed (D.steps mem.now) self.now.queue host.old result host.new }
+        ensures shape { D.shape mem.now host.new ≡ D.shape mem.now host.old }
     {
         match &self.queue {
-            AnyQueue::Split(queue) => number_told(queue.used_idx(mem, host)),
+            AnyQueue::Split(queue) => number_told(mem.used_idx(host, queue)),
             AnyQueue::Packed(_) => Answer::of_code(code::BAD_CALL),
         }
     }
 
     // What a chain in flight asks a block device for.
-    pub(crate) fn begin<M: GuestMemory, B: Bitmap>(
+    pub(crate) fn begin<H, D: DeviceMemory<H>>(
         &self,
-        mem: &M,
-        host: &HostMemory<B>,
+        mem: &D,
+        host: &mut H,
         head: usize,
         terms: Terms,
     ) -> Answer
-        requires { Holds (shape_of host.now) (M.names mem.now) }
-        ensures { BeginsRequest (M.memory mem.now) host.now self.now head (Some terms) result }
+        requires { D.held mem.now host.old }
+        ensures begins { BeginsRequest (D.steps mem.now) self.now head (Some terms) host.old result host.new }
+        ensures shape { D.shape mem.now host.new ≡ D.shape mem.now host.old }
     {
         match self.chain(head) {
-            Some(chain) => begun(begin(terms, mem, host, chain)),
+            Some(chain) => begun(mem.begin(host, terms, chain)),
             None => Answer::of_code(code::NOT_IN_FLIGHT),
         }
     }
 
     // Finishes the block request of a chain in flight.
-    pub(crate) fn finish<M: GuestMemory, B: Bitmap>(
+    pub(crate) fn finish<H, D: DeviceMemory<H>>(
         &self,
-        mem: &M,
-        host: &mut HostMemory<B>,
+        mem: &D,
+        host: &mut H,
         head: usize,
         status: u8,
         moved: usize,
     ) -> Answer
-        requires { Holds (shape_of host.old) (M.names mem.now) }
-        ensures finished { FinishesRequest B.marks (M.memory mem.now) self.now head status moved host.old result
-            host.new }
-        ensures shape { shape_of host.new ≡ shape_of host.old }
+        requires { D.held mem.now host.old }
+        ensures finished { FinishesRequest (D.steps mem.now) self.now head status moved host.old result host.new }
+        ensures shape { D.shape mem.now host.new ≡ D.shape mem.now host.old }
     {
         match self.chain(head) {
-            Some(chain) => length_told(finish(mem, host, chain, status, moved)),
+            Some(chain) => length_told(mem.finish(host, chain, status, moved)),
             None => Answer::of_code(code::NOT_IN_FLIGHT),
         }
     }

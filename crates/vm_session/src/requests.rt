@@ -3,11 +3,13 @@
 ghost use Rattle.std.specs.Prelude.{◌≡◌, List, ℕ};
 ghost use Rattle.vm_memory_guest.specs.Host.{shape_of, Holds};
 ghost use Rattle.vm_memory.specs.Parts.{state_of};
+ghost use Rattle.vm_session.specs.DeviceSteps.{Still};
 ghost use Rattle.vm_session.specs.Queues.{CompletesIf, NeedsNotification, Pops, ReadsInto, ReturnsIf, WorksOn, WritesChain, unfinished};
 
 use crate::answer::{faulted, refuse};
 use crate::call::{Answer, Call, Kind};
 use crate::code;
+use crate::device_memory::{DeviceMemory, Lent};
 use crate::queue::SessionQueue;
 use std::alloc::Global;
 use vm_memory::{Fault, Machine, Work};
@@ -27,11 +29,11 @@ impl<B: Bitmap> Work<B> for PopWork<'_> {
     // It keeps its references: what they point to is what the caller finds then.
     ghost does = { λ w m host after host'. (after.queue.ghost_name ≡ w.queue.ghost_name)
         × (after.answer.ghost_name ≡ w.answer.ghost_name)
-        × Pops m host w.queue.now after.answer.now after.queue.now × (host' ≡ host) };
+        × Pops (Still B.marks m) w.queue.now host after.answer.now after.queue.now host' };
 
     #[inline(always)]
     fn work<M: GuestMemory>(&mut self, mem: &M, host: &mut HostMemory<B>) {
-        self.queue.pop(self.alloc, mem, host, self.answer);
+        self.queue.pop(self.alloc, &Lent { mem }, host, self.answer);
     }
 }
 
@@ -175,16 +177,16 @@ pub(crate) fn write_chain<R: GuestMemoryRegion, I: Iommu, B: ExactBitmap>(
 
 // Returns a chain in flight, if how many bytes were written is a number of 32 bits.
 #[inline(always)]
-fn return_if<M: GuestMemory, B: Bitmap>(
+fn return_if<H, D: DeviceMemory<H>>(
     queue: &mut SessionQueue,
-    mem: &M,
-    host: &mut HostMemory<B>,
+    mem: &D,
+    host: &mut H,
     call: &Call,
     answer: &mut Answer,
 )
-    requires { Holds (shape_of host.old) (M.names mem.now) }
-    ensures returned { ReturnsIf B.marks (M.memory mem.now) call.now queue.old host.old answer.new queue.new host.new }
-    ensures shape { shape_of host.new ≡ shape_of host.old }
+    requires { D.held mem.now host.old }
+    ensures returned { ReturnsIf (D.steps mem.now) call.now queue.old host.old answer.new queue.new host.new }
+    ensures shape { D.shape mem.now host.new ≡ D.shape mem.now host.old }
 {
     match u32::try_from(call.value) {
         Ok(len) => queue.add_used(mem, host, call.third, len, answer),
@@ -204,11 +206,11 @@ impl<B: Bitmap> Work<B> for UsedWork<'_> {
     // It keeps its references: what they point to is what the caller finds then.
     ghost does = { λ w m host after host'. (after.queue.ghost_name ≡ w.queue.ghost_name)
         × (after.answer.ghost_name ≡ w.answer.ghost_name)
-        × ReturnsIf B.marks m w.call.now w.queue.now host after.answer.now after.queue.now host' };
+        × ReturnsIf (Still B.marks m) w.call.now w.queue.now host after.answer.now after.queue.now host' };
 
     #[inline(always)]
     fn work<M: GuestMemory>(&mut self, mem: &M, host: &mut HostMemory<B>) {
-        return_if(self.queue, mem, host, self.call, self.answer);
+        return_if(self.queue, &Lent { mem }, host, self.call, self.answer);
     }
 }
 
@@ -260,8 +262,8 @@ fn complete_if<M: GuestMemory, B: Bitmap>(
     answer: &mut Answer,
 )
     requires { Holds (shape_of host.old) (M.names mem.now) }
-    ensures completed { CompletesIf B.marks (M.memory mem.now) call.now input.now queue.old host.old answer.new
-        queue.new host.new }
+    ensures completed { let m = M.memory mem.now in CompletesIf B.marks m (Still B.marks m) call.now input.now queue.old
+        host.old answer.new queue.new host.new }
     ensures shape { shape_of host.new ≡ shape_of host.old }
 {
     let Ok(len) = u32::try_from(call.value) else {
@@ -270,7 +272,7 @@ fn complete_if<M: GuestMemory, B: Bitmap>(
     };
     queue.write(mem, host, call.third, call.address as usize, input, answer);
     if answer.code == code::DONE && answer.count == input.len() {
-        queue.add_used(mem, host, call.third, len, answer);
+        queue.add_used(&Lent { mem }, host, call.third, len, answer);
     } else {
         unfinished(input.len(), answer);
     }
@@ -289,7 +291,8 @@ impl<B: Bitmap> Work<B> for CompleteWork<'_> {
     // It keeps its references: what they point to is what the caller finds then.
     ghost does = { λ w m host after host'. (after.queue.ghost_name ≡ w.queue.ghost_name)
         × (after.answer.ghost_name ≡ w.answer.ghost_name)
-        × CompletesIf B.marks m w.call.now w.input.now w.queue.now host after.answer.now after.queue.now host' };
+        × CompletesIf B.marks m (Still B.marks m) w.call.now w.input.now w.queue.now host after.answer.now
+        after.queue.now host' };
 
     #[inline(always)]
     fn work<M: GuestMemory>(&mut self, mem: &M, host: &mut HostMemory<B>) {
@@ -333,11 +336,12 @@ impl<B: Bitmap> Work<B> for NotifyWork<'_> {
     // It keeps its references: what they point to is what the caller finds then.
     ghost does = { λ w m host after host'. (after.queue.ghost_name ≡ w.queue.ghost_name)
         × (after.answer.ghost_name ≡ w.answer.ghost_name)
-        × NeedsNotification m host w.queue.now after.answer.now after.queue.now × (host' ≡ host) };
+        × NeedsNotification (Still B.marks m) w.queue.now host after.answer.now after.queue.now host' };
 
     #[inline(always)]
     fn work<M: GuestMemory>(&mut self, mem: &M, host: &mut HostMemory<B>) {
-        self.queue.needs_notification(mem, host, self.answer);
+        self.queue
+            .needs_notification(&Lent { mem }, host, self.answer);
     }
 }
 

@@ -3,11 +3,13 @@ ghost use Rattle.std.specs.Prelude.{◌≡◌, ◌<◌, ◌^◌, IsTrue, List, �
 ghost use Rattle.vm_memory_guest.specs.Host.{shape_of, Holds};
 ghost use Rattle.vm_session.specs.Kinds.{keeps_queue};
 ghost use Rattle.vm_memory.specs.Parts.{state_of};
+ghost use Rattle.vm_session.specs.DeviceSteps.{Still};
 ghost use Rattle.vm_session.specs.Queues.{BeginsRequest, FinishesIf, Works, WorksOn, terms_of};
 
 use crate::answer::refuse;
 use crate::call::{Answer, Call, Kind, limit_of, read_only_of};
 use crate::code;
+use crate::device_memory::{DeviceMemory, Lent};
 use crate::queue::SessionQueue;
 use virtio_blk::Terms;
 use vm_memory::{Machine, Work};
@@ -26,14 +28,16 @@ struct QueueWork<'a> {
 }
 
 // What a chain in flight asks for, if the call says what it is held against.
-fn begin_if<M: GuestMemory, B: Bitmap>(
+fn begin_if<H, D: DeviceMemory<H>>(
     queue: &SessionQueue,
-    mem: &M,
-    host: &HostMemory<B>,
+    mem: &D,
+    host: &mut H,
     call: &Call,
 ) -> Answer
-    requires { Holds (shape_of host.now) (M.names mem.now) }
-    ensures { BeginsRequest (M.memory mem.now) host.now queue.now call.now.third (terms_of call.now) result }
+    requires { D.held mem.now host.old }
+    ensures begins { BeginsRequest (D.steps mem.now) queue.now call.now.third (terms_of call.now) host.old result
+        host.new }
+    ensures shape { D.shape mem.now host.new ≡ D.shape mem.now host.old }
 {
     let Some(read_only) = read_only_of(call.access) else {
         return Answer::of_code(code::BAD_CALL);
@@ -49,15 +53,15 @@ fn begin_if<M: GuestMemory, B: Bitmap>(
 }
 
 // Finishes the request of a chain in flight, if the status is a number of 8 bits.
-fn finish_if<M: GuestMemory, B: Bitmap>(
+fn finish_if<H, D: DeviceMemory<H>>(
     queue: &SessionQueue,
-    mem: &M,
-    host: &mut HostMemory<B>,
+    mem: &D,
+    host: &mut H,
     call: &Call,
 ) -> Answer
-    requires { Holds (shape_of host.old) (M.names mem.now) }
-    ensures finished { FinishesIf B.marks (M.memory mem.now) call.now queue.now host.old result host.new }
-    ensures shape { shape_of host.new ≡ shape_of host.old }
+    requires { D.held mem.now host.old }
+    ensures finished { FinishesIf (D.steps mem.now) call.now queue.now host.old result host.new }
+    ensures shape { D.shape mem.now host.new ≡ D.shape mem.now host.old }
 {
     match u8::try_from(call.value) {
         Ok(status) => queue.finish(mem, host, call.third, status, call.length),
@@ -68,19 +72,20 @@ fn finish_if<M: GuestMemory, B: Bitmap>(
 impl<B: Bitmap> Work<B> for QueueWork<'_> {
     // It keeps its reference: what that points to is what the caller finds then.
     ghost does = { λ w m host after host'. (after.answer.ghost_name ≡ w.answer.ghost_name)
-        × ((input out : List ℕ) → Works B.marks m w.kind w.call.now input w.queue.now host out after.answer.now
-        w.queue.now host' out) };
+        × ((input out : List ℕ) → Works B.marks m (Still B.marks m) w.kind w.call.now input w.queue.now host out
+        after.answer.now w.queue.now host' out) };
 
     fn work<M: GuestMemory>(&mut self, mem: &M, host: &mut HostMemory<B>) {
         let (call, queue) = (self.call, self.queue);
+        let lent = Lent { mem };
         *self.answer = match self.kind {
             Kind::QueueIsValid => queue.is_valid(mem, host),
-            Kind::AvailIdx => queue.avail_idx(mem, host),
-            Kind::UsedIdx => queue.used_idx(mem, host),
-            Kind::EnableNotification => queue.enable_notification(mem, host),
-            Kind::DisableNotification => queue.disable_notification(mem, host),
-            Kind::BeginRequest => begin_if(queue, mem, host, call),
-            Kind::FinishRequest => finish_if(queue, mem, host, call),
+            Kind::AvailIdx => queue.avail_idx(&lent, host),
+            Kind::UsedIdx => queue.used_idx(&lent, host),
+            Kind::EnableNotification => queue.enable_notification(&lent, host),
+            Kind::DisableNotification => queue.disable_notification(&lent, host),
+            Kind::BeginRequest => begin_if(queue, &lent, host, call),
+            Kind::FinishRequest => finish_if(queue, &lent, host, call),
             _ => unreachable!(),
         };
     }

@@ -1,4 +1,5 @@
 use Rattle.std.proofs.Common.{refl, rules}
+use Rattle.vm_session.specs.DeviceSteps.{Still}
 use Rattle.vm_session.specs.Queues.{CompletesIf}
 use Rattle.vm_session.specs.SessionState.{DeviceQueue}
 use Rattle.vm_session.specs.declared.call.Answer.{Answer}
@@ -16,7 +17,7 @@ returns-in-Ok g c out =
     c.lend.new.self _ work c.args.queue.now _ out out _ c.in-Ok.field-0 c.in-Ok.ensures (λ m d. (
       left_in_two work.queue.now d.0 work.answer.now d.1
           (λ (q : DeviceQueue) (a : Answer).
-          CompletesIf marks m c.args.call.now c.args.input.now c.args.queue.now host a q c.lend.new.self.host) (search rules)
+          CompletesIf marks m (Still marks m) c.args.call.now c.args.input.now c.args.queue.now host a q c.lend.new.self.host) (search rules)
           (search rules) d.2,
       refl,
     ))

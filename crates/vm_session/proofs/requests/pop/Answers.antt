@@ -1,4 +1,5 @@
 use Rattle.std.proofs.Common.{refl, rules}
+use Rattle.vm_session.specs.DeviceSteps.{Still}
 use Rattle.vm_session.specs.Queues.{Pops}
 use Rattle.vm_session.specs.SessionState.{DeviceQueue}
 use Rattle.vm_session.specs.declared.call.Answer.{Answer}
@@ -15,7 +16,7 @@ returns-in-Ok g c input out =
     g.met.B.ExactBitmap.marks_pages (PopDoes marks) kind.Pop c.args.call.now input c.args.machine.now
     c.lend.new.self _ work c.args.queue.now _ out out _ c.in-Ok.field-0 c.in-Ok.ensures (λ m d. (
       left_in_two work.queue.now d.0 work.answer.now d.1
-          (λ (q : DeviceQueue) (a : Answer). Pops m host c.args.queue.now a q) (search rules) (search rules) d.2,
-      d.3,
+          (λ (q : DeviceQueue) (a : Answer). Pops (Still marks m) c.args.queue.now host a q c.lend.new.self.host)
+          (search rules) (search rules) d.2,
       refl,
     ))

@@ -16,8 +16,8 @@ returns-in-Ok-clause-returned g c =
     let there = rw (← c.self.view_is) at (sym c.has.ensures ∙ c.if-not-has.false) in
     let buffer = rw (← c.self.view_is) at c.buffer-buffer.ensures in
     rw (← c.self.view_is) (
-    returned g.B.Bitmap.marks (g.M.GuestMemory.memory c.args.mem.now) _ c.args.head c.args.len c.args.host.now
-    c.of_code.result c.take.new.self c.add_used.new.host (Ok c.in-Ok.field-0) there (rw buffer at c.in-Ok.ensures.added)
+    returned (g.D.DeviceMemory.steps c.args.mem.now) _ c.args.head c.args.len c.args.host.now
+    c.of_code.result c.take.new.self c.add_used.new.host (Ok c.in-Ok.field-0) there (rw buffer at c.in-Ok.ensures.step)
     c.of_code.ensures (c.take.ensures ∙ ap without (rw buffer at c.in-Ok.ensures.moved)))
 
 pub returns-in-Err-clause-returned : goal.returns-in-Err-clause-returned
@@ -28,6 +28,6 @@ returns-in-Err-clause-returned g c =
     let there = rw (← c.self.view_is) at (sym c.has.ensures ∙ c.if-not-has.false) in
     let buffer = rw (← c.self.view_is) at c.buffer-buffer.ensures in
     rw (← c.self.view_is) (
-    returned g.B.Bitmap.marks (g.M.GuestMemory.memory c.args.mem.now) _ c.args.head c.args.len c.args.host.now
-    c.queue_refused.result _ c.add_used.new.host (Err c.in-Err.error) there (rw buffer at c.in-Err.ensures.added)
+    returned (g.D.DeviceMemory.steps c.args.mem.now) _ c.args.head c.args.len c.args.host.now
+    c.queue_refused.result _ c.add_used.new.host (Err c.in-Err.error) there (rw buffer at c.in-Err.ensures.step)
     c.queue_refused.ensures (ap with_queue (c.in-Err.ensures.moved ∙ not_used fields.queue c.buffer-buffer.result c.in-Err.error)))
