@@ -1,0 +1,14 @@
+pub mod BoundLemmas
+pub mod EndLemmas
+pub mod FairLemmas
+pub mod GoneLemmas
+pub mod HoldLemmas
+pub mod LineLemmas
+pub mod OnceLemmas
+pub mod OwnWayLemmas
+pub mod PartLemmas
+pub mod RestLemmas
+pub mod RightLemmas
+pub mod StopLemmas
+pub mod ToldLemmas
+pub mod WantLemmas

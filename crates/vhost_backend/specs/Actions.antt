@@ -1,0 +1,15 @@
+-- What is to be done for a ring, as a list.
+use Rattle.std.specs.Prelude.{Bool, if◌then◌else◌, List, [], ◌∷◌, ◌++◌, Option, Some, None}
+use Rattle.vhost_backend.specs.declared.ring.actions.RingAction.{RingAction}
+
+abbrev pub listed_one : Option RingAction → List RingAction
+listed_one None = []
+listed_one (Some action) = action ∷ []
+
+-- one after another
+abbrev pub listed : Option RingAction → Option RingAction → Option RingAction → List RingAction
+listed first second third = listed_one first ++ (listed_one second ++ listed_one third)
+
+-- an action, if it is to be done
+abbrev pub if_so : Bool → RingAction → List RingAction
+if_so is action = if is then action ∷ [] else []

@@ -1,0 +1,64 @@
+//! Small stories of rings, by computation: each function here is a theorem, and does nothing.
+ghost use Rattle.std.specs.Prelude.{◌≡◌, [], ◌∷◌, true, false, map};
+ghost use Rattle.vhost_backend.specs.Ring.{new_ring};
+ghost use Rattle.vhost_backend.specs.Rings.{new_rings};
+ghost use Rattle.vhost_backend.specs.Story.{On, Turn, actions};
+ghost use Rattle.vhost_backend.specs.Turns.{all_done, turns};
+ghost use Rattle.vhost_backend.specs.Turns as turn;
+ghost use Rattle.vhost_backend.specs.declared.request.PartEnd.TheVariants.{Failed, Moved};
+ghost use Rattle.vhost_backend.specs.declared.ring.RingEvent.TheVariants.{Emptied, Enable, Ended, Kick, Popped, Start, Stop};
+ghost use Rattle.vhost_backend.specs.declared.ring.actions.RingAction.TheVariants as action;
+ghost use Rattle.vhost_backend.specs.declared.rings.Event.TheVariants as event;
+
+/// A request of two parts is under way as its ring is stopped. Both parts are served, the chain is returned, the driver
+/// is told, and then the message is answered. A second chain is not popped meanwhile.
+pub fn a_stop_waits_for_both_parts()
+    ensures { actions (On Start ∷ On (Enable true) ∷ Turn ∷ On (Popped (record { id = 2; slots = 1 }) 2 8192) ∷ On Stop
+        ∷ On (Popped (record { id = 3; slots = 1 }) 1 512) ∷ On (Ended 2 (Moved 4096)) ∷ On (Ended 2 (Moved 4096)) ∷ [])
+        (new_ring 4)
+        ≡ action.Pop ∷ action.Serve 2 2 ∷ action.Serve 2 1 ∷ action.Return (record { id = 2; slots = 1 }) 8192 false
+        ∷ action.Notify ∷ action.Stopped ∷ [] }
+{}
+
+/// A disabled ring returns what is under way. A part that failed is the last one, and its end counts once.
+pub fn a_disabled_ring_returns_its_chains()
+    ensures { actions (On Start ∷ On (Enable true) ∷ On (Popped (record { id = 1; slots = 3 }) 5 0) ∷ On (Enable false)
+        ∷ On (Ended 1 (Moved 7)) ∷ On (Ended 1 Failed) ∷ On (Ended 1 Failed) ∷ Turn ∷ []) (new_ring 4)
+        ≡ action.Serve 1 5 ∷ action.Serve 1 4 ∷ action.Return (record { id = 1; slots = 3 }) 7 true
+        ∷ action.Notify ∷ [] }
+{}
+
+/// A second chain of an id breaks its ring. The first one is returned all the same, and so is one whose request has no
+/// parts.
+pub fn two_chains_of_an_id_break_a_ring()
+    ensures { actions (On Start ∷ On (Enable true) ∷ On (Popped (record { id = 0; slots = 1 }) 1 0)
+        ∷ On (Popped (record { id = 1; slots = 1 }) 0 0) ∷ On (Popped (record { id = 0; slots = 1 }) 1 0)
+        ∷ On (Ended 0 (Moved 1)) ∷ []) (new_ring 4)
+        ≡ action.Serve 0 1 ∷ action.Return (record { id = 1; slots = 1 }) 0 false ∷ action.Broke
+        ∷ action.Return (record { id = 0; slots = 1 }) 1 false ∷ [] }
+{}
+
+/// Two rings that always have chains take turns. One that is empty has none until its driver notifies.
+pub fn two_rings_take_turns()
+    ensures { turns (event.Ring 0 Start ∷ event.Ring 0 (Enable true) ∷ event.Ring 1 Start ∷ event.Ring 1 (Enable true)
+        ∷ event.GoOn ∷ event.GoOn ∷ event.GoOn ∷ event.Ring 0 Emptied ∷ event.GoOn ∷ event.GoOn ∷ event.Ring 0 Kick
+        ∷ event.GoOn ∷ event.GoOn ∷ []) (new_rings 2 4) ≡ 0 ∷ 1 ∷ 0 ∷ 1 ∷ 1 ∷ 1 ∷ 0 ∷ [] }
+{}
+
+/// A turn is over after a chain that asks for 1 MiB, and a ring pops nothing in the turn of another one.
+pub fn a_turn_ends_after_a_mebibyte()
+    ensures { turn.popped (event.Ring 0 Start ∷ event.Ring 0 (Enable true) ∷ event.Ring 1 Start
+        ∷ event.Ring 1 (Enable true) ∷ event.GoOn ∷ event.Ring 1 (Popped (record { id = 0; slots = 1 }) 1 512)
+        ∷ event.Ring 0 (Popped (record { id = 0; slots = 1 }) 1 0x100000)
+        ∷ event.Ring 0 (Popped (record { id = 1; slots = 1 }) 1 512) ∷ event.GoOn
+        ∷ event.Ring 1 (Popped (record { id = 0; slots = 1 }) 1 512) ∷ []) (new_rings 2 4) ≡ 0x100000 ∷ 512 ∷ [] }
+{}
+
+/// A message that holds all rings waits for what is under way, and then it is to be done. Meanwhile no ring has a turn.
+pub fn a_hold_waits_for_what_is_under_way()
+    ensures { map (λ done. done.held) (all_done (event.Ring 0 Start ∷ event.Ring 0 (Enable true) ∷ event.GoOn
+        ∷ event.Ring 0 (Popped (record { id = 2; slots = 1 }) 1 512) ∷ event.Hold ∷ event.GoOn
+        ∷ event.Ring 0 (Popped (record { id = 3; slots = 1 }) 1 512) ∷ event.Ring 0 (Ended 2 (Moved 512))
+        ∷ event.Release ∷ []) (new_rings 2 4))
+        ≡ false ∷ false ∷ false ∷ false ∷ false ∷ false ∷ false ∷ true ∷ false ∷ [] }
+{}
