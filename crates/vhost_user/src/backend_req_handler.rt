@@ -467,8 +467,9 @@ impl BackendReqHandler {
         }
     }
 
-    // Does what a request asks for.
-    fn serve(&mut self, request: &FrontendReq, payload: &[u8]) -> Result<(), Refusal>
+    /// Does what a request asks for that was taken from a message, as `handle` does it: for a back end that lets some wait.
+    /// The payload counts for a SET_CONFIG alone. One that is refused changes nothing.
+    pub fn serve(&mut self, request: &FrontendReq, payload: &[u8]) -> Result<(), Refusal>
         ensures { Steps self.old (served self.old request.now payload.now) result self.new }
     {
         match request {

@@ -94,9 +94,7 @@ impl<'a, M: GuestMemory> GuestMemory for Hinted<'a, M> {
     ) -> (Option<VolatileSlice>, usize) {
         let hint = self.hint.get();
         let (found, next) = self.memory.find_window(host, addr, count, access, hint);
-        if next != hint {
-            self.hint.set(next);
-        }
+        self.hint.set(next);
         (found, next)
     }
 
