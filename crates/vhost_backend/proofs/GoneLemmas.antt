@@ -6,9 +6,10 @@ use Rattle.std.proofs.lemmas.List.{append-nil}
 use Rattle.std.proofs.lemmas.List.Folds.{list_any-append}
 use Rattle.vhost_backend.proofs.OwnWayLemmas.{done, one_event}
 use Rattle.vhost_backend.proofs.StopLemmas.{gone}
+use Rattle.vhost_backend.specs.Actions.{is_answer}
 use Rattle.vhost_backend.specs.Ring.{RingState}
 use Rattle.vhost_backend.specs.Rings.{RingsState, admits, happens}
-use Rattle.vhost_backend.specs.Story.{RingStep, On, actions, after, answers, has_start, is_answer, stepped}
+use Rattle.vhost_backend.specs.Story.{RingStep, On, actions, after, answers, has_start, stepped}
 use Rattle.vhost_backend.specs.Story as story
 use Rattle.vhost_backend.specs.Turns.{actions_of, all_done, own_actions, starts, steps_of, story_of, takes_turn}
 use Rattle.vhost_backend.specs.declared.ring.RingEvent.TheVariants.{Start, Stop, Enable, Break, Kick, Popped, Emptied, Ended}

@@ -167,7 +167,7 @@ hold_turns s true has = λ not. held_turn (holding s)
 hold_turns s false has = has
 
 -- rings that are free stay so, or have no turn
-event_turns : (s : RingsState) (e : Event) → HasNoTurn s → HasNoTurn (happens s e).0
+pub event_turns : (s : RingsState) (e : Event) → HasNoTurn s → HasNoTurn (happens s e).0
 event_turns s (event.Ring i e) has not = go (is_free s.hold) refl
   where
     go : (f : Bool) → is_free s.hold ≡ f → (on_ring s i (slice_get s.rings i) e).0.turn ≡ None
@@ -321,7 +321,7 @@ module _ (s : RingsState) (rests : Rests s) where
   hold_sleeps false not = (refl, rests)
   hold_sleeps true not = absurd (cc)
 
-  event_sleeps : (e : Event) → is_release e ≡ false → Sleeps (happens s e)
+  pub event_sleeps : (e : Event) → is_release e ≡ false → Sleeps (happens s e)
   event_sleeps (event.Ring i e) not = ring_sleeps i e (slice_get s.rings i) (admits s.turn i e) refl refl
   event_sleeps event.GoOn not = go_sleeps (is_free s.hold) (slice_get s.line 0) (ap is_free rests.0)
   event_sleeps event.Hold not = hold_sleeps (is_free s.hold) (ap is_free rests.0)
@@ -335,7 +335,7 @@ sleeps s (e ∷ es) rests none =
     let (calm, still) = event_sleeps s rests e not in
     or_from _ _ calm (sleeps (happens s e).0 es still later)
 
-free_turns : (count ids : ℕ) (events : List Event) → HasNoTurn (after_all events (new_rings count ids))
+pub free_turns : (count ids : ℕ) (events : List Event) → HasNoTurn (after_all events (new_rings count ids))
 free_turns count ids events = all_turns (new_rings count ids) events (λ not. absurd (cc))
 
 pub gone : (count ids : ℕ) (events : List Event) (e : Event) (later : List Event)

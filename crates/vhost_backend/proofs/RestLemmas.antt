@@ -4,10 +4,10 @@ use Rattle.std.specs.List.{slice_get}
 use Rattle.vhost_backend.proofs.WantLemmas.{in_line}
 use Rattle.vhost_backend.specs.Actions.{if_so}
 use Rattle.vhost_backend.specs.Line.{stands_in}
-use Rattle.vhost_backend.specs.Ring.{RingState, Step, after_break, after_turn, begun, broken, ended, has_place, is_idle, is_stopping, may_run, pops, request_at, started, wants, with_moved, with_request}
+use Rattle.vhost_backend.specs.Ring.{RingState, Step, after_break, after_turn, begun, broken, ended, has_place, is_idle, is_stopped, is_stopping, may_run, pops, request_at, started, wants, with_moved, with_request}
 use Rattle.vhost_backend.specs.Ring as ring
 use Rattle.vhost_backend.specs.Rings.{has_next, is_free, new_rings}
-use Rattle.vhost_backend.specs.Story.{RingStep, On, Turn, after, is_stopped, notified, notified_by, stepped}
+use Rattle.vhost_backend.specs.Story.{RingStep, On, Turn, after, notified, notified_by, stepped}
 use Rattle.vhost_backend.specs.Turns.{after_all}
 use Rattle.vhost_backend.specs.declared.request.Chain.{Chain}
 use Rattle.vhost_backend.specs.declared.request.PartEnd.{PartEnd}

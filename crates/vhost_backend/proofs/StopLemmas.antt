@@ -4,10 +4,10 @@ use Rattle.std.specs.List.{list_all}
 use Rattle.std.proofs.lemmas.Bool.{and_cases, and_from, and_parts, cases_lt, eqb-true, or_parts}
 use Rattle.std.proofs.lemmas.List.{get_or-set_same, get_or_past}
 use Rattle.std.proofs.lemmas.List.Sums.{sum_by-append, sum_by-cons}
-use Rattle.vhost_backend.specs.Actions.{if_so}
+use Rattle.vhost_backend.specs.Actions.{if_so, is_answer}
 use Rattle.vhost_backend.specs.Ring.{RingState, Step, after_break, after_pop, after_stop, after_turn, begun, broken, count_of, ended, has_place, is_idle, is_started, is_stopping, may_run, new_ring, part_ended, part_moved, pops, request_at, returning, started, step, with_moved, with_request}
 use Rattle.vhost_backend.specs.Ring as ring
-use Rattle.vhost_backend.specs.Story.{RingStep, On, Turn, actions, after, answers, has_start, is_answer, is_start, is_stop, popped, stepped, stops, taken, waiting}
+use Rattle.vhost_backend.specs.Story.{RingStep, On, Turn, actions, after, answers, has_start, is_start, is_stop, popped, stepped, stops, taken, waiting}
 use Rattle.vhost_backend.specs.declared.request.Chain.{Chain}
 use Rattle.vhost_backend.specs.declared.request.PartEnd.{PartEnd}
 use Rattle.vhost_backend.specs.declared.request.PartEnd.TheVariants.{Moved, Failed}
@@ -267,7 +267,7 @@ module _ (r : RingState) (rests : Rests r) where
       go true runs none = none
       go false runs none = refl
 
-  step_sleeps : (s : RingStep) → is_start s ≡ false → Sleeps (stepped r s)
+  pub step_sleeps : (s : RingStep) → is_start s ≡ false → Sleeps (stepped r s)
   step_sleeps (On Start) not = absurd (cc)
   step_sleeps (On Stop) not = stop_sleeps (is_idle r) r.owes rests.1 rests.2
   step_sleeps (On (Enable on)) not = (refl, rests)

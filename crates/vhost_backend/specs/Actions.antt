@@ -1,6 +1,7 @@
 -- What is to be done for a ring, as a list.
-use Rattle.std.specs.Prelude.{Bool, if◌then◌else◌, List, [], ◌∷◌, ◌++◌, Option, Some, None}
+use Rattle.std.specs.Prelude.{Bool, true, false, if◌then◌else◌, List, [], ◌∷◌, ◌++◌, Option, Some, None}
 use Rattle.vhost_backend.specs.declared.ring.actions.RingAction.{RingAction}
+use Rattle.vhost_backend.specs.declared.ring.actions.RingAction.TheVariants.{Stopped}
 
 abbrev pub listed_one : Option RingAction → List RingAction
 listed_one None = []
@@ -13,3 +14,8 @@ listed first second third = listed_one first ++ (listed_one second ++ listed_one
 -- an action, if it is to be done
 abbrev pub if_so : Bool → RingAction → List RingAction
 if_so is action = if is then action ∷ [] else []
+
+-- whether it answers the message that stopped the ring
+abbrev pub is_answer : RingAction → Bool
+is_answer Stopped = true
+is_answer _ = false

@@ -1,5 +1,8 @@
 pub mod Actions
+pub mod Backend
+pub mod Examples
 pub mod Line
+pub mod Messages
 pub mod Ring
 pub mod Rings
 pub mod Story

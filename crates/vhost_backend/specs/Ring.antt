@@ -36,6 +36,10 @@ abbrev pub is_started : Phase → Bool
 is_started Started = true
 is_started _ = false
 
+abbrev pub is_stopped : Phase → Bool
+is_stopped Stopped = true
+is_stopped _ = false
+
 abbrev pub is_stopping : Phase → Bool
 is_stopping Stopping = true
 is_stopping _ = false

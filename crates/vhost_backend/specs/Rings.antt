@@ -2,7 +2,7 @@
 use Rattle.std.specs.Prelude.{ℕ, ◌-◌, Bool, true, false, ◌&&◌, ◌==◌, nat_lt, if◌then◌else◌, List, [], replicate, slice_get, slice_set, Option, Some, None, is_some}
 use Rattle.std.specs.List.{list_all}
 use Rattle.vhost_backend.specs.Line.{settled, without}
-use Rattle.vhost_backend.specs.Ring.{RingState, Step, after_turn, is_idle, may_run, new_ring, pops, step, wants}
+use Rattle.vhost_backend.specs.Ring.{RingState, Step, after_turn, is_idle, is_stopped, may_run, new_ring, pops, step, wants}
 use Rattle.vhost_backend.specs.declared.ring.RingEvent.{RingEvent}
 use Rattle.vhost_backend.specs.declared.ring.RingEvent.TheVariants.{Popped, Emptied}
 use Rattle.vhost_backend.specs.declared.ring.actions.RingAction.{RingAction}
@@ -140,6 +140,14 @@ may_pop_by s i (Some r) = is_turn s.turn i && may_run r
 
 abbrev pub may_pop : RingsState → ℕ → Bool
 may_pop s i = may_pop_by s i (slice_get s.rings i)
+
+-- whether a ring is stopped, or there is none of this number
+abbrev pub stopped_by : Option RingState → Bool
+stopped_by None = true
+stopped_by (Some r) = is_stopped r.phase
+
+abbrev pub is_stopped_at : RingsState → ℕ → Bool
+is_stopped_at s i = stopped_by (slice_get s.rings i)
 
 -- ---- all of it
 

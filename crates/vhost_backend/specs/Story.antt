@@ -1,12 +1,11 @@
 -- The story of a ring: all that happens to it, what was to be done, and what became of its chains.
 use Rattle.std.specs.Prelude.{ℕ, ◌+◌, ◌-◌, Bool, true, false, ◌&&◌, ◌||◌, not, ◌==◌, if◌then◌else◌, List, [], ◌∷◌, ◌++◌, Option, Some, None, is_some, count_by}
 use Rattle.std.specs.List.{filter, filter_map, list_any, sum_by}
-use Rattle.vhost_backend.specs.Ring.{RingState, Step, after_turn, has_place, is_stopping, may_run, request_at, step}
+use Rattle.vhost_backend.specs.Actions.{is_answer}
+use Rattle.vhost_backend.specs.Ring.{RingState, Step, after_turn, has_place, is_stopped, is_stopping, may_run, request_at, step}
 use Rattle.vhost_backend.specs.declared.request.Chain.{Chain}
 use Rattle.vhost_backend.specs.declared.request.PartEnd.TheVariants.{Moved, Failed}
 use Rattle.vhost_backend.specs.declared.request.Request.{Request}
-use Rattle.vhost_backend.specs.declared.ring.Phase.{Phase}
-use Rattle.vhost_backend.specs.declared.ring.Phase.TheVariants.{Stopped}
 use Rattle.vhost_backend.specs.declared.ring.RingEvent.{RingEvent}
 use Rattle.vhost_backend.specs.declared.ring.RingEvent.TheVariants.{Start, Stop, Kick, Popped, Emptied, Ended}
 use Rattle.vhost_backend.specs.declared.ring.actions.RingAction.{RingAction}
@@ -74,10 +73,6 @@ abbrev pub is_stop : RingStep → Bool
 is_stop (On Stop) = true
 is_stop _ = false
 
-abbrev pub is_answer : RingAction → Bool
-is_answer action.Stopped = true
-is_answer _ = false
-
 -- how many answers there are to messages that stopped a ring
 abbrev pub answers : List RingAction → ℕ
 answers all = count_by is_answer all
@@ -92,10 +87,6 @@ abbrev pub waiting : RingState → ℕ
 waiting r = if is_stopping r.phase then 1 else 0
 
 -- ---- notifications
-
-abbrev pub is_stopped : Phase → Bool
-is_stopped Stopped = true
-is_stopped _ = false
 
 -- whether a ring was notified or started since it was found empty last
 abbrev pub notified_by : Bool → RingState → RingStep → Bool

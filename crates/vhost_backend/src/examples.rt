@@ -1,10 +1,15 @@
 //! Small stories of rings, by computation: each function here is a theorem, and does nothing.
 ghost use Rattle.std.specs.Prelude.{◌≡◌, [], ◌∷◌, true, false, map};
+ghost use Rattle.vhost_backend.specs.Backend.{after_finish};
+ghost use Rattle.vhost_backend.specs.Examples.{base_asked, one_busy_ring, outcomes, table_sent};
+ghost use Rattle.vhost_backend.specs.Messages.{after, all_to_do, ring_actions};
 ghost use Rattle.vhost_backend.specs.Ring.{new_ring};
 ghost use Rattle.vhost_backend.specs.Rings.{new_rings};
 ghost use Rattle.vhost_backend.specs.Story.{On, Turn, actions};
 ghost use Rattle.vhost_backend.specs.Turns.{all_done, turns};
 ghost use Rattle.vhost_backend.specs.Turns as turn;
+ghost use Rattle.vhost_backend.specs.declared.backend.Finish.TheVariants.{At};
+ghost use Rattle.vhost_backend.specs.declared.backend.Outcome.TheVariants.{Begins, Stays};
 ghost use Rattle.vhost_backend.specs.declared.request.PartEnd.TheVariants.{Failed, Moved};
 ghost use Rattle.vhost_backend.specs.declared.ring.RingEvent.TheVariants.{Emptied, Enable, Ended, Kick, Popped, Start, Stop};
 ghost use Rattle.vhost_backend.specs.declared.ring.actions.RingAction.TheVariants as action;
@@ -61,4 +66,23 @@ pub fn a_hold_waits_for_what_is_under_way()
         ∷ event.Ring 0 (Popped (record { id = 3; slots = 1 }) 1 512) ∷ event.Ring 0 (Ended 2 (Moved 512))
         ∷ event.Release ∷ []) (new_rings 2 4))
         ≡ false ∷ false ∷ false ∷ false ∷ false ∷ false ∷ false ∷ true ∷ false ∷ [] }
+{}
+
+/// A message that asks for the base of a ring waits for a request that is under way, and takes effect after that was
+/// returned and the driver told. The base is replied when it is known.
+#[tactic(auto, unfolding(vhost_message::specs::FrontendReq::vring_request_in))]
+pub fn a_base_is_replied_after_all_requests()
+    ensures waits { outcomes (all_to_do base_asked (one_busy_ring 512)) ≡ Stays ∷ Begins ∷ [] }
+    ensures done { ring_actions 0 (all_to_do base_asked (one_busy_ring 512))
+        ≡ action.Return (record { id = 2; slots = 1 }) 512 false ∷ action.Notify ∷ action.Stopped ∷ [] }
+    ensures reply { (after_finish (after base_asked (one_busy_ring 512)) (At 5)).1
+        ≡ (11 ∷ 0 ∷ 0 ∷ 0 ∷ 5 ∷ 0 ∷ 0 ∷ 0 ∷ 8 ∷ 0 ∷ 0 ∷ 0 ∷ 0 ∷ 0 ∷ 0 ∷ 0 ∷ 5 ∷ 0 ∷ 0 ∷ 0 ∷ [], true) }
+{}
+
+/// A new table of memory, which is empty here, takes effect after that request, too, and no chain is popped before that.
+#[tactic(auto, unfolding(vhost_message::specs::Regions::table_in))]
+pub fn a_table_waits_for_all_requests()
+    ensures waits { outcomes (all_to_do table_sent (one_busy_ring 512)) ≡ Stays ∷ Stays ∷ Begins ∷ [] }
+    ensures done { ring_actions 0 (all_to_do table_sent (one_busy_ring 512))
+        ≡ action.Return (record { id = 2; slots = 1 }) 512 false ∷ [] }
 {}

@@ -1,10 +1,11 @@
 //! What holds of all rings, whatever happens: each function here is a theorem, and does nothing.
 ghost use Rattle.std.specs.Prelude.{◌≡◌, ◌⊎◌, ◌+◌, ◌^◌, ◌<◌, ◌≤◌, ◌==◌, ℕ, List, [], ◌∷◌, ◌++◌, true, false, Some, count_by, length, slice_get, sum};
 ghost use Rattle.std.specs.List.{list_all, list_any};
+ghost use Rattle.vhost_backend.specs.Actions.{is_answer};
 ghost use Rattle.vhost_backend.specs.Line.{stands_in};
 ghost use Rattle.vhost_backend.specs.Ring.{RingState, after_end, after_stop, is_idle, is_stopping, may_run, new_ring, request_at, wants};
 ghost use Rattle.vhost_backend.specs.Rings.{RingsState, after_hold, all_idle, happens, has_next, is_free, is_waiting, left_of, may_pop, new_rings};
-ghost use Rattle.vhost_backend.specs.Story.{RingStep, actions, after, all_returned_bytes, answers, busy, ends, failures, has_start, is_answer, moved, notified, of_id, owing, parts_left, popped, returned, returned_failed, served, so_far, stepped, stops, taken, under_way, waiting};
+ghost use Rattle.vhost_backend.specs.Story.{RingStep, actions, after, all_returned_bytes, answers, busy, ends, failures, has_start, moved, notified, of_id, owing, parts_left, popped, returned, returned_failed, served, so_far, stepped, stops, taken, under_way, waiting};
 ghost use Rattle.vhost_backend.specs.Turns.{Waits, actions_of, after_all, all_done, any_touches, before, held_count, holds, is_go_on, is_release, own_actions, starts, story_of, turns, waits_to_hold};
 ghost use Rattle.vhost_backend.specs.Turns as turn;
 ghost use Rattle.vhost_backend.specs.declared.request.Chain.{Chain};

@@ -2,12 +2,15 @@
 //! README.md has the rules.
 #![tactic(auto)]
 
+mod backend;
 pub mod examples;
 pub mod laws;
+pub mod messages_laws;
 mod request;
 mod ring;
 mod rings;
 
+pub use backend::{Backend, Finish, Outcome, Place, Todo};
 pub use request::{Chain, PartEnd};
 pub use ring::{RingAction, RingActions, RingEvent};
 pub use rings::{Actions, Event, Rings, TURN, TURN_BYTES};

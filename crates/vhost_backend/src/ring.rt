@@ -73,7 +73,7 @@ impl Model for Ring {
 
 impl Ring {
     ghost use Rattle.std.specs.Prelude.{IsTrue, Some, is_some};
-    ghost use Rattle.vhost_backend.specs.Ring.{after_break, after_end, after_pop, after_start, after_stop, after_turn, is_idle, may_run, new_ring, part_moved, pops, request_at, returned, step, wants, with_moved};
+    ghost use Rattle.vhost_backend.specs.Ring.{after_break, after_end, after_pop, after_start, after_stop, after_turn, is_idle, is_stopped, may_run, new_ring, part_moved, pops, request_at, returned, step, wants, with_moved};
 
     /// A stopped ring that is not enabled. The ids of its chains are below `ids`.
     pub fn new(alloc: Global, ids: usize) -> Result<Ring, AllocError>
@@ -96,6 +96,17 @@ impl Ring {
     {
         match self.phase {
             Phase::Started => self.enabled,
+            _ => false,
+        }
+    }
+
+    /// Whether it is stopped.
+    #[inline]
+    pub fn is_stopped(&self) -> bool
+        ensures { result ≡ is_stopped self.now.phase }
+    {
+        match self.phase {
+            Phase::Stopped => true,
             _ => false,
         }
     }

@@ -139,7 +139,7 @@ fn turn_of(ring: usize, pops: bool) -> Option<Turn>
     }
 }
 
-fn nothing(ring: usize) -> Actions
+pub(crate) fn nothing(ring: usize) -> Actions
     ensures { result ≡ nothing ring }
 {
     Actions {
@@ -179,7 +179,7 @@ impl Model for Rings {
 
 impl Rings {
     ghost use Rattle.std.specs.Prelude.{length, slice_get};
-    ghost use Rattle.vhost_backend.specs.Rings.{after_go_on, after_hold, after_release, happens, has_next, held, may_pop, new_rings, now_held, on, settled_step, turn_taken};
+    ghost use Rattle.vhost_backend.specs.Rings.{after_go_on, after_hold, after_release, happens, has_next, held, is_stopped_at, may_pop, new_rings, now_held, on, settled_step, turn_taken};
 
     /// Stopped rings. The ids of their chains are below `ids`.
     pub fn new(alloc: Global, count: usize, ids: usize) -> Result<Rings, AllocError>
@@ -195,6 +195,22 @@ impl Rings {
             turn: None,
             hold: Hold::Free,
         })
+    }
+
+    /// How many rings there are.
+    #[inline]
+    pub fn count(&self) -> usize
+        ensures { result ≡ length self.now.rings }
+    {
+        self.rings.len()
+    }
+
+    /// Whether a ring is stopped, or there is none of this number.
+    #[inline]
+    pub fn is_stopped(&self, ring: usize) -> bool
+        ensures { result ≡ is_stopped_at self.now ring }
+    {
+        ring >= self.rings.len() || self.rings[ring].is_stopped()
     }
 
     /// Whether a ring may pop a chain now. A chain that is popped otherwise is ignored.

@@ -1,5 +1,7 @@
 //! What is to be done for a ring.
 ghost use Rattle.std.specs.Prelude.{◌≡◌, if◌then◌else◌};
+ghost use Rattle.std.specs.List.{list_any};
+ghost use Rattle.vhost_backend.specs.Actions.{is_answer, listed_one};
 
 use crate::request::Chain;
 use std::marker::Model;
@@ -45,9 +47,19 @@ fn given(is: bool, action: RingAction) -> Option<RingAction>
     if is { Some(action) } else { None }
 }
 
+fn is_answer(action: Option<RingAction>) -> bool
+    ensures { result ≡ list_any is_answer (listed_one action) }
+{
+    match action {
+        Some(RingAction::Stopped) => true,
+        _ => false,
+    }
+}
+
 impl RingActions {
-    ghost use Rattle.std.specs.Prelude.{[], ◌∷◌, ◌++◌, drop, slice_get};
-    ghost use Rattle.vhost_backend.specs.Actions.{if_so};
+    ghost use Rattle.std.specs.Prelude.{[], ◌∷◌, ◌++◌, ◌==◌, drop, length, slice_get};
+    ghost use Rattle.std.specs.List.{list_any};
+    ghost use Rattle.vhost_backend.specs.Actions.{if_so, is_answer};
 
     /// Takes the first action, if there is one.
     pub fn take_first(&mut self) -> Option<RingAction>
@@ -63,6 +75,22 @@ impl RingActions {
             self.third = None;
         }
         found
+    }
+
+    /// Whether nothing is to be done.
+    #[inline]
+    pub fn is_empty(&self) -> bool
+        ensures { result ≡ (length self.now == 0) }
+    {
+        self.first.is_none() && self.second.is_none() && self.third.is_none()
+    }
+
+    /// Whether the message that stopped the ring is to be answered.
+    #[inline]
+    pub fn has_answer(&self) -> bool
+        ensures { result ≡ list_any is_answer self.now }
+    {
+        is_answer(self.first) || is_answer(self.second) || is_answer(self.third)
     }
 
     pub(crate) fn none() -> RingActions

@@ -1,0 +1,68 @@
+//! What holds of every connection, whatever happens: each function here is a theorem, and does nothing.
+ghost use Rattle.std.specs.Prelude.{◌≡◌, ◌+◌, ◌<◌, ℕ, List, length, true, false, Some, slice_get};
+ghost use Rattle.vhost_message.specs.declared.frontend_req.FrontendReq.{FrontendReq};
+ghost use Rattle.vhost_message.specs.declared.frontend_req.FrontendReq.TheVariants.{GetVringBase};
+ghost use Rattle.vhost_message.specs.declared.header.Header.{Header};
+ghost use Rattle.vhost_message.specs.declared.refusal.Refusal.{Refusal};
+ghost use Rattle.vhost_user.specs.Connection.{Connection};
+ghost use Rattle.vhost_backend.specs.Backend.{BackendState, after_event, after_message, new_backend};
+ghost use Rattle.vhost_backend.specs.Messages.{Happening, after, all_events, all_to_do, changes_all, over_count, pending, ring_actions, taken_count};
+ghost use Rattle.vhost_backend.specs.Ring.{RingState, is_idle};
+ghost use Rattle.vhost_backend.specs.Rings.{all_idle, happens};
+ghost use Rattle.vhost_backend.specs.Turns.{actions_of, after_all, all_done};
+ghost use Rattle.vhost_backend.specs.declared.backend.Outcome.TheVariants.{Refused};
+ghost use Rattle.vhost_backend.specs.declared.backend.Taken.TheVariants as taken;
+ghost use Rattle.vhost_backend.specs.declared.backend.Until.TheVariants as until;
+ghost use Rattle.vhost_backend.specs.declared.ring.Phase.TheVariants.{Stopped};
+ghost use Rattle.vhost_backend.specs.declared.rings.Event.{Event};
+ghost use Rattle.vhost_backend.specs.declared.rings.Hold.TheVariants.{Held};
+
+/// Messages come to events of rings, and what is to be done for rings is done for these. So each law of rings holds
+/// of those of a connection.
+pub fn messages_are_events_of_rings()
+    ensures becomes { (b : BackendState) (xs : List Happening)
+        → (after xs b).rings ≡ after_all (all_events xs b) b.rings }
+    ensures done { (b : BackendState) (xs : List Happening) (ring : ℕ)
+        → ring_actions ring (all_to_do xs b) ≡ actions_of ring (all_done (all_events xs b) b.rings) }
+{}
+
+/// Each message that is taken is refused or finished, once, before the next one is taken.
+pub fn each_message_is_answered_once()
+    ensures { (b : BackendState) (xs : List Happening)
+        → pending b + taken_count xs b ≡ over_count xs b + pending (after xs b) }
+{}
+
+/// A message that changes memory, features or the log takes effect when nothing is under way, and until it is
+/// finished nothing is begun. The base of a ring is replied when nothing of that is under way, and it is stopped.
+pub fn what_a_message_changes_is_at_rest()
+    ensures all { (c : Connection) (ids : ℕ) (xs : List Happening) (h : Header) (request : FrontendReq)
+        → let b = after xs (new_backend c ids) in b.taken ≡ taken.Begun h request → changes_all request ≡ true
+        → (b.rings.hold ≡ Held) × (all_idle b.rings.rings ≡ true) }
+    ensures one { (c : Connection) (ids : ℕ) (xs : List Happening) (h : Header) (i : ℕ) (ring : RingState)
+        → let b = after xs (new_backend c ids) in b.taken ≡ taken.Begun h (GetVringBase i)
+        → slice_get b.rings.rings i ≡ Some ring → (ring.phase ≡ Stopped) × (is_idle ring ≡ true) }
+{}
+
+/// A message that waits does so for something that is under way, whose ends let it take effect.
+pub fn messages_wait_for_what_is_under_way()
+    ensures all { (c : Connection) (ids : ℕ) (xs : List Happening) (h : Header) (request : FrontendReq)
+        → let b = after xs (new_backend c ids) in b.taken ≡ taken.Waits h request until.AllRings
+        → all_idle b.rings.rings ≡ false }
+    ensures one { (c : Connection) (ids : ℕ) (xs : List Happening) (h : Header) (request : FrontendReq) (i : ℕ)
+        (ring : RingState) → let b = after xs (new_backend c ids) in b.taken ≡ taken.Waits h request (until.Ring i)
+        → slice_get b.rings.rings i ≡ Some ring → is_idle ring ≡ false }
+{}
+
+/// A message that is refused changes neither the protocol's state, nor a ring, nor what is under way.
+pub fn refused_messages_change_nothing()
+    ensures comes { (c : Connection) (ids : ℕ) (xs : List Happening) (h : Header) (payload : List ℕ)
+        (descriptors : ℕ)
+        (e : Refusal) (bytes : List ℕ) → let b = after xs (new_backend c ids) in
+        let t = after_message b h payload descriptors in t.1.message ≡ Refused e bytes
+        → (t.0.connection ≡ b.connection) × (t.0.rings.rings ≡ b.rings.rings) }
+
+    // The same of one that waited, beside what happened to a ring meanwhile.
+    ensures waited { (b : BackendState) (event : Event) (e : Refusal) (bytes : List ℕ)
+        → let t = after_event b event in t.1.message ≡ Refused e bytes
+        → (t.0.connection ≡ b.connection) × (t.0.rings.rings ≡ (happens b.rings event).0.rings) }
+{}
