@@ -1,5 +1,5 @@
 -- Where a queue writes its used ring, and where it finds the driver's index.
-use Rattle.std.proofs.Common.{◌≡◌, ◌⊎◌, ◌∙◌, ℕ, ◌%◌, ◌==◌, ◌&&◌, Bool, true, false, if◌then◌else◌, List, [], ◌∷◌, Option, Some, None, Result, Ok, Err, All, IfOk, ap, inl, inr, refl, sym, subst}
+use Rattle.std.proofs.Common.{◌≡◌, ◌⊎◌, ◌∙◌, ℕ, ◌%◌, ◌==◌, ◌&&◌, Bool, true, false, if◌then◌else◌, List, [], ◌∷◌, Option, Some, None, option_map, Result, Ok, Err, All, IfOk, ap, inl, inr, refl, sym, subst}
 use Rattle.std.proofs.lemmas.Bool.{eqb-true}
 use Rattle.std.proofs.lemmas.List.Elements.{All-head}
 use Rattle.std.specs.Int.{w16, from_le_bytes}
@@ -7,11 +7,12 @@ use Rattle.vm_memory_base.specs.declared.iotlb.Permissions.{Permissions}
 use Rattle.vm_memory_base.specs.declared.iotlb.Permissions.TheVariants as permissions
 use Rattle.vm_memory_guest.specs.Access.{Access, AccessFault, allowed, first_fault, meets, path, refusal, stretches}
 use Rattle.vm_memory_guest.specs.Dirt.{path_cells}
+use Rattle.vm_memory_guest.specs.Answer.{Reach}
 use Rattle.vm_memory_guest.specs.Error.{error_of}
 use Rattle.vm_memory_guest.specs.Host.{Host, bytes_at}
 use Rattle.vm_memory_guest.specs.Memory.{Memory, Route, route}
 use Rattle.vm_memory_guest.specs.Typed.{answered, first_aligned, place_of, typed_path}
-use Rattle.vm_memory_guest.specs.Walk.{RefusesAccess, WantsMemory, items_of}
+use Rattle.vm_memory_guest.specs.Walk.{GivesAccess, RefusesAccess, WantsMemory, alone, items_of}
 use Rattle.vm_memory_guest.specs.Window.{Window, cells_of}
 use Rattle.vm_memory_guest.specs.declared.region.error.GuestMemoryError.{GuestMemoryError}
 use Rattle.vm_memory_guest.specs.declared.region.error.GuestMemoryError.TheVariants.{InvalidBackendAddress}
@@ -66,6 +67,19 @@ window_refused m host base offset a access p placed at e (inr (none, is)) =
     let whole : window_at m host base offset access ≡ Err (of_access (error_of (refusal way a 2))) =
     rw (← placed, at) refused in
     inl (ap (λ x. Err (of_access x)) is ∙ sym whole)
+
+-- the window of a number that was found at once
+pub window_alone : {B : Type 0} (m : Memory) (host : Host B) (base offset a : ℕ) (access : Permissions)
+    (p : Result ℕ QueueError) → p ≡ place base offset 2 → p ≡ Ok a → (w : Window)
+    → GivesAccess m host.tables a 2 access (alone w) → is_word w ≡ true
+    → Answers (MayWant m host base offset 2 access) (window_at m host base offset access) (Ok w)
+window_alone m host base offset a access p placed at w (all, gives) word =
+    let one : told (first_aligned 2 (w ∷ []) None) ≡ Ok w =
+    ap (λ (b : Bool). told (if b then Ok w else Err InvalidBackendAddress)) word in
+    let reached = ap (λ (r : Reach AccessFault).
+    told (first_aligned 2 r.windows (option_map error_of r.fault))) gives in
+    let whole : window_at m host base offset access ≡ Ok w = rw (← placed, at) (sym reached ∙ one) in
+    inl (sym whole)
 
 -- ---- places of rings
 

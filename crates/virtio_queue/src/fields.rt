@@ -150,6 +150,11 @@ pub(crate) fn window_at<M: GuestMemory, B: Bitmap>(
     windows_are_the_path();
     names_are_held_one_by_one();
     let addr = GuestAddress(place(base, offset, 2)?);
+    if let (Some(window), _) = mem.find_window(host, addr, 2, access, 0) {
+        if is_word(&window, host) {
+            return Ok(window);
+        }
+    }
     match mem.get_slices(host, addr, 2, access) {
         Ok(walk) => first_word(walk, host),
         Err(error) => Err(QueueError::of_access(error)),

@@ -8,6 +8,7 @@ mod driver;
 mod error;
 pub mod examples;
 mod fields;
+mod hints;
 mod in_flight;
 pub mod laws;
 mod looks;

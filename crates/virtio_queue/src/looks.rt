@@ -8,6 +8,7 @@ ghost use Rattle.virtio_queue.specs.declared.error.QueueError.{QueueError};
 use crate::descriptor::Descriptor;
 use crate::error::QueueError;
 use crate::fields::{descriptor_at, load_word};
+use crate::hints::Near;
 use vm_memory_base::Bitmap;
 use vm_memory_guest::{GuestMemory, HostMemory};
 
@@ -31,22 +32,31 @@ pub trait Looks {
 
 // Guest memory that is lent for a call, of which a contract says what it holds all the while.
 #[derive(Drop)]
-pub(crate) struct Lent<'a, M: GuestMemory, B: Bitmap> {
-    pub(crate) mem: &'a M,
-    pub(crate) host: &'a HostMemory<B>,
+pub(crate) struct Lent<'m, 'h, 'n, M: GuestMemory, B: Bitmap> {
+    pub(crate) mem: &'m M,
+    pub(crate) host: &'h HostMemory<B>,
+    pub(crate) near: &'n Near,
     pub(crate) ghost held: { Holds (shape_of host.now) (M.names mem.now) } by { holds_prop (shape_of host.now) (M.names mem.now) },
 }
 
-impl<M: GuestMemory, B: Bitmap> Looks for Lent<'_, M, B> {
+impl<M: GuestMemory, B: Bitmap> Looks for Lent<'_, '_, '_, M, B> {
     ghost looks = { λ lent s given after. Finds (M.memory lent.mem.now) lent.host.now s given × (after ≡ lent) };
 
     #[inline(always)]
     fn word(&mut self, base: u64, offset: u64) -> Result<u16, QueueError> {
-        load_word(self.mem, self.host, base, offset)
+        let near = self.near;
+        let hinted = near.words.near(self.mem);
+        let found = load_word(&hinted, self.host, base, offset);
+        near.words.keep(&hinted);
+        found
     }
 
     #[inline(always)]
     fn row(&mut self, table: u64, index: u16) -> Result<Descriptor, QueueError> {
-        descriptor_at(self.mem, self.host, table, index)
+        let hint = self.near.of_row(table);
+        let hinted = hint.near(self.mem);
+        let found = descriptor_at(&hinted, self.host, table, index);
+        hint.keep(&hinted);
+        found
     }
 }

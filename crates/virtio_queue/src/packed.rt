@@ -20,6 +20,7 @@ pub use self::position::RingPosition;
 use self::position::are_positions;
 pub use self::state::{PackedBuffer, PackedState};
 use crate::error::QueueError;
+use crate::hints::Hints;
 use crate::queue::BarrierWord;
 use std::marker::Model;
 use vm_memory_base::GuestAddress;
@@ -42,6 +43,8 @@ pub struct PackedQueue {
     added: Option<u32>,
     // What keeps its accesses of guest memory in order: the crate's README.md, "Order".
     barrier: BarrierWord,
+    // Which regions its accesses ask first: the crate's README.md, "Hints".
+    hints: Hints,
 }
 
 impl Model for PackedQueue {
@@ -114,6 +117,7 @@ impl PackedQueue {
             state: new_state(max_size),
             added: Some(0),
             barrier: BarrierWord::new(),
+            hints: Hints::new(),
         })
     }
 
@@ -133,6 +137,7 @@ impl PackedQueue {
             state,
             added: None,
             barrier: BarrierWord::new(),
+            hints: Hints::new(),
         })
     }
 

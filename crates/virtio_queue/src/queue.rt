@@ -11,6 +11,7 @@ mod used;
 pub(crate) use self::barrier::BarrierWord;
 pub use self::notification::{VRING_AVAIL_F_NO_INTERRUPT, VRING_USED_F_NO_NOTIFY};
 use crate::error::QueueError;
+use crate::hints::Hints;
 use crate::state::QueueState;
 use std::marker::Model;
 use vm_memory_base::GuestAddress;
@@ -41,6 +42,8 @@ pub struct Queue {
     added: Option<u32>,
     // What keeps its accesses of guest memory in order: the crate's README.md, "Order".
     barrier: BarrierWord,
+    // Which regions its accesses ask first: the crate's README.md, "Hints".
+    hints: Hints,
 }
 
 impl Model for Queue {
@@ -111,6 +114,7 @@ impl Queue {
             state: new_state(max_size),
             added: Some(0),
             barrier: BarrierWord::new(),
+            hints: Hints::new(),
         })
     }
 
@@ -129,6 +133,7 @@ impl Queue {
             state,
             added: None,
             barrier: BarrierWord::new(),
+            hints: Hints::new(),
         })
     }
 

@@ -9,6 +9,7 @@ ghost use Rattle.virtio_queue.specs.declared.error.QueueError.{QueueError};
 
 use crate::error::QueueError;
 use crate::fields::{load_in, room_at, store_in, window_at, write_pair, write_rest};
+use crate::hints::Hint;
 use vm_memory_base::{Bitmap, Permissions};
 use vm_memory_guest::laws::effects::{writes_keep_shapes, written_is_read_back};
 use vm_memory_guest::laws::typed::loads_and_stores_are_by_bytes;
@@ -109,6 +110,9 @@ pub trait Stores<H> {
 #[derive(Drop)]
 pub(crate) struct Whole<'a, M: GuestMemory> {
     pub(crate) mem: &'a M,
+    // The hints of the area to which it stores, and of that at which it looks.
+    pub(crate) stores: Hint,
+    pub(crate) looks: Hint,
 }
 
 impl<M: GuestMemory, B: Bitmap> Stores<HostMemory<B>> for Whole<'_, M> {
@@ -126,7 +130,10 @@ impl<M: GuestMemory, B: Bitmap> Stores<HostMemory<B>> for Whole<'_, M> {
         offset: u64,
         size: u64,
     ) -> Result<u64, QueueError> {
-        room_at(self.mem, host, base, offset, size)
+        let hinted = self.stores.near(self.mem);
+        let found = room_at(&hinted, host, base, offset, size);
+        self.stores.keep(&hinted);
+        found
     }
 
     #[inline(always)]
@@ -137,7 +144,14 @@ impl<M: GuestMemory, B: Bitmap> Stores<HostMemory<B>> for Whole<'_, M> {
         base: u64,
         offset: u64,
     ) -> Result<VolatileSlice, QueueError> {
-        window_at(self.mem, host, base, offset, access)
+        let hint = match access {
+            Permissions::Read => &self.looks,
+            _ => &self.stores,
+        };
+        let hinted = hint.near(self.mem);
+        let found = window_at(&hinted, host, base, offset, access);
+        hint.keep(&hinted);
+        found
     }
 
     #[inline(always)]
@@ -151,7 +165,8 @@ impl<M: GuestMemory, B: Bitmap> Stores<HostMemory<B>> for Whole<'_, M> {
         second: u32,
     ) -> Result<(), QueueError> {
         writes_keep_shapes::<B>();
-        write_pair(self.mem, host, addr, first, second)
+        let hinted = self.stores.near(self.mem);
+        write_pair(&hinted, host, addr, first, second)
     }
 
     #[inline(always)]
@@ -165,7 +180,8 @@ impl<M: GuestMemory, B: Bitmap> Stores<HostMemory<B>> for Whole<'_, M> {
         id: u16,
     ) -> Result<(), QueueError> {
         writes_keep_shapes::<B>();
-        write_rest(self.mem, host, addr, len, id)
+        let hinted = self.stores.near(self.mem);
+        write_rest(&hinted, host, addr, len, id)
     }
 
     #[inline(always)]

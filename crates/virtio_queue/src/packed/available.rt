@@ -40,8 +40,15 @@ impl PackedQueue {
         ensures none { result ≡ Ok None → has_next (M.memory mem.now) host.now self.old.state ≡ Ok false }
         ensures moved { self.new ≡ with_state self.old (after_pop self.old.state result) }
     {
-        let mut lent = Lent { mem, host };
-        self.pop_from(alloc, &mut lent)
+        let near = self.hints.of_packed_pop(self.state.desc_ring);
+        let mut lent = Lent {
+            mem,
+            host,
+            near: &near,
+        };
+        let found = self.pop_from(alloc, &mut lent);
+        self.hints.keep_packed_pop(&near);
+        found
     }
 
     /// As `pop_descriptor_chain`, from memory that a driver may write meanwhile. Whatever it writes: this looks at the

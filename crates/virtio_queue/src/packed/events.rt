@@ -10,6 +10,7 @@ use super::descriptor::is_available;
 use super::position::RingPosition;
 use super::state::PackedState;
 use crate::error::QueueError;
+use crate::hints::Near;
 use crate::looks::{Lent, Looks};
 use crate::queue::BarrierWord;
 use crate::stores::{Stores, Whole};
@@ -109,8 +110,15 @@ impl PackedQueue {
             Answers (MayWantAny m host.now (needing self.old)) (needs_notification m host.now self.old) result }
         ensures asked { self.new ≡ after_asked self.old result }
     {
-        let mut lent = Lent { mem, host };
-        self.needs_notification_from(&mut lent)
+        let near = Near::of_words(&self.hints.driver);
+        let mut lent = Lent {
+            mem,
+            host,
+            near: &near,
+        };
+        let found = self.needs_notification_from(&mut lent);
+        self.hints.driver.set(&near.words);
+        found
     }
 
     /// As `needs_notification`, from memory that a driver may write meanwhile. Whatever it writes: this looks at the
@@ -146,7 +154,15 @@ impl PackedQueue {
     {
         other_bytes_stay();
         writes_keep_shapes::<B>();
-        self.enable_notification_in(&Whole { mem }, host)
+        let whole = Whole {
+            mem,
+            stores: self.hints.device.copied(),
+            looks: self.hints.descriptors.copied(),
+        };
+        let done = self.enable_notification_in(&whole, host);
+        self.hints.device.set(&whole.stores);
+        self.hints.descriptors.set(&whole.looks);
+        done
     }
 
     /// As `enable_notification`, in memory that a driver may write meanwhile. Whatever it writes: this looks all places
@@ -188,7 +204,14 @@ impl PackedQueue {
         ensures disabled { Disables B.marks (M.memory mem.now) self.now.state host.old result host.new }
         ensures shape { shape_of host.new ≡ shape_of host.old }
     {
-        self.disable_notification_in(&Whole { mem }, host)
+        let whole = Whole {
+            mem,
+            stores: self.hints.device.copied(),
+            looks: self.hints.descriptors.copied(),
+        };
+        let done = self.disable_notification_in(&whole, host);
+        self.hints.device.set(&whole.stores);
+        done
     }
 
     /// As `disable_notification`, in memory that a driver may write meanwhile.

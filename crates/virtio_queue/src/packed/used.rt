@@ -94,7 +94,14 @@ impl PackedQueue {
         ensures moved { self.new ≡ after_used self.old buffer result }
         ensures shape { shape_of host.new ≡ shape_of host.old }
     {
-        self.add_used_in(&Whole { mem }, host, buffer, len)
+        let whole = Whole {
+            mem,
+            stores: self.hints.descriptors.copied(),
+            looks: self.hints.driver.copied(),
+        };
+        let done = self.add_used_in(&whole, host, buffer, len);
+        self.hints.descriptors.set(&whole.stores);
+        done
     }
 
     /// As `add_used`, in memory that a driver may write meanwhile. Whatever it writes: this looks both places up, writes

@@ -11,6 +11,7 @@ use super::Queue;
 use super::barrier::BarrierWord;
 use crate::chain::chain_at;
 use crate::error::QueueError;
+use crate::hints::Near;
 use crate::looks::{Lent, Looks};
 use crate::state::QueueState;
 use std::alloc::Global;
@@ -59,8 +60,15 @@ impl Queue {
         ensures { let m = M.memory mem.now in let q = self.now.state in
             Answers (MayWantIdx m host.now q) (avail_idx m host.now q) result }
     {
-        let mut lent = Lent { mem, host };
-        self.avail_idx_from(&mut lent)
+        let near = Near::of_words(&self.hints.driver);
+        let mut lent = Lent {
+            mem,
+            host,
+            near: &near,
+        };
+        let found = self.avail_idx_from(&mut lent);
+        self.hints.driver.set(&near.words);
+        found
     }
 
     /// As `avail_idx`, from memory that a driver may write meanwhile.
@@ -96,8 +104,15 @@ impl Queue {
             result ≡ Ok None → avail_idx (M.memory mem.now) host.now q ≡ Ok q.next_avail }
         ensures moved { self.new ≡ with_state self.old (after_pop self.old.state result) }
     {
-        let mut lent = Lent { mem, host };
-        self.pop_from(alloc, &mut lent)
+        let near = self.hints.of_split_pop(self.state.desc_table);
+        let mut lent = Lent {
+            mem,
+            host,
+            near: &near,
+        };
+        let found = self.pop_from(alloc, &mut lent);
+        self.hints.keep_split_pop(&near);
+        found
     }
 
     /// As `pop_descriptor_chain`, from memory that a driver may write meanwhile. Whatever it writes: this looks at the

@@ -7,6 +7,7 @@ ghost use Rattle.virtio_queue.specs.Notification.{Disables, EnablesIfReady, Wait
 
 use super::Queue;
 use crate::error::QueueError;
+use crate::hints::Near;
 use crate::looks::{Lent, Looks};
 use crate::state::QueueState;
 use crate::stores::{Stores, Whole};
@@ -87,8 +88,15 @@ impl Queue {
             Answers (MayWantAny m host.now (needing self.old)) (needs_notification m host.now self.old) result }
         ensures asked { self.new ≡ after_asked self.old result }
     {
-        let mut lent = Lent { mem, host };
-        self.needs_notification_from(&mut lent)
+        let near = Near::of_words(&self.hints.driver);
+        let mut lent = Lent {
+            mem,
+            host,
+            near: &near,
+        };
+        let found = self.needs_notification_from(&mut lent);
+        self.hints.driver.set(&near.words);
+        found
     }
 
     /// As `needs_notification`, from memory that a driver may write meanwhile. Whatever it writes: this looks once, at
@@ -123,7 +131,15 @@ impl Queue {
         ensures waits { result ≡ Ok false → Waits (M.memory mem.now) host.new self.now.state }
         ensures shape { shape_of host.new ≡ shape_of host.old }
     {
-        self.enable_notification_in(&Whole { mem }, host)
+        let whole = Whole {
+            mem,
+            stores: self.hints.device.copied(),
+            looks: self.hints.driver.copied(),
+        };
+        let done = self.enable_notification_in(&whole, host);
+        self.hints.device.set(&whole.stores);
+        self.hints.driver.set(&whole.looks);
+        done
     }
 
     /// As `enable_notification`, in memory that a driver may write meanwhile. Whatever it writes: this looks both places
@@ -161,7 +177,14 @@ impl Queue {
         ensures disabled { Disables B.marks (M.memory mem.now) self.now.state host.old result host.new }
         ensures shape { shape_of host.new ≡ shape_of host.old }
     {
-        self.disable_notification_in(&Whole { mem }, host)
+        let whole = Whole {
+            mem,
+            stores: self.hints.device.copied(),
+            looks: self.hints.driver.copied(),
+        };
+        let done = self.disable_notification_in(&whole, host);
+        self.hints.device.set(&whole.stores);
+        done
     }
 
     /// As `disable_notification`, in memory that a driver may write meanwhile.

@@ -8,6 +8,7 @@ ghost use Rattle.virtio_queue.specs.Used.{AddsUsed, MayWantUsedIdx, MayWantValid
 use super::Queue;
 use crate::error::QueueError;
 use crate::fields::lies_whole;
+use crate::hints::Near;
 use crate::looks::{Lent, Looks};
 use crate::stores::{Stores, Whole};
 use vm_memory_base::{Bitmap, Permissions};
@@ -56,8 +57,15 @@ impl Queue {
         ensures { let m = M.memory mem.now in let q = self.now.state in
             Answers (MayWantUsedIdx m host.now q) (used_idx m host.now q) result }
     {
-        let mut lent = Lent { mem, host };
-        self.used_idx_from(&mut lent)
+        let near = Near::of_words(&self.hints.device);
+        let mut lent = Lent {
+            mem,
+            host,
+            near: &near,
+        };
+        let found = self.used_idx_from(&mut lent);
+        self.hints.device.set(&near.words);
+        found
     }
 
     /// As `used_idx`, from memory that a driver may write meanwhile.
@@ -89,7 +97,14 @@ impl Queue {
         ensures moved { self.new ≡ after_used self.old result }
         ensures shape { shape_of host.new ≡ shape_of host.old }
     {
-        self.add_used_in(&Whole { mem }, host, head, len)
+        let whole = Whole {
+            mem,
+            stores: self.hints.device.copied(),
+            looks: self.hints.driver.copied(),
+        };
+        let done = self.add_used_in(&whole, host, head, len);
+        self.hints.device.set(&whole.stores);
+        done
     }
 
     /// As `add_used`, in memory that a driver may write meanwhile. Whatever it writes: this looks both places up, writes

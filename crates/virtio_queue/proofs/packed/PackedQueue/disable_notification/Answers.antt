@@ -4,9 +4,9 @@ use Rattle.virtio_queue.proofs.packed.PackedQueue.disable_notification.Goals as 
 pub returns-clause-disabled : goal.returns-clause-disabled
 returns-clause-disabled g c =
     (packed_disabled g.B.Bitmap.marks (g.M.GuestMemory.memory c.args.mem.now) c.args.self.now.state c.args.host.now
-    c.disable_notification_in.new.host c.disable_notification_in.result c.disable_notification_in.ensures.stores).0
+    c.disable_notification_in-done.new.host c.disable_notification_in-done.result c.disable_notification_in-done.ensures.stores).0
 
 pub returns-clause-shape : goal.returns-clause-shape
 returns-clause-shape g c =
     (packed_disabled g.B.Bitmap.marks (g.M.GuestMemory.memory c.args.mem.now) c.args.self.now.state c.args.host.now
-    c.disable_notification_in.new.host c.disable_notification_in.result c.disable_notification_in.ensures.stores).1
+    c.disable_notification_in-done.new.host c.disable_notification_in-done.result c.disable_notification_in-done.ensures.stores).1

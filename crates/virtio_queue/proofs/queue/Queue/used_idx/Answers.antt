@@ -4,6 +4,6 @@ use Rattle.virtio_queue.proofs.queue.Queue.used_idx.Goals as goal
 pub returns : goal.returns
 returns g c =
     let q = c.args.self.now.state in
-    let r = c.used_idx_from in
+    let r = c.used_idx_from-found in
     index_held (g.M.GuestMemory.memory c.args.mem.now) c.args.host.now _ _ (λ p found new looked. looked) q.used_ring
     q.ready r.new.looks r.result r.ensures

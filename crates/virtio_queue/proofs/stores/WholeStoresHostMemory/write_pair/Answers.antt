@@ -5,14 +5,16 @@ use Rattle.virtio_queue.proofs.stores.WholeStoresHostMemory.write_pair.Goals as 
 
 pub write_pair-requires-clause-whole : goal.write_pair-requires-clause-whole
 write_pair-requires-clause-whole g c =
-    room_whole (g.M.GuestMemory.memory c.args.self.now.mem.now) c.args.host.now c.args.base c.args.offset 8 c.args.addr
-    c.requires.found
+    rw c.near-hinted.ensures
+    (room_whole (g.M.GuestMemory.memory c.args.self.now.mem.now) c.args.host.now c.args.base c.args.offset 8 c.args.addr
+    c.requires.found)
 
 pub returns-clause-step : goal.returns-clause-step
 returns-clause-step g c =
     let bytes = to_le_bytes w32 c.args.first ++ to_le_bytes w32 c.args.second in
     bytes_step g.B.Bitmap.marks (g.M.GuestMemory.memory c.args.self.now.mem.now) c.args.addr bytes c.args.host.now
-    c.write_pair.new.host c.args.base c.args.offset c.requires.found c.write_pair.result c.write_pair.ensures.written c.write_pair.ensures.shape
+    c.write_pair.new.host c.args.base c.args.offset c.requires.found c.write_pair.result
+    (rw c.near-hinted.ensures at c.write_pair.ensures.written) c.write_pair.ensures.shape
 
 pub returns-clause-stay : goal.returns-clause-stay
 returns-clause-stay g c =
@@ -20,4 +22,4 @@ returns-clause-stay g c =
     let bytes = to_le_bytes w32 c.args.first ++ to_le_bytes w32 c.args.second in
     is_at_stays m c.args.host.now c.write_pair.new.host
     (tables_stay g.B.Bitmap.marks m c.args.addr bytes c.args.host.now c.write_pair.new.host c.writes_keep_shapes.ensures.tables
-    c.write_pair.result c.write_pair.ensures.written) c.write_pair.ensures.shape
+    c.write_pair.result (rw c.near-hinted.ensures at c.write_pair.ensures.written)) c.write_pair.ensures.shape
