@@ -3,7 +3,6 @@ mod AskingLemmas
 mod FieldLemmas
 mod FlagLemmas
 mod HistoryLemmas
-mod InFlightLemmas
 mod LawLemmas
 mod LinkedLemmas
 mod LookLemmas

@@ -6,7 +6,6 @@ pub mod Error
 pub mod Fields
 pub mod History
 pub mod Holding
-pub mod InFlight
 pub mod Linked
 pub mod Looks
 pub mod Notification

@@ -9,7 +9,6 @@ mod error;
 pub mod examples;
 mod fields;
 mod hints;
-mod in_flight;
 pub mod laws;
 mod looks;
 mod packed;
@@ -22,7 +21,6 @@ pub use any::AnyQueue;
 pub use descriptor::{Descriptor, VRING_DESC_F_INDIRECT, VRING_DESC_F_NEXT, VRING_DESC_F_WRITE};
 pub use driver::{DriverQueue, QueueField};
 pub use error::QueueError;
-pub use in_flight::{InFlight, chains_in_flight_end_once};
 pub use looks::Looks;
 pub use packed::{
     PackedBuffer, PackedDescriptor, PackedDriver, PackedField, PackedQueue, PackedState,
