@@ -3,6 +3,7 @@ pub mod Backend
 pub mod Examples
 pub mod Line
 pub mod Messages
+pub mod Parts
 pub mod Ring
 pub mod Rings
 pub mod Story

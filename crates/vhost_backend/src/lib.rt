@@ -6,11 +6,13 @@ mod backend;
 pub mod examples;
 pub mod laws;
 pub mod messages_laws;
+mod parts;
 mod request;
 mod ring;
 mod rings;
 
 pub use backend::{Backend, Finish, Outcome, Place, Todo};
+pub use parts::{PART, Part, next_part, parts_are_the_data_in_order, parts_of};
 pub use request::{Chain, PartEnd};
 pub use ring::{RingAction, RingActions, RingEvent};
 pub use rings::{Actions, Event, Rings, TURN, TURN_BYTES};
