@@ -12,6 +12,7 @@ mod accesses;
 pub mod command;
 mod copies;
 pub mod journal;
+mod kept;
 mod layouts;
 pub mod lend;
 pub mod list;
@@ -32,12 +33,13 @@ use crate::laws::machine::{
     accesses_go_through_what_was_set_last, runs_keep_images, runs_keep_layouts,
 };
 use command::{Command, Reply};
+use kept::KeptMemory;
 use refusal::{checked, done, laid_out, memory_made, told};
 use std::alloc::{AllocError, Global};
 use std::marker::Model;
 use std::sync::Arc;
 use vm_memory_base::ExactBitmap;
-use vm_memory_device::{Iommu, MachineMemory};
+use vm_memory_device::Iommu;
 use vm_memory_guest::laws::host::blocks_are_short;
 use vm_memory_guest::{GuestMemoryRegion, GuestRegionCollection, HostMemory};
 
@@ -50,7 +52,7 @@ pub struct Machine<R: GuestMemoryRegion, I: Iommu, B> {
     regions: Vec<Arc<R>>,
     translators: Vec<Arc<I>>,
     layouts: Vec<GuestRegionCollection<R>>,
-    memories: Vec<MachineMemory<R, I>>,
+    memories: Vec<KeptMemory<R, I>>,
 }
 
 impl<R: GuestMemoryRegion, I: Iommu, B> Model for Machine<R, I, B> {

@@ -3,11 +3,9 @@ ghost use Rattle.std.specs.Prelude.{◌≡◌, ◌⊎◌, ◌≤◌, true, false
 ghost use Rattle.vm_memory_base.specs.declared.iotlb.Permissions.TheVariants as permissions;
 ghost use Rattle.vm_memory_guest.specs.Dirt.{with_pages};
 ghost use Rattle.vm_memory_guest.specs.Host.{shape_of, Holds};
-ghost use Rattle.vm_memory_guest.specs.Memory.{memory_names};
 ghost use Rattle.vm_memory_guest.specs.Walk.{NeedsPieces};
 ghost use Rattle.vm_memory.specs.Calls.{ReadsInto, filled_from};
 ghost use Rattle.vm_memory.specs.Machine.{Step};
-ghost use Rattle.vm_memory_device.specs.Memories.{memory_meant};
 ghost use Rattle.vm_memory.specs.Parts.{state_of};
 ghost use Rattle.vm_memory.specs.Reply.{as_done, checks, reads, reads_whole, replied, writes};
 ghost use Rattle.vm_memory.specs.declared.machine.command.Command.TheVariants as command;
@@ -17,7 +15,7 @@ ghost use Rattle.vm_memory.specs.declared.machine.refusal.Refusal.TheVariants as
 use super::Machine;
 use super::refusal::Refusal;
 use vm_memory_base::{ExactBitmap, GuestAddress, Permissions};
-use vm_memory_device::{Iommu, MachineMemory};
+use vm_memory_device::Iommu;
 use vm_memory_guest::laws::accesses::accesses_are_by_bytes;
 use vm_memory_guest::{Bytes, GuestMemory, GuestMemoryRegion, HostMemory};
 
@@ -35,7 +33,7 @@ impl<R: GuestMemoryRegion, I: Iommu, B: ExactBitmap> Machine<R, I, B> {
         let Some(memory) = self.memories.get(memory) else {
             return Err(Refusal::NoSuch);
         };
-        read_of(memory, &self.host, addr, buf)
+        read_any(memory, &self.host, addr, buf)
     }
 
     /// Fills the whole buffer from a memory. If only its beginning can be filled, it fills that, and the fault
@@ -54,7 +52,7 @@ impl<R: GuestMemoryRegion, I: Iommu, B: ExactBitmap> Machine<R, I, B> {
         let Some(memory) = self.memories.get(memory) else {
             return Err(Refusal::NoSuch);
         };
-        fill_of(memory, &self.host, addr, buf)
+        fill_any(memory, &self.host, addr, buf)
     }
 
     /// Writes the beginning of the buffer that fits to a memory, and returns how many bytes that is. `NoSuch` if there
@@ -68,7 +66,7 @@ impl<R: GuestMemoryRegion, I: Iommu, B: ExactBitmap> Machine<R, I, B> {
         let Some(memory) = self.memories.get(memory) else {
             return Err(Refusal::NoSuch);
         };
-        write_to(memory, &mut self.host, addr, buf)
+        write_any(memory, &mut self.host, addr, buf)
     }
 
     /// Writes the whole buffer to a memory. If only its beginning fits, it writes that, and the fault says how long
@@ -87,7 +85,7 @@ impl<R: GuestMemoryRegion, I: Iommu, B: ExactBitmap> Machine<R, I, B> {
         let Some(memory) = self.memories.get(memory) else {
             return Err(Refusal::NoSuch);
         };
-        write_whole_to(memory, &mut self.host, addr, buf)
+        write_whole_any(memory, &mut self.host, addr, buf)
     }
 
     /// Whether each of `count` bytes of a memory may be accessed so, and has a byte of the host. `NoSuch` if there
@@ -109,94 +107,7 @@ impl<R: GuestMemoryRegion, I: Iommu, B: ExactBitmap> Machine<R, I, B> {
     }
 }
 
-// Reads a memory into the beginning of a buffer. Its kind is asked first, so that a walk of either kind is known.
-#[inline(always)]
-fn read_of<R: GuestMemoryRegion, I: Iommu, B: ExactBitmap>(
-    memory: &MachineMemory<R, I>,
-    host: &HostMemory<B>,
-    addr: GuestAddress,
-    buf: &mut [u8],
-) -> Result<usize, Refusal>
-    requires { Holds (shape_of host.now) (memory_names (memory_meant R.region I.number memory.now)) }
-    ensures answer { let m = memory_meant R.region I.number memory.now in let before = with_pages B.pages host.now in
-        ((replied (λ count. reply.Bytes (take count buf.new)) result ≡ reads m before addr.0 (length buf.old))
-        × (buf.new ≡ filled_from (Some m) before addr.0 buf.old))
-        ⊎ ((result ≡ Err refusal.Memory) × NeedsPieces m before.tables addr.0 (length buf.old) permissions.Read
-        × (buf.new ≡ buf.old)) }
-    ensures at_most { IfOk result (λ count. count ≤ length buf.old) }
-{
-    match memory {
-        MachineMemory::Plain(layout) => read_any(layout, host, addr, buf),
-        MachineMemory::Translated(memory) => read_any(memory, host, addr, buf),
-    }
-}
-
-// Fills a buffer from a memory.
-#[inline(always)]
-fn fill_of<R: GuestMemoryRegion, I: Iommu, B: ExactBitmap>(
-    memory: &MachineMemory<R, I>,
-    host: &HostMemory<B>,
-    addr: GuestAddress,
-    buf: &mut [u8],
-) -> Result<(), Refusal>
-    requires { Holds (shape_of host.now) (memory_names (memory_meant R.region I.number memory.now)) }
-    ensures { let m = memory_meant R.region I.number memory.now in let before = with_pages B.pages host.now in
-        ((replied (λ filled. reply.Bytes buf.new) result ≡ reads_whole m before addr.0 (length buf.old))
-        × (buf.new ≡ filled_from (Some m) before addr.0 buf.old))
-        ⊎ ((result ≡ Err refusal.Memory) × NeedsPieces m before.tables addr.0 (length buf.old) permissions.Read
-        × (buf.new ≡ buf.old)) }
-{
-    match memory {
-        MachineMemory::Plain(layout) => fill_any(layout, host, addr, buf),
-        MachineMemory::Translated(memory) => fill_any(memory, host, addr, buf),
-    }
-}
-
-// Writes the beginning of a buffer that fits to a memory.
-#[inline(always)]
-fn write_to<R: GuestMemoryRegion, I: Iommu, B: ExactBitmap>(
-    memory: &MachineMemory<R, I>,
-    host: &mut HostMemory<B>,
-    addr: GuestAddress,
-    buf: &[u8],
-) -> Result<usize, Refusal>
-    requires { Holds (shape_of host.old) (memory_names (memory_meant R.region I.number memory.now)) }
-    ensures written { let m = memory_meant R.region I.number memory.now in let before = with_pages B.pages host.old in
-        let after = with_pages B.pages host.new in
-        ((replied reply.Count result, after) ≡ writes false m before addr.0 buf.now)
-        ⊎ ((result ≡ Err refusal.Memory) × NeedsPieces m before.tables addr.0 (length buf.now) permissions.Write
-        × (after ≡ before)) }
-    ensures shape { shape_of host.new ≡ shape_of host.old }
-{
-    match memory {
-        MachineMemory::Plain(layout) => write_any(layout, host, addr, buf),
-        MachineMemory::Translated(memory) => write_any(memory, host, addr, buf),
-    }
-}
-
-// Writes a whole buffer to a memory.
-#[inline(always)]
-fn write_whole_to<R: GuestMemoryRegion, I: Iommu, B: ExactBitmap>(
-    memory: &MachineMemory<R, I>,
-    host: &mut HostMemory<B>,
-    addr: GuestAddress,
-    buf: &[u8],
-) -> Result<(), Refusal>
-    requires { Holds (shape_of host.old) (memory_names (memory_meant R.region I.number memory.now)) }
-    ensures written { let m = memory_meant R.region I.number memory.now in let before = with_pages B.pages host.old in
-        let after = with_pages B.pages host.new in
-        ((replied as_done result, after) ≡ writes true m before addr.0 buf.now)
-        ⊎ ((result ≡ Err refusal.Memory) × NeedsPieces m before.tables addr.0 (length buf.now) permissions.Write
-        × (after ≡ before)) }
-    ensures shape { shape_of host.new ≡ shape_of host.old }
-{
-    match memory {
-        MachineMemory::Plain(layout) => write_whole_any(layout, host, addr, buf),
-        MachineMemory::Translated(memory) => write_whole_any(memory, host, addr, buf),
-    }
-}
-
-// Reads any guest memory into the beginning of a buffer.
+// Reads a memory into the beginning of a buffer.
 #[inline(always)]
 fn read_any<M: GuestMemory, B: ExactBitmap>(
     memory: &M,
@@ -219,7 +130,7 @@ fn read_any<M: GuestMemory, B: ExactBitmap>(
     }
 }
 
-// Fills a buffer from any guest memory.
+// Fills a buffer from a memory.
 #[inline(always)]
 fn fill_any<M: GuestMemory, B: ExactBitmap>(
     memory: &M,
@@ -241,7 +152,7 @@ fn fill_any<M: GuestMemory, B: ExactBitmap>(
     }
 }
 
-// Writes the beginning of a buffer that fits to any guest memory.
+// Writes the beginning of a buffer that fits to a memory.
 #[inline(always)]
 fn write_any<M: GuestMemory, B: ExactBitmap>(
     memory: &M,
@@ -264,7 +175,7 @@ fn write_any<M: GuestMemory, B: ExactBitmap>(
     }
 }
 
-// Writes a whole buffer to any guest memory.
+// Writes a whole buffer to a memory.
 #[inline(always)]
 fn write_whole_any<M: GuestMemory, B: ExactBitmap>(
     memory: &M,

@@ -31,10 +31,12 @@ impl<R: GuestMemoryRegion, I: Iommu, B: Bitmap> Machine<R, I, B> {
     pub fn lend<W: Work<B>>(&mut self, memory: usize, work: &mut W) -> Result<(), Refusal>
         ensures { Lends R.region I.number W.does self.old memory work.old result work.new self.new }
     {
-        match self.memories.get(memory) {
-            Some(MachineMemory::Plain(layout)) => work.work(layout, &mut self.host),
-            Some(MachineMemory::Translated(memory)) => work.work(memory, &mut self.host),
-            None => return Err(Refusal::NoSuch),
+        let Some(memory) = self.memories.get(memory) else {
+            return Err(Refusal::NoSuch);
+        };
+        match memory.kind() {
+            MachineMemory::Plain(layout) => work.work(layout, &mut self.host),
+            MachineMemory::Translated(memory) => work.work(memory, &mut self.host),
         }
         Ok(())
     }

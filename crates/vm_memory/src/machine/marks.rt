@@ -65,7 +65,7 @@ impl<R: GuestMemoryRegion, I: Iommu, B: ExactBitmap> Machine<R, I, B> {
         let Some(memory) = self.memories.get(memory) else {
             return Err(Refusal::NoSuch);
         };
-        mark_any(self.alloc, memory, &mut self.host, addr, count)
+        mark_any(self.alloc, memory.kind(), &mut self.host, addr, count)
     }
 }
 

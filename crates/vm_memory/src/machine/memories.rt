@@ -1,7 +1,7 @@
 //! The commands that make memories and turn their IOMMUs on and off.
 ghost use Rattle.std.specs.Prelude.{◌≡◌, ◌⊎◌, ◌++◌, ◌∷◌, [], length, slice_get, Ok, Err};
 ghost use Rattle.vm_memory.specs.Machine.{Step};
-ghost use Rattle.vm_memory.specs.Memories.{table_told, turned_memory};
+ghost use Rattle.vm_memory.specs.Memories.{table_told};
 ghost use Rattle.vm_memory.specs.Parts.{HoldsMemory, state_of};
 ghost use Rattle.vm_memory.specs.Reply.{as_done, replied};
 ghost use Rattle.vm_memory.specs.declared.machine.command.Command.TheVariants as command;
@@ -9,7 +9,9 @@ ghost use Rattle.vm_memory.specs.declared.machine.command.Reply.TheVariants as r
 ghost use Rattle.vm_memory.specs.declared.machine.refusal.Refusal.TheVariants as refusal;
 
 use super::Machine;
+use super::kept::KeptMemory;
 use super::refusal::Refusal;
+use std::cell::Cell;
 use vm_memory_base::ExactBitmap;
 use vm_memory_device::{Iommu, IommuMemory, MachineMemory};
 use vm_memory_guest::{GuestMemoryRegion, SpaceId};
@@ -93,7 +95,7 @@ impl<R: GuestMemoryRegion, I: Iommu, B: ExactBitmap> Machine<R, I, B> {
         let Some(memory) = self.memories.get_mut(memory) else {
             return Err(Refusal::NoSuch);
         };
-        turn(memory, on)
+        memory.turn(on)
     }
 
     /// The number of the table that translates the addresses of a memory, if its IOMMU is on. `NoSuch` if there is no such
@@ -102,12 +104,14 @@ impl<R: GuestMemoryRegion, I: Iommu, B: ExactBitmap> Machine<R, I, B> {
         ensures { let now = state_of R.region I.number B.pages self.now in
             result ≡ table_told (slice_get now.memories memory) }
     {
-        match self.memories.get(memory) {
-            Some(MachineMemory::Translated(memory)) if memory.get_iommu_enabled() => {
+        let Some(memory) = self.memories.get(memory) else {
+            return Err(Refusal::NoSuch);
+        };
+        match memory.kind() {
+            MachineMemory::Translated(memory) if memory.get_iommu_enabled() => {
                 Ok(Some(memory.iommu().table().0))
             }
-            Some(_) => Ok(None),
-            None => Err(Refusal::NoSuch),
+            _ => Ok(None),
         }
     }
 
@@ -120,25 +124,10 @@ impl<R: GuestMemoryRegion, I: Iommu, B: ExactBitmap> Machine<R, I, B> {
     {
         memory.known();
         let number = self.memories.len();
-        if self.memories.push(memory).is_err() {
+        let hint = Cell::new(0);
+        if self.memories.push(KeptMemory { memory, hint }).is_err() {
             return Err(Refusal::Memory);
         }
         Ok(number)
-    }
-}
-
-// Turns the IOMMU of a memory on or off, if it has one.
-fn turn<R: GuestMemoryRegion, I: Iommu>(
-    memory: &mut MachineMemory<R, I>,
-    on: bool,
-) -> Result<(), Refusal>
-    ensures { (replied as_done result, memory.new) ≡ turned_memory memory.old on }
-{
-    match memory {
-        MachineMemory::Plain(_) => Err(Refusal::NoSuch),
-        MachineMemory::Translated(memory) => {
-            memory.set_iommu_enabled(on);
-            Ok(())
-        }
     }
 }

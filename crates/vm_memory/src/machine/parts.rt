@@ -5,8 +5,9 @@ ghost use Rattle.vm_memory_guest.specs.Region.{region_names};
 ghost use Rattle.vm_memory.specs.Parts.{HoldsMemory, HoldsRegions};
 
 use super::Machine;
+use super::kept::KeptMemory;
 use std::sync::Arc;
-use vm_memory_device::{Iommu, MachineMemory};
+use vm_memory_device::Iommu;
 use vm_memory_guest::{GuestMemoryRegion, GuestRegionCollection, SpaceId};
 
 impl<R: GuestMemoryRegion, I: Iommu, B> Machine<R, I, B> {
@@ -35,7 +36,7 @@ impl<R: GuestMemoryRegion, I: Iommu, B> Machine<R, I, B> {
     }
 
     // A memory. The host holds what it names.
-    pub(super) fn memory_at(&self, number: usize) -> Option<&MachineMemory<R, I>>
+    pub(super) fn memory_at(&self, number: usize) -> Option<&KeptMemory<R, I>>
         ensures found { option_map (λ m. m.now) result ≡ slice_get self.now.memories number }
         ensures held { IfSome result (λ m. HoldsMemory R.region I.number self.now.host m.now) }
     {

@@ -3,12 +3,10 @@ ghost use Rattle.std.specs.Prelude.{◌≡◌, ◌⊎◌, ℕ, Err, Some, length
 ghost use Rattle.vm_memory_base.specs.declared.iotlb.Permissions.TheVariants as permissions;
 ghost use Rattle.vm_memory_guest.specs.Dirt.{with_pages};
 ghost use Rattle.vm_memory_guest.specs.Host.{shape_of, Holds};
-ghost use Rattle.vm_memory_guest.specs.Memory.{memory_names};
 ghost use Rattle.vm_memory_guest.specs.Walk.{NeedsPieces};
 ghost use Rattle.vm_memory.specs.Calls.{AreIntegers, IsInteger, WritesOf, loaded};
 ghost use Rattle.vm_memory.specs.Commands.{MayTranslate};
 ghost use Rattle.vm_memory.specs.Machine.{Step};
-ghost use Rattle.vm_memory_device.specs.Memories.{memory_meant};
 ghost use Rattle.vm_memory.specs.Parts.{state_of};
 ghost use Rattle.vm_memory.specs.Reply.{as_done, replied};
 ghost use Rattle.vm_memory.specs.Typed.{stores_bytes};
@@ -21,7 +19,7 @@ use super::Machine;
 use super::refusal::Refusal;
 use std::sync::atomic::Ordering;
 use vm_memory_base::{AtomicAccess, ExactBitmap, GuestAddress};
-use vm_memory_device::{Iommu, MachineMemory};
+use vm_memory_device::Iommu;
 use vm_memory_guest::laws::typed::loads_and_stores_are_by_bytes;
 use vm_memory_guest::{Bytes, GuestMemory, GuestMemoryRegion, HostMemory};
 
@@ -47,7 +45,7 @@ impl<R: GuestMemoryRegion, I: Iommu, B: ExactBitmap> Machine<R, I, B> {
         let Some(memory) = self.memories.get(memory) else {
             return Err(Refusal::NoSuch);
         };
-        store_to(memory, &mut self.host, addr, value)
+        store_any(memory, &mut self.host, addr, value)
     }
 
     /// Loads a value of a memory, as one integer. `NoSuch` if there is no such memory. Each error of `Bytes::load`
@@ -64,51 +62,11 @@ impl<R: GuestMemoryRegion, I: Iommu, B: ExactBitmap> Machine<R, I, B> {
         let Some(memory) = self.memory_at(memory) else {
             return Err(Refusal::NoSuch);
         };
-        load_of(memory, &self.host, addr)
+        load_any(memory, &self.host, addr)
     }
 }
 
-// Stores a value in a memory. Its kind is asked first, so that a walk of either kind is known.
-#[inline(always)]
-fn store_to<T: AtomicAccess, R: GuestMemoryRegion, I: Iommu, B: ExactBitmap>(
-    memory: &MachineMemory<R, I>,
-    host: &mut HostMemory<B>,
-    addr: GuestAddress,
-    value: T,
-) -> Result<(), Refusal>
-    requires { Holds (shape_of host.old) (memory_names (memory_meant R.region I.number memory.now)) }
-    ensures stored { let m = memory_meant R.region I.number memory.now in let before = with_pages B.pages host.old in
-        let after = with_pages B.pages host.new in
-        ((replied as_done result, after) ≡ stores_bytes m before addr.0 (T.bytes value))
-        ⊎ ((result ≡ Err refusal.Memory) × NeedsPieces m before.tables addr.0 (length (T.bytes value)) permissions.Write
-        × (after ≡ before)) }
-    ensures shape { shape_of host.new ≡ shape_of host.old }
-{
-    match memory {
-        MachineMemory::Plain(layout) => store_any(layout, host, addr, value),
-        MachineMemory::Translated(memory) => store_any(memory, host, addr, value),
-    }
-}
-
-// Loads a value of a memory.
-#[inline(always)]
-fn load_of<T: AtomicAccess, R: GuestMemoryRegion, I: Iommu, B: ExactBitmap>(
-    memory: &MachineMemory<R, I>,
-    host: &HostMemory<B>,
-    addr: GuestAddress,
-) -> Result<T, Refusal>
-    requires { Holds (shape_of host.now) (memory_names (memory_meant R.region I.number memory.now)) }
-    ensures { let m = memory_meant R.region I.number memory.now in let before = with_pages B.pages host.now in
-        (result ≡ loaded T.value_of (Some m) before addr.0 T.width)
-        ⊎ ((result ≡ Err refusal.Memory) × NeedsPieces m before.tables addr.0 T.width permissions.Read) }
-{
-    match memory {
-        MachineMemory::Plain(layout) => load_any(layout, host, addr),
-        MachineMemory::Translated(memory) => load_any(memory, host, addr),
-    }
-}
-
-// Stores a value in any guest memory.
+// Stores a value in a memory.
 #[inline(always)]
 fn store_any<T: AtomicAccess, M: GuestMemory, B: ExactBitmap>(
     memory: &M,
@@ -132,7 +90,7 @@ fn store_any<T: AtomicAccess, M: GuestMemory, B: ExactBitmap>(
     }
 }
 
-// Loads a value of any guest memory.
+// Loads a value of a memory.
 #[inline(always)]
 fn load_any<T: AtomicAccess, M: GuestMemory, B: ExactBitmap>(
     memory: &M,

@@ -15,4 +15,4 @@ returns g c =
     slice_get_read m.memories (length m.memories) c.args.memory it refl within c.in-Some.ensures.value in
     rw (← c.self.view_is)
     (enable-step g.R.GuestMemoryRegion.region g.I.Iommu.number g.B.ExactBitmap.pages m c.args.memory c.args.on it there
-    (replied as_done c.turn.result) c.turn.new.memory c.turn.ensures)
+    (replied as_done c.turn.result) c.turn.new.self c.turn.ensures)

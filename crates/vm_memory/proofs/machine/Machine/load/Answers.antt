@@ -17,7 +17,7 @@ returns-clause-integer g c = λ width number are.
     let n = g.T.ByteSized.width in
     let memory = c.args.memory in
     let there : slice_get m.memories memory ≡ Some c.in-Some.memory.now = sym c.in-Some.ensures.found in
-    let told : (c.load_of.result ≡ loaded value (slice_get now.memories memory) now.host c.args.addr.0 n)
-    ⊎ ((c.load_of.result ≡ Err refusal.Memory) × MayTranslate now memory c.args.addr.0 n permissions.Read) =
-    rw (there_meant meant m.memories memory c.in-Some.memory.now there, ← c.self.view_is) c.load_of.ensures in
-    loaded_is_step now memory c.args.addr value n c.load_of.result told width number are
+    let told : (c.load_any.result ≡ loaded value (slice_get now.memories memory) now.host c.args.addr.0 n)
+    ⊎ ((c.load_any.result ≡ Err refusal.Memory) × MayTranslate now memory c.args.addr.0 n permissions.Read) =
+    rw (there_meant meant m.memories memory c.in-Some.memory.now there, ← c.self.view_is) c.load_any.ensures in
+    loaded_is_step now memory c.args.addr value n c.load_any.result told width number are
