@@ -207,6 +207,12 @@ fn serve_one(is_packed: bool, is_translated: bool, event_idx: bool, is_indirect:
         (LOAD, DRIVER + 2..DRIVER + 4)
     };
     expect(&accesses, std::slice::from_ref(&index), &what("pop of nothing"));
+    if !is_packed {
+        let (_, accesses) = it.trace(|queue, memory| queue.avail_idx(memory).unwrap());
+        expect(&accesses, std::slice::from_ref(&index), &what("driver's index"));
+        let (_, accesses) = it.trace(|queue, memory| queue.used_idx(memory).unwrap());
+        expect(&accesses, &[(LOAD, DEVICE + 2..DEVICE + 4)], &what("device's index"));
+    }
     let (more, accesses) = it.trace(|queue, memory| queue.enable_notification(memory).unwrap());
     assert!(!more);
     let words = match (is_packed, event_idx) {
