@@ -182,12 +182,11 @@ impl Shared {
         let after = [slot + 1, 3][numbers.below(2) as usize] % ENTRIES;
         for turn in (0..turns).rev() {
             let is_refused = turn % 2 == 1;
-            let len = if flags == INDIRECT && is_refused {
-                REFUSED_ROWS
-            } else {
-                len
+            let (len, other) = match (is_refused, flags) {
+                (true, INDIRECT) => (REFUSED_ROWS, after),
+                (true, _) => (len, after + ENTRIES),
+                (false, _) => (len, after),
             };
-            let other = after + if is_refused { ENTRIES } else { 0 };
             let flags = if self.is_packed { flags | self.mark(slot) } else { flags };
             self.put(place, words(addr, self.base, len, flags, other, self.is_packed));
         }

@@ -28,6 +28,7 @@ const NEXT: u16 = 1;
 const WRITE: u16 = 2;
 const INDIRECT: u16 = 4;
 const AVAIL: u16 = 1 << 7;
+const USED: u16 = 1 << 15;
 
 struct Traced<'a> {
     memory: GuestMemory<'a>,
@@ -35,6 +36,7 @@ struct Traced<'a> {
     mapping: (*mut u8, usize),
     base: u64,
     is_packed: bool,
+    first: u16,
 }
 
 fn at(place: u64) -> GuestAddress {
@@ -42,7 +44,8 @@ fn at(place: u64) -> GuestAddress {
 }
 
 impl<'a> Traced<'a> {
-    fn new(machine: &'a Machine, is_packed: bool, is_translated: bool, event_idx: bool) -> Traced<'a> {
+    // The first chain comes in this slot of the ring.
+    fn new(machine: &'a Machine, is_packed: bool, is_translated: bool, event_idx: bool, first: u16) -> Traced<'a> {
         let block = machine.shared_block(SIZE, 0x1000, None).unwrap();
         let layout = machine
             .layout(&[machine.region(block.id(), at(BASE)).unwrap()])
@@ -59,14 +62,34 @@ impl<'a> Traced<'a> {
         queue.try_set_avail_ring_address(at(base + DRIVER as u64)).unwrap();
         queue.try_set_used_ring_address(at(base + DEVICE as u64)).unwrap();
         queue.set_event_idx(event_idx);
+        if is_packed {
+            let place = u32::from(first) | 1 << 15;
+            queue.set_vring_base(place | place << 16).unwrap();
+        } else {
+            queue.set_next_avail(first);
+            queue.set_next_used(first);
+        }
         queue.set_ready(true);
-        Traced {
+        let it = Traced {
             memory: machine.memory(memory).unwrap(),
             queue,
             mapping: block.mapping(),
             base,
             is_packed,
+            first,
+        };
+        if !is_packed {
+            it.put(DRIVER + 2, first);
         }
+        // After a change of place the first answer comes from no look.
+        assert!(it.queue.needs_notification(&it.memory).unwrap());
+        it
+    }
+
+    // Where the descriptors of the chain lie, if it is in no table: in a packed ring from its slot on, and over the end.
+    fn rows(&self) -> [usize; 3] {
+        let first = if self.is_packed { usize::from(self.first) } else { 0 };
+        [0, 1, 2].map(|it| TABLE + 16 * ((first + it) % usize::from(ENTRIES)))
     }
 
     fn put<T: vm_memory_proved::ByteValued>(&self, place: usize, value: T) {
@@ -84,19 +107,27 @@ impl<'a> Traced<'a> {
 
     // Publishes a read of a sector as the first chain: in three descriptors, or in a table of as many.
     fn publish(&self, is_indirect: bool) {
-        let mark = if self.is_packed { AVAIL } else { 0 };
-        let (from, inner) = if is_indirect { (ROWS, 0) } else { (TABLE, mark) };
-        self.put_row(from, HEADER, 16, NEXT | inner, 1);
-        self.put_row(from + 16, DATA, 512, NEXT | WRITE | inner, 2);
-        self.put_row(from + 32, STATUS, 1, WRITE | inner, 0);
+        let rows = self.rows();
+        let mark = |row: usize| match self.is_packed {
+            true if row < rows[0] => USED,
+            true => AVAIL,
+            false => 0,
+        };
+        let (places, inner) = match is_indirect {
+            true => ([ROWS, ROWS + 16, ROWS + 32], [0; 3]),
+            false => (rows, rows.map(mark)),
+        };
+        self.put_row(places[0], HEADER, 16, NEXT | inner[0], 1);
+        self.put_row(places[1], DATA, 512, NEXT | WRITE | inner[1], 2);
+        self.put_row(places[2], STATUS, 1, WRITE | inner[2], 0);
         if is_indirect {
-            self.put_row(TABLE, ROWS, 48, INDIRECT | mark, 0);
+            self.put_row(rows[0], ROWS, 48, INDIRECT | mark(rows[0]), 0);
         }
         self.put(HEADER, 0_u64);
         self.put(HEADER + 8, 3_u64);
         if !self.is_packed {
-            self.put(DRIVER + 4, 0_u16);
-            self.put(DRIVER + 2, 1_u16);
+            self.put(DRIVER + 4 + 2 * usize::from(self.first), 0_u16);
+            self.put(DRIVER + 2, self.first + 1);
         }
     }
 
@@ -120,15 +151,17 @@ fn behind_an_iommu(machine: &Machine, layout: vm_memory_proved::LayoutId) -> (Me
     (machine.new_memory(layout, translator, space, true).unwrap(), first)
 }
 
-// Each of these parts is stored, each byte of it once, or loaded, no byte of it twice, before the next one is, and nothing
-// else is. The compiler loads no byte that does not count.
+// Each of these parts is stored, each byte of it once, or loaded, no byte of it twice, before the next one is, and
+// nothing else is. The compiler loads no byte that does not count. A part of two bytes is a number, which has one
+// access.
 fn expect(accesses: &[Access], wanted: &[(bool, Range<usize>)], what: &str) {
     let mut accesses = accesses.iter().peekable();
     for (is_store, part) in wanted {
         let mut left: BTreeSet<usize> = part.clone().collect();
         while let Some(access) = accesses.peek() {
             let bytes: BTreeSet<usize> = (access.at..access.at + access.len).collect();
-            if access.is_store != *is_store || !bytes.is_subset(&left) {
+            let may_go_on = part.len() > 2 || left.len() == part.len();
+            if access.is_store != *is_store || !may_go_on || !bytes.is_subset(&left) {
                 break;
             }
             left = &left - &bytes;
@@ -155,22 +188,31 @@ fn after_tries<'a>(accesses: &'a [Access], tried: &[(bool, Range<usize>)]) -> &'
 const LOAD: bool = false;
 const STORE: bool = true;
 
-fn serve_one(is_packed: bool, is_translated: bool, event_idx: bool, is_indirect: bool) {
+fn serve_one(is_packed: bool, is_translated: bool, event_idx: bool, is_indirect: bool, first: u16) {
     let what = |call: &str| {
-        format!("{call}, packed: {is_packed}, IOMMU: {is_translated}, events: {event_idx}, table: {is_indirect}")
+        format!(
+            "{call}, packed: {is_packed}, IOMMU: {is_translated}, events: {event_idx}, table: {is_indirect}, slot: {first}"
+        )
     };
     let machine = Machine::new().unwrap();
-    let it = Traced::new(&machine, is_packed, is_translated, event_idx);
-    let rows = |from: usize| [16, 32, 48].map(|end| (LOAD, from + end - 16..from + end));
+    let it = Traced::new(&machine, is_packed, is_translated, event_idx, first);
+    let (row, slot) = (it.rows()[0], usize::from(first));
+    let rows = |places: [usize; 3]| places.map(|place| (LOAD, place..place + 16));
     // Nothing is there.
     let (none, accesses) = it.trace(|queue, memory| queue.pop_descriptor_chain(memory).unwrap().is_none());
     assert!(none);
     let index = if is_packed {
-        (LOAD, 14..16)
+        (LOAD, row + 14..row + 16)
     } else {
         (LOAD, DRIVER + 2..DRIVER + 4)
     };
     expect(&accesses, std::slice::from_ref(&index), &what("pop of nothing"));
+    if !is_packed {
+        let (_, accesses) = it.trace(|queue, memory| queue.avail_idx(memory).unwrap());
+        expect(&accesses, std::slice::from_ref(&index), &what("driver's index"));
+        let (_, accesses) = it.trace(|queue, memory| queue.used_idx(memory).unwrap());
+        expect(&accesses, &[(LOAD, DEVICE + 2..DEVICE + 4)], &what("device's index"));
+    }
     let (more, accesses) = it.trace(|queue, memory| queue.enable_notification(memory).unwrap());
     assert!(!more);
     let words = match (is_packed, event_idx) {
@@ -194,13 +236,13 @@ fn serve_one(is_packed: bool, is_translated: bool, event_idx: bool, is_indirect:
     // Of a packed ring the flags that say that a descriptor is there count, and not those that come with the rest of it.
     let mut wanted = vec![index];
     if !is_packed {
-        wanted.push((LOAD, DRIVER + 4..DRIVER + 6));
+        wanted.push((LOAD, DRIVER + 4 + 2 * slot..DRIVER + 6 + 2 * slot));
     }
     if is_indirect {
-        wanted.push((LOAD, TABLE..TABLE + 16));
-        wanted.extend(rows(ROWS));
+        wanted.push((LOAD, row..row + 16));
+        wanted.extend(rows([ROWS, ROWS + 16, ROWS + 32]));
     } else {
-        wanted.extend(rows(TABLE));
+        wanted.extend(rows(it.rows()));
     }
     expect(&accesses, &wanted, &what("pop"));
     // A request.
@@ -216,8 +258,8 @@ fn serve_one(is_packed: bool, is_translated: bool, event_idx: bool, is_indirect:
     expect(&accesses, &[(STORE, STATUS..STATUS + 1)], &what("finish"));
     let (_, accesses) = it.trace(|queue, memory| queue.add_used(memory, chain.head_index(), len).unwrap());
     let told = match is_packed {
-        true => [TABLE + 14..TABLE + 16, TABLE + 8..TABLE + 14],
-        false => [DEVICE + 2..DEVICE + 4, DEVICE + 4..DEVICE + 12],
+        true => [row + 14..row + 16, row + 8..row + 14],
+        false => [DEVICE + 2..DEVICE + 4, DEVICE + 4 + 8 * slot..DEVICE + 12 + 8 * slot],
     };
     let [last, entry] = told;
     let told = [(STORE, entry), (STORE, last)];
@@ -235,6 +277,9 @@ fn serve_one(is_packed: bool, is_translated: bool, event_idx: bool, is_indirect:
 fn each_byte_is_loaded_once_and_stores_are_in_order() {
     for number in 0..16 {
         let is = |bit: u32| number >> bit & 1 == 1;
-        serve_one(is(0), is(1), is(2), is(3));
+        // From the last slot but one the chain goes on over the end of a packed ring.
+        for first in [0, ENTRIES - 2] {
+            serve_one(is(0), is(1), is(2), is(3), first);
+        }
     }
 }
