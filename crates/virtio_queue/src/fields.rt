@@ -302,7 +302,7 @@ pub(crate) fn lies_whole<M: GuestMemory, B: Bitmap>(
 }
 
 // The address of so many bytes that can be written so far behind an address.
-#[inline]
+#[inline(always)]
 pub(crate) fn room_at<M: GuestMemory, B: Bitmap>(
     mem: &M,
     host: &HostMemory<B>,

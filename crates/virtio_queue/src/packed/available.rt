@@ -67,14 +67,22 @@ impl PackedQueue {
             return Err(QueueError::QueueNotReady);
         }
         let next = self.state.next_avail;
-        let flags = looks.word(self.state.desc_ring, 16 * u64::from(next.slot) + 14)?;
+        // Not by `?`, which clears and copies the whole of an error each time.
+        let flags = match looks.word(self.state.desc_ring, 16 * u64::from(next.slot) + 14) {
+            Ok(flags) => flags,
+            Err(error) => return Err(error),
+        };
         if !is_available(flags, next.wrap) {
             return Ok(None);
         }
         self.barrier.acquire_release_barrier();
-        let (buffer, chain) = next_chain(alloc, looks, &self.state, flags)?;
-        let size = self.state.size;
-        self.state.next_avail = next.moved(size, buffer.slots);
-        Ok(Some((buffer, chain)))
+        match next_chain(alloc, looks, &self.state, flags) {
+            Ok((buffer, chain)) => {
+                let size = self.state.size;
+                self.state.next_avail = next.moved(size, buffer.slots);
+                Ok(Some((buffer, chain)))
+            }
+            Err(error) => Err(error),
+        }
     }
 }
