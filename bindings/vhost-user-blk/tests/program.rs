@@ -222,12 +222,13 @@ fn the_driver_is_interrupted_as_it_asked() {
 fn the_same_memory_changes_nothing() {
     let program = Program::start("same_memory", LEN, &[]);
     let mut front = started(&program, USUAL);
-    let (descriptors, memory) = (program.descriptors(), program.memory().1);
+    let (descriptors, shared) = (program.descriptors(), program.shared());
+    assert_eq!(shared, RAM as u64);
     for _ in 0..50 {
         front.set_memory();
         front.read_disk(0, 4, 512);
     }
-    assert_eq!((program.descriptors(), program.memory().1), (descriptors, memory));
+    assert_eq!((program.descriptors(), program.shared()), (descriptors, shared));
     // Another table: the same file in two parts. The ring goes on.
     let ram = again(&front.ram);
     let half = RAM as u64 / 2;
@@ -238,12 +239,7 @@ fn the_same_memory_changes_nothing() {
         front.set_memory();
         assert_eq!(front.read_disk(0, 6, 512), image_of(LEN)[6 * 512..7 * 512]);
     }
-    assert_eq!(program.descriptors(), descriptors);
-    assert!(
-        program.memory().1 < memory + (4 << 20),
-        "{memory} {}",
-        program.memory().1
-    );
+    assert_eq!((program.descriptors(), program.shared()), (descriptors, shared));
     // With no memory at all the ring waits.
     assert!(front.is_done(SET_MEM_TABLE, &FrontEnd::table(&[]), &[]));
     front.put_request(0, 0, 0, 7, 512);
