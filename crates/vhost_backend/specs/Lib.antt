@@ -1,5 +1,6 @@
 pub mod Actions
 pub mod Backend
+pub mod Block
 pub mod Examples
 pub mod Line
 pub mod Messages

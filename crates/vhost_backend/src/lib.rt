@@ -3,6 +3,7 @@
 #![tactic(auto)]
 
 mod backend;
+mod block;
 pub mod examples;
 pub mod laws;
 pub mod messages_laws;
@@ -12,6 +13,7 @@ mod ring;
 mod rings;
 
 pub use backend::{Backend, Finish, Outcome, Place, Todo};
+pub use block::{BlockStep, block_parts, block_step, status_of, written_of};
 pub use parts::{PART, Part, next_part, parts_are_the_data_in_order, parts_of};
 pub use request::{Chain, PartEnd};
 pub use ring::{RingAction, RingActions, RingEvent};
