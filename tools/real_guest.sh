@@ -1,14 +1,15 @@
 #!/usr/bin/env bash
 # Boots Linux in QEMU on a disk that bindings/vhost-user-blk serves, and compares the disk with what the guest wrote.
 #
-# usage: tools/real_guest.sh [--install] [--list] [--keep] [--help] [VARIANT..]
+# usage: tools/real_guest.sh [--install] [--list] [--keep] [--write] [--help] [VARIANT..]
 #
 # --install installs the packages that it needs, by apt-get, --list prints the variants, and --keep keeps the files of
-# each run. Without a VARIANT it runs all. Each prints one line: its name, ok, FAILED or SLOW, the seconds, and what the
-# back end served. The status is 0 if all are ok, 1 if one failed, 3 if a package is missing, which is named, and 4 if
-# none failed but one was too slow. More variants run only if they are named: quick is a shorter default, soak works for
-# REAL_GUEST_SOAK seconds (an hour by default) behind a lazy IOMMU and watches the memory and the descriptors of the back
-# end, and qemu, qemu-lazy and qemu-move have QEMU's own device in place of ours.
+# each run. --write puts the line of each variant that was ok into docs/real_guest.txt, with the day and the versions of
+# QEMU and Linux, in place of its line before. Without a VARIANT it runs all. Each prints one line: its name, ok, FAILED
+# or SLOW, the seconds, and what the back end served. The status is 0 if all are ok, 1 if one failed, 3 if a package is
+# missing, which is named, and 4 if none failed but one was too slow. More variants run only if they are named: quick is
+# a shorter default, soak works for REAL_GUEST_SOAK seconds (an hour by default) behind a lazy IOMMU and watches the
+# memory and the descriptors of the back end, and qemu, qemu-lazy and qemu-move have QEMU's own device in place of ours.
 #
 # The guest is Debian's kernel with an initial RAM disk of busybox, made here: tools/real_guest_init.sh is its first
 # process. QEMU emulates the processor, so no KVM is needed.
@@ -545,8 +546,18 @@ compare() {
     fi
 }
 
+# Puts a line into the file of results, in place of that of the same variant.
+write_line() {
+    local file=$TOP/docs/real_guest.txt version
+    version=$("$QEMU" --version | sed -n 's/^QEMU emulator version \([0-9.]*\).*/\1/p')
+    {
+        grep -v "^$name " "$file" 2> /dev/null
+        echo "$1; $(LC_ALL=C date -u '+%-d %B %Y'), QEMU $version, Linux $(basename "$MODULES")"
+    } | LC_ALL=C sort > "$file.new" && mv "$file.new" "$file"
+}
+
 report() {
-    local took said verdict=ok status=0 word
+    local took said verdict=ok status=0 word line
     took=$(awk -v begun="$begun" -v now="$(date +%s.%N)" 'BEGIN { printf "%.0f", now - begun }')
     [ -s "$room/slow" ] && verdict=SLOW status=4
     [ -s "$room/why" ] && verdict=FAILED status=1
@@ -556,8 +567,12 @@ report() {
         said+=$(grep -a "^$word: " "$room/backend" 2> /dev/null | tail -n 1 | sed 's/^/; /')
     done
     said+=$grown
-    printf '%-16s %-6s %4s s  %s\n' "$name" "$verdict" "$took" "$said"
-    [ "$status" = 0 ] && return
+    line=$(printf '%-16s %-6s %4s s  %s' "$name" "$verdict" "$took" "$said")
+    echo "$line"
+    if [ "$status" = 0 ]; then
+        [ -z "$write" ] || write_line "$line"
+        return
+    fi
     cat "$room/slow" "$room/why" 2> /dev/null | sed 's/^/    /'
     grep -av '^wrote \|^file \|^sha256 ' "$room/said" | tail -n 5 | sed 's/^/    console: /'
     tail -n 5 "$room/backend" 2> /dev/null | sed 's/^/    back end: /'
@@ -578,12 +593,13 @@ usage() {
 }
 
 main() {
-    local keep="" names=() word failed=0 slow=0 name
+    local keep="" write="" names=() word failed=0 slow=0 name
     for word in "$@"; do
         case $word in
         --install) install_packages || exit 1 ;;
         --list) printf '%s\n' "${VARIANTS[@]}"; exit 0 ;;
         --keep) keep=1 ;;
+        --write) write=1 ;;
         --help | -h) usage; exit 0 ;;
         -*) echo "$word is no option"; usage; exit 2 ;;
         *) names+=("$word") ;;
