@@ -14,6 +14,7 @@ use crate::packed_answer::{any_part_set, put_any_state};
 use crate::queue_answer::{
     asked, begun, bytes_moved, length_told, number_told, popped, queue_done, queue_refused,
 };
+use crate::spare::SpareLists;
 use std::alloc::{AllocError, Global};
 use std::marker::Model;
 use virtio_blk::Terms;
@@ -32,6 +33,7 @@ pub(crate) struct SessionQueue {
     slots: Vec<u16>,
     // How many descriptors are in flight.
     count: usize,
+    spare: SpareLists,
 }
 
 impl Model for SessionQueue {
@@ -128,6 +130,7 @@ impl SessionQueue {
             flight,
             slots,
             count: 0,
+            spare: SpareLists::new(alloc, most),
         })
     }
 
@@ -138,6 +141,7 @@ impl SessionQueue {
         self.queue.reset();
         clear(self.flight.as_mut_slice());
         self.count = 0;
+        self.spare.reset();
     }
 
     // Sets a part.
@@ -203,6 +207,7 @@ impl SessionQueue {
             *slots = buffer.slots;
         }
         if let Some(slot) = self.flight.get_mut(head) {
+            self.spare.take(&chain);
             *slot = Some(chain);
             self.count += count;
         }
@@ -219,7 +224,7 @@ impl SessionQueue {
         }
     }
 
-    // Takes the chain of a head out of flight, if it is there, and drops it.
+    // Takes the chain of a head out of flight, if it is there, and keeps its list.
     #[inline(always)]
     fn take(&mut self, head: usize)
         ensures { self.new ≡ forgotten self.old head }
@@ -227,6 +232,7 @@ impl SessionQueue {
         if let Some(slot) = self.flight.get_mut(head) {
             if let Some(chain) = slot.take() {
                 self.count -= chain.segments().len();
+                self.spare.give(chain);
             }
         }
     }
@@ -262,11 +268,12 @@ impl SessionQueue {
         ensures shape { D.shape mem.now host.new ≡ D.shape mem.now host.old }
     {
         let next = self.queue.next_avail();
-        match mem.pop(host, alloc, &mut self.queue) {
+        match mem.pop(host, alloc, &mut self.spare.next, &mut self.queue) {
             Ok(Some((buffer, chain))) => {
                 let head = usize::from(buffer.id);
                 if let Some(refusal) = self.refusal_of(head, &chain) {
                     self.queue.go_back(next);
+                    self.spare.put_back(chain);
                     *answer = refusal;
                 } else {
                     *answer = popped(head, &chain);

@@ -40,10 +40,11 @@ impl<D: Disk> BlockDevice<D> {
         ensures none { result ≡ Ok false → HasNone (M.memory mem.now) host.new queue.new }
         ensures shape { shape_of host.new ≡ shape_of host.old }
     {
-        let Some((buffer, chain)) = queue.pop_descriptor_chain(self.alloc, mem, host)? else {
+        let Some((buffer, chain)) = queue.pop_into(self.alloc, &mut self.list, mem, host)? else {
             return Ok(false);
         };
         let len = self.serve(mem, host, &chain);
+        self.list = chain.into_segments();
         queue.add_used(mem, host, buffer, len)?;
         Ok(true)
     }
