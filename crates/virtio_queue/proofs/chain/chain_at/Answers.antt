@@ -12,11 +12,11 @@ returns-in_err-put_segments g c =
 
 pub returns-in-Ok : goal.returns-in-Ok
 returns-in-Ok g c =
-    rw c.in-Ok.ensures.0
+    rw (c.in-Ok.ensures.0, c.replace.ensures.value)
     (chain_made g.L.Looks.looks c.args.state.now c.args.head c.args.looks.now c.put_segments.new.looks
-    c.put_segments.new.list.items None c.in_ok-put_segments.ensures c.in-Ok.ensures.1)
+    c.put_segments.new.segments.items None c.in_ok-put_segments.ensures (rw c.replace.ensures.value at c.in-Ok.ensures.1))
 
 pub returns-in-Err : goal.returns-in-Err
 returns-in-Err g c =
     chain_made g.L.Looks.looks c.args.state.now c.args.head c.args.looks.now c.put_segments.new.looks
-    c.put_segments.new.list.items (Some c.in-Err.fault) c.in_ok-put_segments.ensures c.in-Err.ensures
+    c.put_segments.new.segments.items (Some c.in-Err.fault) c.in_ok-put_segments.ensures (rw c.replace.ensures.value at c.in-Err.ensures)

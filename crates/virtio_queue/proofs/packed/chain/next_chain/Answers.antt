@@ -31,11 +31,11 @@ returns-in-Ok-clause-chain g c =
     let lists = rw (c.slots_out.ensures.out, c.clear.ensures.items) at c.in_ok-last.ensures.lists in
     let t : Taken = record { segments = c.list.new.segments.items; last = c.in_ok-last.last; slots = c.in_ok-last.slots } in
     let ss = c.add_last.new.segments.items in
-    rw c.in-Ok.ensures.0
+    rw (c.in-Ok.ensures.0, c.replace.ensures.value)
     (chain_follows g.L.Looks.looks q c.args.flags c.args.looks.now c.list.new.looks c.add_last.new.looks t
     (Ok (record { id = t.last.id; slots = t.slots }, ss)) lists
     (last_taken g.L.Looks.looks t c.list.new.looks c.add_last.new.looks ss None c.in_ok-add_last.ensures
-    c.in-Ok.ensures.1))
+    (rw c.replace.ensures.value at c.in-Ok.ensures.1)))
 
 pub returns-in-Err-clause-chain : goal.returns-in-Err-clause-chain
 returns-in-Err-clause-chain g c =
@@ -46,4 +46,4 @@ returns-in-Err-clause-chain g c =
     chain_follows g.L.Looks.looks q c.args.flags c.args.looks.now c.list.new.looks c.add_last.new.looks t
     (Err (errors.InvalidChain c.in-Err.fault)) lists
     (last_taken g.L.Looks.looks t c.list.new.looks c.add_last.new.looks ss (Some c.in-Err.fault)
-    c.in_ok-add_last.ensures c.in-Err.ensures)
+    c.in_ok-add_last.ensures (rw c.replace.ensures.value at c.in-Err.ensures))
