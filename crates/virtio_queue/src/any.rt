@@ -1,7 +1,11 @@
 //! Queues of either kind.
 ghost use Rattle.std.specs.Prelude.{◌≡◌, None, Ok, false, OnOk};
 ghost use Rattle.vm_memory_guest.specs.Host.{shape_of, Holds};
-ghost use Rattle.virtio_queue.specs.Any.{AddsUsed, Disables, Enables, HasNone, MayWantChain, MayWantNeeds, MayWantValid, Offers, Waits, after_asked, after_pop, after_used, asking, at_next, disabling, enabling, has_event_idx, max_size_of, needs_notification, next_avail_of, past, popped, popping, returning, unset, valid, with_event_idx, with_ready};
+ghost use Rattle.virtio_queue.specs.Any.{AddsUsed, Disables, Enables, HasNone, MayWantChain, MayWantNeeds};
+ghost use Rattle.virtio_queue.specs.Any.{MayWantValid, Offers, Waits, after_asked, after_pop, after_used, asking};
+ghost use Rattle.virtio_queue.specs.Any.{at_next, disabling, enabling, has_event_idx, max_size_of, needs_notification};
+ghost use Rattle.virtio_queue.specs.Any.{next_avail_of, past, popped, popping, returning, unset, valid, with_event_idx};
+ghost use Rattle.virtio_queue.specs.Any.{with_ready};
 ghost use Rattle.virtio_queue.specs.Fields.{Answers};
 ghost use Rattle.virtio_queue.specs.Looks.{Follows};
 ghost use Rattle.virtio_queue.specs.declared.packed.state.PackedBuffer.{PackedBuffer};
@@ -18,8 +22,8 @@ use vm_memory_guest::{GuestMemory, HostMemory};
 
 /// A virtqueue of either kind, for devices whose driver chooses it by VIRTIO_F_RING_PACKED.
 ///
-/// Each call does what the call of that name of [`Queue`] or [`PackedQueue`] does, and is proved to. A chain is returned
-/// by what it was popped with: that of a split queue is its head, and one slot.
+/// Each call does what the call of that name of [`Queue`] or [`PackedQueue`] does, and is proved to. A chain is
+/// returned by what it was popped with: that of a split queue is its head, and one slot.
 ///
 /// ```text
 /// let mut queue = AnyQueue::Split(Queue::new(128)?);

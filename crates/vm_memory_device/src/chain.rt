@@ -5,7 +5,8 @@
 //! the writable ones, over any guest memory, with or without an IOMMU.
 //!
 //! If an IOMMU is on, an access that it allows by two pieces or more allocates for them. If that fails after the first
-//! access of a call, the call ends with a short count, which looks the same as one that ended at an address without a byte.
+//! access of a call, the call ends with a short count, which looks the same as one that ended at an address without a
+//! byte.
 ghost use Rattle.std.specs.Prelude.{◌≡◌, ◌<◌, ◌^◌, ◌≤◌, length, min, drop, None, Some, MatchResult};
 ghost use Rattle.vm_memory_guest.specs.Host.{shape_of, Holds};
 ghost use Rattle.vm_memory_device.specs.Chain.{ReadsText, WritesText, chain_fault, readable, text, writable};

@@ -2,7 +2,8 @@
 ghost use Rattle.std.specs.Prelude.{◌≡◌, []};
 ghost use Rattle.vm_memory_guest.specs.Host.{Holds, Shape, shape_of};
 ghost use Rattle.virtio_queue.specs.Any.{after_asked, after_pop, after_used};
-ghost use Rattle.vm_session.specs.DeviceSteps.{ByLooks, DeviceStep, Returned, Still, adds_used, begins, disables, enables, finishes, needs, pops, reads_avail, reads_used};
+ghost use Rattle.vm_session.specs.DeviceSteps.{ByLooks, DeviceStep, Returned, Still, adds_used, begins, disables};
+ghost use Rattle.vm_session.specs.DeviceSteps.{enables, finishes, needs, pops, reads_avail, reads_used};
 
 use std::alloc::Global;
 use virtio_blk::{Fetches, Puts, Request, Terms, begin, begin_from, finish, finish_from};

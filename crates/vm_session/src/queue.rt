@@ -1,7 +1,12 @@
 //! Queues of a session, and their chains in flight.
-ghost use Rattle.std.specs.Prelude.{◌≡◌, ◌==◌, ◌+◌, ◌^◌, ◌<◌, ◌≤◌, true, false, IfOk, replicate, length, Some, None, is_some, option_copied};
+ghost use Rattle.std.specs.Prelude.{◌≡◌, ◌==◌, ◌+◌, ◌^◌, ◌<◌, ◌≤◌, true, false, IfOk, replicate, length, Some, None};
+ghost use Rattle.std.specs.Prelude.{is_some, option_copied};
 ghost use Rattle.vm_memory_guest.specs.Host.{shape_of, Holds};
-ghost use Rattle.vm_session.specs.Queues.{AsksNotToNotify, AsksToNotify, BeginsRequest, FinishesRequest, Forgets, KeepsQueue, ListsSegments, ListsState, MakesQueue, NeedsNotification, Pops, ReadsChain, Returns, SetsAnyPart, TellsAvail, TellsUsed, TellsValid, WritesChain, cleared, forgotten, is_past, refusal_of_chain, with_chain, with_none};
+ghost use Rattle.vm_session.specs.Queues.{AsksNotToNotify, AsksToNotify, BeginsRequest, FinishesRequest, Forgets};
+ghost use Rattle.vm_session.specs.Queues.{KeepsQueue, ListsSegments, ListsState, MakesQueue, NeedsNotification, Pops};
+ghost use Rattle.vm_session.specs.Queues.{ReadsChain, Returns, SetsAnyPart, TellsAvail, TellsUsed, TellsValid};
+ghost use Rattle.vm_session.specs.Queues.{WritesChain, cleared, forgotten, is_past, refusal_of_chain, with_chain};
+ghost use Rattle.vm_session.specs.Queues.{with_none};
 ghost use Rattle.vm_session.specs.Misses.{next_word};
 ghost use Rattle.vm_session.specs.SessionState.{buffer_of, chain_of, descriptors_in};
 
@@ -341,7 +346,8 @@ impl SessionQueue {
         answer: &mut Answer,
     )
         requires { Holds (shape_of host.old) (M.names mem.now) }
-        ensures written { WritesChain B.marks (M.memory mem.now) self.now head offset bytes.now host.old answer.new host.new }
+        ensures written { WritesChain B.marks (M.memory mem.now) self.now head offset bytes.now host.old
+            answer.new host.new }
         ensures shape { shape_of host.new ≡ shape_of host.old }
     {
         let Some(chain) = self.chain(head) else {

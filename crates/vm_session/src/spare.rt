@@ -11,7 +11,8 @@ pub(crate) struct SpareLists {
     // The list of the next chain.
     pub(crate) next: Vec<Segment>,
     others: Vec<Vec<Segment>>,
-    // How many segments the others and the lists of chains in flight have room for, and how many at most if one is kept.
+    // How many segments the others and the lists of chains in flight have room for, and how many at most if one is
+    // kept.
     room: usize,
     most: usize,
 }
