@@ -1,7 +1,10 @@
 //! bzImages.
-ghost use Rattle.std.specs.Prelude.{◌≡◌, ◌+◌, ◌≤◌, ◌<◌, ◌^◌, length, take, drop, All, AllPairs, IfOk, OnOk, Some, Err, MatchResult, [], ◌∷◌};
+ghost use Rattle.std.specs.Prelude.{◌≡◌, ◌+◌, ◌≤◌, ◌<◌, ◌^◌, length, take, drop, All, AllPairs, IfOk, OnOk, Some, Err};
+ghost use Rattle.std.specs.Prelude.{MatchResult, [], ◌∷◌};
 ghost use Rattle.vm_memory_guest.specs.Host.{shape_of, Holds};
-ghost use Rattle.linux_loader.specs.BzImage.{BzAllocates, bz_kernel, bz_named, bz_plan, check_header, header_as_loaded, header_in, header_size, is_header, kernel_of, kernel_start, load_address, planned_with};
+ghost use Rattle.linux_loader.specs.BzImage.{BzAllocates, bz_kernel, bz_named, bz_plan, check_header, header_as_loaded};
+ghost use Rattle.linux_loader.specs.BzImage.{header_in, header_size, is_header, kernel_of, kernel_start, load_address};
+ghost use Rattle.linux_loader.specs.BzImage.{planned_with};
 ghost use Rattle.linux_loader.specs.Image.{IfKnown};
 ghost use Rattle.linux_loader.specs.Load.{LoadsImage};
 ghost use Rattle.linux_loader.specs.Plan.{Apart, HasBytes, Lists, Names, Plans, address_or, planned_of};

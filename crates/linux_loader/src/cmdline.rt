@@ -1,9 +1,11 @@
 //! The command line of a kernel.
 
-ghost use Rattle.std.specs.Prelude.{◌≡◌, ◌⊎◌, ◌+◌, ◌<◌, ◌≤◌, ◌++◌, ◌==◌, ◌∷◌, [], length, IfOk, IsOk, OnErr, OnOk, MatchResult};
+ghost use Rattle.std.specs.Prelude.{◌≡◌, ◌⊎◌, ◌+◌, ◌<◌, ◌≤◌, ◌++◌, ◌==◌, ◌∷◌, [], length, IfOk, IsOk, OnErr, OnOk};
+ghost use Rattle.std.specs.Prelude.{MatchResult};
 ghost use Rattle.std.specs.List.{list_all, list_any};
 ghost use Rattle.vm_memory_guest.specs.Host.{shape_of, Holds};
-ghost use Rattle.linux_loader.specs.Cmdline.{Becomes, LoadsLine, check_element, check_place, check_room, check_text, is_printable, line_with, separator, text_of, with_pair, with_text};
+ghost use Rattle.linux_loader.specs.Cmdline.{Becomes, LoadsLine, check_element, check_place, check_room, check_text};
+ghost use Rattle.linux_loader.specs.Cmdline.{is_printable, line_with, separator, text_of, with_pair, with_text};
 
 use crate::error::LoaderError;
 use crate::plan::KernelLoaderResult;

@@ -2,7 +2,8 @@
 
 ghost use Rattle.std.specs.Prelude.{◌≡◌, ◌+◌, ◌*◌, ◌≤◌, length, All, AllPairs, IfOk, Some, Ok, Err};
 ghost use Rattle.vm_memory_guest.specs.Host.{shape_of, Holds};
-ghost use Rattle.linux_loader.specs.Elf.{ElfAllocates, capability, elf_header, elf_named, elf_plan, elf_planned, entry_at, headers_in, some_segments};
+ghost use Rattle.linux_loader.specs.Elf.{ElfAllocates, capability, elf_header, elf_named, elf_plan, elf_planned};
+ghost use Rattle.linux_loader.specs.Elf.{entry_at, headers_in, some_segments};
 ghost use Rattle.linux_loader.specs.Load.{LoadsImage};
 ghost use Rattle.linux_loader.specs.Image.{IfKnown};
 ghost use Rattle.linux_loader.specs.Plan.{Apart, HasBytes, Lists, Names, Plans, address_or, planned_of};
@@ -141,8 +142,8 @@ fn named<F: KernelImage>(
 }
 
 impl Elf {
-    /// What is to be loaded of an image, and where: each segment at its physical address plus `kernel_offset`. The entry
-    /// may not lie below `highmem_start`. The first thing that is wrong is refused, in the order of README.md,
+    /// What is to be loaded of an image, and where: each segment at its physical address plus `kernel_offset`. The
+    /// entry may not lie below `highmem_start`. The first thing that is wrong is refused, in the order of README.md,
     /// "ELF files". `Image` if the source fails, and `Memory` if an allocation does: the first is for the program
     /// headers of a header that may be loaded.
     ///

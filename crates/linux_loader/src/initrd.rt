@@ -72,8 +72,8 @@ fn highest_page(end: u64, most: u64, size: u64) -> Result<GuestAddress, LoaderEr
 /// Loads an initrd at the address that `initrd_address` gives, and returns its segment. Its errors are those of
 /// `initrd_address` and of the load of a segment.
 ///
-/// Leaves open: `Memory` for an access as in `KernelPlan::load`. If no clause says which bytes an image has, as of a `File`:
-/// any size, and any error at any time.
+/// Leaves open: `Memory` for an access as in `KernelPlan::load`. If no clause says which bytes an image has, as of a
+/// `File`: any size, and any error at any time.
 pub fn load_initrd<M: GuestMemory, F: KernelImage, B: Bitmap>(
     mem: &M,
     host: &mut HostMemory<B>,

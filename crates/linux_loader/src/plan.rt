@@ -191,8 +191,8 @@ impl KernelPlan {
     /// loaded. `Image` if the image cannot be read from an offset on, `GuestMemory` if an access is refused or the
     /// image fails in it, and `Memory` if an allocation fails. What was loaded before stays.
     ///
-    /// Leaves open: `Memory` for each access through an IOMMU that is on and allows it by two pieces or more. If no clause
-    /// says which bytes an image has, as of a `File`: which bytes are loaded, and any error at any time.
+    /// Leaves open: `Memory` for each access through an IOMMU that is on and allows it by two pieces or more. If no
+    /// clause says which bytes an image has, as of a `File`: which bytes are loaded, and any error at any time.
     pub fn load<M: GuestMemory, F: KernelImage, B: Bitmap>(
         self,
         mem: &M,

@@ -1,7 +1,8 @@
 //! Where the kernel of a bzImage runs.
 ghost use Rattle.std.specs.Prelude.{◌≡◌, ◌+◌, ◌≤◌, ◌<◌, ◌^◌, length};
 ghost use Rattle.vm_memory_guest.specs.Host.{shape_of, Holds};
-ghost use Rattle.linux_loader.specs.Runtime.{FindsArea, area_at, check_outside, field_since, first_free, lies_outside, runtime_area, runtime_start};
+ghost use Rattle.linux_loader.specs.Runtime.{FindsArea, area_at, check_outside, field_since, first_free, lies_outside};
+ghost use Rattle.linux_loader.specs.Runtime.{runtime_area, runtime_start};
 
 use crate::error::LoaderError;
 use crate::numbers::{u16_at, u32_at, u64_at};

@@ -1,7 +1,9 @@
 //! The calls.
 ghost use Rattle.std.specs.Prelude.{◌≡◌, Ok};
 ghost use Rattle.vhost_message.specs.Stream.{wanted};
-ghost use Rattle.vhost_calls.specs.Calls.{ChangesConfig, Gives, Handles, Opens, Sends, Stops, Takes, answer_of, pages_at, payload_reply, refusal_of, region_at, reply_if, reply_of, vring_at, wanted_of};
+ghost use Rattle.vhost_calls.specs.Calls.{ChangesConfig, Gives, Handles, Opens, Sends, Stops, Takes, answer_of};
+ghost use Rattle.vhost_calls.specs.Calls.{pages_at, payload_reply, refusal_of, region_at, reply_if, reply_of, vring_at};
+ghost use Rattle.vhost_calls.specs.Calls.{wanted_of};
 ghost use Rattle.vhost_calls.specs.Values.{connection_state};
 
 use crate::code;
@@ -176,7 +178,8 @@ pub fn change_config(backend: &mut BackendReqHandler, offset: u32, bytes: &[u8])
     code_of_step(backend.change_config(offset, bytes))
 }
 
-/// A ring as it is to be served, or why it is not: `VHOST_INDEX` if no ring has this number, `VHOST_STOPPED`, `VHOST_DISABLED`,
+/// A ring as it is to be served, or why it is not: `VHOST_INDEX` if no ring has this number, `VHOST_STOPPED`,
+/// `VHOST_DISABLED`,
 /// `VHOST_NO_SIZE`, `VHOST_NO_ADDRESS`, and `VHOST_USER_ADDRESS` if the memory does not have it.
 pub fn running(backend: &BackendReqHandler, index: u32, vring: &mut VhostVring) -> u32
     ensures { Gives (vring_at backend.now index) vring.old result vring.new }

@@ -1,7 +1,8 @@
 //! The back end's own channel.
 ghost use Rattle.std.specs.Prelude.{◌≡◌};
 ghost use Rattle.vhost_calls.specs.Calls.{Gives, Sends};
-ghost use Rattle.vhost_calls.specs.Channel.{access_at, access_fail_of, answered, config_change, miss_of, payload_value, value_of};
+ghost use Rattle.vhost_calls.specs.Channel.{access_at, access_fail_of, answered, config_change, miss_of, payload_value};
+ghost use Rattle.vhost_calls.specs.Channel.{value_of};
 
 use crate::calls::send;
 use crate::code;
@@ -57,8 +58,8 @@ pub fn access_fail(iova: u64, access: u32, output: &mut [u8]) -> usize
     send(access_fail_of(iova, access_of(access)).as_slice(), output)
 }
 
-/// A CONFIG_CHANGE_MSG: the front end is to read the configuration again. It asks for no reply. Its bytes go as those of
-/// a MISS do.
+/// A CONFIG_CHANGE_MSG: the front end is to read the configuration again. It asks for no reply. Its bytes go as those
+/// of a MISS do.
 pub fn config_change(output: &mut [u8]) -> usize
     ensures { Sends config_change output.old result output.new }
 {
@@ -86,8 +87,8 @@ fn payload_value(header: &Header, payload: &[u8], value: &mut u64) -> u32
     told(BackendReply::decode(header, payload), value)
 }
 
-/// The number in a reply that came on the channel: 0 if what the back end asked for was done. `VHOST_HEADER` if its header
-/// is not whole, and the code of what is wrong with it.
+/// The number in a reply that came on the channel: 0 if what the back end asked for was done. `VHOST_HEADER` if its
+/// header is not whole, and the code of what is wrong with it.
 pub fn answered(message: &[u8], value: &mut u64) -> u32
     ensures { Gives (answered message.now) value.old result value.new }
 {

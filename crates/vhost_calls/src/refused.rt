@@ -1,6 +1,7 @@
 //! Refusals as codes.
 ghost use Rattle.std.specs.Prelude.{◌≡◌};
-ghost use Rattle.vhost_calls.specs.Codes.{code_of_malformed, code_of_not_running, code_of_offer, code_of_refusal, code_of_step};
+ghost use Rattle.vhost_calls.specs.Codes.{code_of_malformed, code_of_not_running, code_of_offer, code_of_refusal};
+ghost use Rattle.vhost_calls.specs.Codes.{code_of_step};
 
 use crate::code;
 use vhost_user::{Malformed, NotRunning, OfferError, Refusal};

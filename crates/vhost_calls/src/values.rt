@@ -1,6 +1,7 @@
 //! What crosses to C, as plain numbers.
 ghost use Rattle.std.specs.Prelude.{◌≡◌};
-ghost use Rattle.vhost_calls.specs.Values.{asked_by, connection_state, no_request, number_of_notifier, offer_of, on_config, on_ring, pages_row, region_row, switched, valued, vring_row};
+ghost use Rattle.vhost_calls.specs.Values.{asked_by, connection_state, no_request, number_of_notifier, offer_of};
+ghost use Rattle.vhost_calls.specs.Values.{on_config, on_ring, pages_row, region_row, switched, valued, vring_row};
 
 use vhost_user::{
     BackendReqHandler, ConfigSpace, FrontendReq, LogPages, MemoryRegion, Notifier, Offer,
@@ -46,8 +47,8 @@ pub struct VhostRequest {
     /// Of a KICK, CALL or ERR 1 if a descriptor came, of an ENABLE 1 if the ring is enabled, and of a GET_CONFIG or
     /// SET_CONFIG 1 if it is for a migration.
     pub flag: u32,
-    /// Of a SET_VRING_NUM or SET_VRING_BASE the number, of features the bits, of a configuration or a log the place of the
-    /// part's first byte.
+    /// Of a SET_VRING_NUM or SET_VRING_BASE the number, of features the bits, of a configuration or a log the place of
+    /// the part's first byte.
     pub value: u64,
     /// How many bytes the part of the configuration or the log has.
     pub size: u64,
@@ -94,8 +95,8 @@ pub struct VhostVring {
     pub call: u32,
 }
 
-/// Pages of guest memory that are marked in the log of dirty pages. The bit of page `p` is bit `p % 8` of the byte `p / 8`
-/// of the log.
+/// Pages of guest memory that are marked in the log of dirty pages. The bit of page `p` is bit `p % 8` of the byte `p /
+/// 8` of the log.
 #[repr(C)]
 #[derive(Clone, Copy, Debug, PartialEq, Eq)]
 pub struct VhostPages {

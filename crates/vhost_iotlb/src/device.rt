@@ -1,8 +1,12 @@
 //! The I/O table of a device, as its front end fills it.
-ghost use Rattle.std.specs.Prelude.{◌≡◌, ◌≤◌, [], ◌==◌, false, if◌then◌else◌, length, None, Some, Ok, Err, Result, IfOk, IfErr, IfSome};
+ghost use Rattle.std.specs.Prelude.{◌≡◌, ◌≤◌, [], ◌==◌, false, if◌then◌else◌, length, None, Some, Ok, Err, Result};
+ghost use Rattle.std.specs.Prelude.{IfOk, IfErr, IfSome};
 ghost use Rattle.vhost_message.specs.Channel.{Sends};
-ghost use Rattle.vhost_iotlb.specs.Handling.{Answers, Handles, HasHeader, IsApplied, Serves, answer_of, asked, on_table, reply_bytes};
-ghost use Rattle.vhost_iotlb.specs.Misses.{AfterHandled, Asks, AsksOnce, CatchesUp, Hears, IsWhole, Tells, TriesOn, TriesOnce, Waits, WaitsFor, WaitsOn, after_reply, after_telling, after_waiting, is_nothing, waited_of};
+ghost use Rattle.vhost_iotlb.specs.Handling.{Answers, Handles, HasHeader, IsApplied, Serves, answer_of, asked};
+ghost use Rattle.vhost_iotlb.specs.Handling.{on_table, reply_bytes};
+ghost use Rattle.vhost_iotlb.specs.Misses.{AfterHandled, Asks, AsksOnce, CatchesUp, Hears, IsWhole, Tells, TriesOn};
+ghost use Rattle.vhost_iotlb.specs.Misses.{TriesOnce, Waits, WaitsFor, WaitsOn, after_reply, after_telling};
+ghost use Rattle.vhost_iotlb.specs.Misses.{after_waiting, is_nothing, waited_of};
 ghost use Rattle.vhost_message.specs.BackendReq.{backend_request};
 ghost use Rattle.vhost_message.specs.declared.backend_req.BackendReq.TheVariants.{IotlbMsg};
 ghost use Rattle.vhost_message.specs.declared.channel.ChannelError.{ChannelError};
@@ -516,8 +520,8 @@ impl<F: Receive + Write, O: Receive + Write> DeviceIotlb<F, O> {
         }
     }
 
-    // Tries a request once, and waits for what it misses. It returns how many looks are left for the next try, or how the
-    // request ends.
+    // Tries a request once, and waits for what it misses. It returns how many looks are left for the next try, or how
+    // the request ends.
     fn try_once<H: SharedHost, R: Request>(
         &mut self,
         host: &mut H,
@@ -547,8 +551,8 @@ impl<F: Receive + Write, O: Receive + Write> DeviceIotlb<F, O> {
     /// If a message of another request comes meanwhile, it is returned: the request is not done then. Its owner serves
     /// the message, and calls this again with the same request, which goes on. The limits count anew.
     ///
-    /// `Refused` if the front end's reply to the MISS is not 0, `Deadline` and `Tries` past the limits, `Forbidden` if a
-    /// mapping forbids the access, of which an ACCESS_FAIL informs the front end, `Failed` if the request cannot be
+    /// `Refused` if the front end's reply to the MISS is not 0, `Deadline` and `Tries` past the limits, `Forbidden` if
+    /// a mapping forbids the access, of which an ACCESS_FAIL informs the front end, `Failed` if the request cannot be
     /// done, and `Channel` if a channel ends or fails. Then the request may be done in part.
     ///
     /// Leaves open: that no MISS is sent, for whatever address, if one was sent before a message of another request

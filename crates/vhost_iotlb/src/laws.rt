@@ -1,6 +1,7 @@
 //! What holds of every list of messages to a table, whatever else is done with its host before, between and after them:
 //! each function here is a theorem, and does nothing. It calls the theorems that it follows from.
-ghost use Rattle.std.specs.Prelude.{◌≡◌, ◌+◌, ◌-◌, ◌^◌, ◌<◌, ℕ, true, false, List, ◌∷◌, ◌++◌, All, Option, Some, None, slice_get, Result, Ok};
+ghost use Rattle.std.specs.Prelude.{◌≡◌, ◌+◌, ◌-◌, ◌^◌, ◌<◌, ℕ, true, false, List, ◌∷◌, ◌++◌, All, Option, Some, None};
+ghost use Rattle.std.specs.Prelude.{slice_get, Result, Ok};
 ghost use Rattle.vm_memory_base.specs.Address.{step};
 ghost use Rattle.vm_memory_base.specs.Permissions.{allow};
 ghost use Rattle.vm_memory_base.specs.Table as table;

@@ -46,8 +46,8 @@ impl Replies {
         Ok(self.message.len() >= end)
     }
 
-    // The next reply, if all of it has come: its header, and a number. It reads at most twice. `Refused` with the errors
-    // of `BackendReply::decode` for another message, now and at each later call.
+    // The next reply, if all of it has come: its header, and a number. It reads at most twice. `Refused` with the
+    // errors of `BackendReply::decode` for another message, now and at each later call.
     pub fn look<R: Receive>(&mut self, reader: &mut R) -> Result<Option<BackendReply>, ChannelError>
         ensures { LooksBack R.gives self.old reader.old result self.new reader.new }
     {

@@ -1,5 +1,6 @@
 //! A bounded table of a host, and what messages make of it.
-ghost use Rattle.std.specs.Prelude.{◌≡◌, ◌⊎◌, ◌+◌, ◌^◌, ◌<◌, true, false, List, [], length, Some, IfNone, IfOk, IfSome, Ok, OnErr, OnOk, OnSome, slice_get};
+ghost use Rattle.std.specs.Prelude.{◌≡◌, ◌⊎◌, ◌+◌, ◌^◌, ◌<◌, true, false, List, [], length, Some, IfNone, IfOk, IfSome};
+ghost use Rattle.std.specs.Prelude.{Ok, OnErr, OnOk, OnSome, slice_get};
 ghost use Rattle.vm_memory_base.specs.Table as tables;
 ghost use Rattle.vm_memory_base.specs.Table.{TableEvent};
 ghost use Rattle.vm_memory_guest.specs.Host.{shape_of, with_given_table};

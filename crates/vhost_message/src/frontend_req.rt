@@ -1,6 +1,7 @@
 //! What a front end asks for.
 ghost use Rattle.std.specs.Prelude.{◌≡◌, ◌≤◌, length};
-ghost use Rattle.vhost_message.specs.FrontendReq.{config_in, descriptors_of, enabling_in, has_descriptor, iotlb_in, request_in, request_of, ring_in, vring_addr_in, vring_request_in};
+ghost use Rattle.vhost_message.specs.FrontendReq.{config_in, descriptors_of, enabling_in, has_descriptor, iotlb_in};
+ghost use Rattle.vhost_message.specs.FrontendReq.{request_in, request_of, ring_in, vring_addr_in, vring_request_in};
 ghost use Rattle.vhost_message.specs.Requests.{least_of};
 
 use crate::header::Header;

@@ -1,7 +1,8 @@
 //! Messages on a device's I/O table, as payloads.
 ghost use Rattle.std.specs.Prelude.{◌≡◌, ◌≤◌, length, take, drop, IfOk, Ok};
 ghost use Rattle.std.specs.Int.{w64, from_le_bytes};
-ghost use Rattle.vhost_message.specs.Iotlb.{IsMessage, Spells, fields_in, fields_of, message_in, number_of, payload_bytes, permissions_in, range_in};
+ghost use Rattle.vhost_message.specs.Iotlb.{IsMessage, Spells, fields_in, fields_of, message_in, number_of};
+ghost use Rattle.vhost_message.specs.Iotlb.{payload_bytes, permissions_in, range_in};
 ghost use Rattle.vhost_message.specs.declared.iotlb.IotlbMessage.{IotlbMessage};
 
 use crate::numbers::number;

@@ -1,7 +1,8 @@
 //! What holds of every message and every stream: each function here is a theorem, and does nothing.
 ghost use Rattle.std.specs.Prelude.{◌≡◌, Bool, List, [], ℕ, Option, Result, Ok};
 ghost use Rattle.vhost_message.specs.Channel.{AllLook, Given, Reads, bytes_given, found};
-ghost use Rattle.vhost_message.specs.Iotlb.{IsMessage as IsOnTable, Spells, fields_in, fields_of, message_in, payload_bytes};
+ghost use Rattle.vhost_message.specs.Iotlb.{IsMessage as IsOnTable, Spells, fields_in, fields_of, message_in};
+ghost use Rattle.vhost_message.specs.Iotlb.{payload_bytes};
 ghost use Rattle.vhost_message.specs.FrontendReq.{request_of};
 ghost use Rattle.vhost_message.specs.Spelling.{IsRequest, header_of, payload_of};
 ghost use Rattle.vhost_message.specs.declared.frontend_req.FrontendReq.{FrontendReq};

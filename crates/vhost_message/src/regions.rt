@@ -1,6 +1,8 @@
 //! The memory that a front end shares.
 ghost use Rattle.std.specs.Prelude.{◌≡◌, ◌+◌, ◌<◌, ◌≤◌, [], length};
-ghost use Rattle.vhost_message.specs.Regions.{are_apart, are_whole, begins_below, guest_address, guest_of, has_range, is_whole, overlap, overlaps_any, region_at, region_or_none, table_in, tested};
+ghost use Rattle.vhost_message.specs.Regions.{are_apart, are_whole, begins_below, guest_address, guest_of, has_range};
+ghost use Rattle.vhost_message.specs.Regions.{is_whole, overlap, overlaps_any, region_at, region_or_none, table_in};
+ghost use Rattle.vhost_message.specs.Regions.{tested};
 
 use crate::numbers::{number, word};
 use crate::refusal::Refusal;

@@ -1,6 +1,10 @@
 //! The state of a connection, and the requests that change it.
 ghost use Rattle.std.specs.Prelude.{◌≡◌, ◌<◌, ◌≤◌, length, drop, OnOk, true};
-ghost use Rattle.vhost_user.specs.Connection.{Handles, Steps, Connects, can_offer, in_config, is_any_started, is_writable, needed, served, stopped_at, vring_at, with_address, with_base, with_call, with_changed_config, with_config, with_enabled, with_err, with_features, with_kick, with_log, with_memory, with_num, with_protocol_features, with_vring, without_kick, vring_served};
+ghost use Rattle.vhost_user.specs.Connection.{Handles, Steps, Connects, can_offer, in_config, is_any_started};
+ghost use Rattle.vhost_user.specs.Connection.{is_writable, needed, served, stopped_at, vring_at, with_address};
+ghost use Rattle.vhost_user.specs.Connection.{with_base, with_call, with_changed_config, with_config, with_enabled};
+ghost use Rattle.vhost_user.specs.Connection.{with_err, with_features, with_kick, with_log, with_memory, with_num};
+ghost use Rattle.vhost_user.specs.Connection.{with_protocol_features, with_vring, without_kick, vring_served};
 ghost use Rattle.vhost_user.specs.Features.{has};
 ghost use Rattle.vhost_user.specs.Running.{is_disabled, log_of, place, placed_vring, running};
 
@@ -467,8 +471,8 @@ impl BackendReqHandler {
         }
     }
 
-    /// Does what a request asks for that was taken from a message, as `handle` does it: for a back end that lets some wait.
-    /// The payload counts for a SET_CONFIG alone. One that is refused changes nothing.
+    /// Does what a request asks for that was taken from a message, as `handle` does it: for a back end that lets some
+    /// wait. The payload counts for a SET_CONFIG alone. One that is refused changes nothing.
     pub fn serve(&mut self, request: &FrontendReq, payload: &[u8]) -> Result<(), Refusal>
         ensures { Steps self.old (served self.old request.now payload.now) result self.new }
     {
@@ -535,8 +539,8 @@ impl BackendReqHandler {
     }
 
     /// Sets where a stopped ring goes on, as a front end does it by SET_VRING_BASE: so what is replied can come back.
-    /// `Index` if there is no such ring, `Started` if it is started, and `Base` if it is a split one and this is no index
-    /// of 16 bits.
+    /// `Index` if there is no such ring, `Started` if it is started, and `Base` if it is a split one and this is no
+    /// index of 16 bits.
     pub fn stop(&mut self, index: u32, base: u32) -> Result<(), Refusal>
         ensures { Steps self.old (with_base self.old index base) result self.new }
     {

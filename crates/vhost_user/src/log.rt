@@ -56,8 +56,8 @@ impl BackendReqHandler {
         }
     }
 
-    /// The pages that are marked in the log for `len` bytes of guest memory that were written, from `address` on: no page
-    /// if LOG_ALL is not accepted or no log was shared. `None` if the log has no bit for one of them.
+    /// The pages that are marked in the log for `len` bytes of guest memory that were written, from `address` on: no
+    /// page if LOG_ALL is not accepted or no log was shared. `None` if the log has no bit for one of them.
     pub fn logged(&self, address: u64, len: u64) -> Option<LogPages>
         ensures { result ≡ logged self.now address len }
     {

@@ -1,6 +1,7 @@
 //! What a back end replies.
 ghost use Rattle.std.specs.Prelude.{◌≡◌, []};
-ghost use Rattle.vhost_user.specs.Reply.{acknowledgement, base_reply, config_reply, number_reply, refused, reply, reply_to};
+ghost use Rattle.vhost_user.specs.Reply.{acknowledgement, base_reply, config_reply, number_reply, refused, reply};
+ghost use Rattle.vhost_user.specs.Reply.{reply_to};
 
 use crate::backend_req_handler::BackendReqHandler;
 use crate::features::{VHOST_USER_PROTOCOL_F_REPLY_ACK, has};

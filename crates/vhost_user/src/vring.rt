@@ -1,6 +1,7 @@
 //! The state of a ring.
 ghost use Rattle.std.specs.Prelude.{◌≡◌};
-ghost use Rattle.vhost_user.specs.Vring.{available_len, event_len, is_aligned, is_placed_as, is_started, new_vring, notifier_of, table_len, used_len};
+ghost use Rattle.vhost_user.specs.Vring.{available_len, event_len, is_aligned, is_placed_as, is_started, new_vring};
+ghost use Rattle.vhost_user.specs.Vring.{notifier_of, table_len, used_len};
 
 use crate::features::{VIRTIO_F_RING_EVENT_IDX, VIRTIO_F_RING_PACKED, has};
 use vhost_message::VringAddr;

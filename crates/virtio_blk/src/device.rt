@@ -17,6 +17,7 @@ use crate::features::{
 use crate::request::{ID_LEN, Terms};
 use std::alloc::{AllocError, Global};
 use std::marker::Model;
+use vm_memory_device::Segment;
 
 // How many bytes are moved between the guest and the disk at once.
 pub(crate) const PIECE: usize = 65536;
@@ -38,6 +39,8 @@ pub struct BlockDevice<D> {
     starved: u64,
     // What is on its way between the guest and the disk.
     buffer: Vec<u8>,
+    // The list of the next chain.
+    list: Vec<Segment>,
 }
 
 impl<D> Model for BlockDevice<D> {
@@ -80,6 +83,7 @@ impl<D: Disk> BlockDevice<D> {
             acked: 0,
             starved: 0,
             buffer,
+            list: Vec::new(alloc),
         })
     }
 

@@ -1,5 +1,6 @@
 //! Disks of whole sectors.
-ghost use Rattle.std.specs.Prelude.{◌≡◌, ◌+◌, ◌*◌, ◌%◌, ◌^◌, ◌<◌, ◌≤◌, ℕ, Bool, true, List, length, Option, Some, OnOk, MatchOption, MatchResult, is_ok};
+ghost use Rattle.std.specs.Prelude.{◌≡◌, ◌+◌, ◌*◌, ◌%◌, ◌^◌, ◌<◌, ◌≤◌, ℕ, Bool, true, List, length, Option, Some, OnOk};
+ghost use Rattle.std.specs.Prelude.{MatchOption, MatchResult, is_ok};
 ghost use Rattle.virtio_blk.specs.Disk.{Call, reads, writes, flushes, LieAt, after_write};
 
 pub(crate) mod file;
@@ -62,10 +63,10 @@ pub trait Disk: Drop {
         None
     }
 
-    /// Whether `write` takes guest memory where it lies. A guest may write that memory while the call reads it, so a byte
-    /// that comes to the disk may be any that lies there during the call. A disk that takes it has to read each byte once
-    /// and decide nothing by it, as one that only moves bytes. For any other one `write` gets a copy, which no guest
-    /// writes: it returns false, as this does.
+    /// Whether `write` takes guest memory where it lies. A guest may write that memory while the call reads it, so a
+    /// byte that comes to the disk may be any that lies there during the call. A disk that takes it has to read each
+    /// byte once and decide nothing by it, as one that only moves bytes. For any other one `write` gets a copy, which
+    /// no guest writes: it returns false, as this does.
     fn takes_guest_memory(&self) -> bool {
         false
     }

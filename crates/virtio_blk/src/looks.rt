@@ -15,8 +15,8 @@ use vm_memory_guest::{GuestMemory, GuestMemoryError, GuestMemoryResult, HostMemo
 /// A ghost member says what is known of a look. A call that is generic over this trait knows no more of the bytes than
 /// what its looks found, and the fact that they were made.
 pub trait Fetches {
-    /// A look: what looked before it, the text, at how many of its first bytes, the bytes that it found from the first on,
-    /// or why none, and what looks after it.
+    /// A look: what looked before it, the text, at how many of its first bytes, the bytes that it found from the first
+    /// on, or why none, and what looks after it.
     ghost fetches: { Self → List Entry → ℕ → Result (List ℕ) GuestMemoryError → Self → Type 0 };
 
     /// Fills the front of the buffer with the next bytes of a text, each of which is read once, and returns how many.

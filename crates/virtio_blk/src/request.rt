@@ -40,11 +40,11 @@ pub struct Terms {
     /// The features that the driver accepted, each as its bit, and 0 if it accepted none. `VIRTIO_BLK_F_FLUSH` is the
     /// one that counts.
     pub acked: u64,
-    /// The greatest number of data segments, if the driver accepted SEG_MAX. A chain has two more at most: those with the
-    /// header and with the status.
+    /// The greatest number of data segments, if the driver accepted SEG_MAX. A chain has two more at most: those with
+    /// the header and with the status.
     pub seg_max: Option<usize>,
-    /// The greatest length of a segment, in bytes, if the driver accepted SIZE_MAX. Every segment of a chain counts, since
-    /// one with a header or a status is shorter than any limit that is of use.
+    /// The greatest length of a segment, in bytes, if the driver accepted SIZE_MAX. Every segment of a chain counts,
+    /// since one with a header or a status is shorter than any limit that is of use.
     pub size_max: Option<usize>,
 }
 

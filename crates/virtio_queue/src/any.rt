@@ -1,7 +1,11 @@
 //! Queues of either kind.
 ghost use Rattle.std.specs.Prelude.{◌≡◌, None, Ok, false, OnOk};
 ghost use Rattle.vm_memory_guest.specs.Host.{shape_of, Holds};
-ghost use Rattle.virtio_queue.specs.Any.{AddsUsed, Disables, Enables, HasNone, MayWantChain, MayWantNeeds, MayWantValid, Offers, Waits, after_asked, after_pop, after_used, asking, at_next, disabling, enabling, has_event_idx, max_size_of, needs_notification, next_avail_of, past, popped, popping, returning, unset, valid, with_event_idx, with_ready};
+ghost use Rattle.virtio_queue.specs.Any.{AddsUsed, Disables, Enables, HasNone, MayWantChain, MayWantNeeds};
+ghost use Rattle.virtio_queue.specs.Any.{MayWantValid, Offers, Waits, after_asked, after_pop, after_used, asking};
+ghost use Rattle.virtio_queue.specs.Any.{at_next, disabling, enabling, has_event_idx, max_size_of, needs_notification};
+ghost use Rattle.virtio_queue.specs.Any.{next_avail_of, past, popped, popping, returning, unset, valid, with_event_idx};
+ghost use Rattle.virtio_queue.specs.Any.{with_ready};
 ghost use Rattle.virtio_queue.specs.Fields.{Answers};
 ghost use Rattle.virtio_queue.specs.Looks.{Follows};
 ghost use Rattle.virtio_queue.specs.declared.packed.state.PackedBuffer.{PackedBuffer};
@@ -13,13 +17,13 @@ use crate::queue::Queue;
 use crate::stores::Stores;
 use std::alloc::Global;
 use vm_memory_base::Bitmap;
-use vm_memory_device::Chain;
+use vm_memory_device::{Chain, Segment};
 use vm_memory_guest::{GuestMemory, HostMemory};
 
 /// A virtqueue of either kind, for devices whose driver chooses it by VIRTIO_F_RING_PACKED.
 ///
-/// Each call does what the call of that name of [`Queue`] or [`PackedQueue`] does, and is proved to. A chain is returned
-/// by what it was popped with: that of a split queue is its head, and one slot.
+/// Each call does what the call of that name of [`Queue`] or [`PackedQueue`] does, and is proved to. A chain is
+/// returned by what it was popped with: that of a split queue is its head, and one slot.
 ///
 /// ```text
 /// let mut queue = AnyQueue::Split(Queue::new(128)?);
@@ -119,33 +123,54 @@ impl AnyQueue {
         ensures none { result ≡ Ok None → HasNone (M.memory mem.now) host.now self.old }
         ensures moved { self.new ≡ after_pop self.old result }
     {
+        let mut list = Vec::new(alloc);
+        self.pop_into(alloc, &mut list, mem, host)
+    }
+
+    /// As `pop_descriptor_chain`, in a list that is used again, such as that of a chain that was
+    /// returned (`Chain::into_segments`). A chain takes the list and leaves an empty one. What it held is lost.
+    #[inline(always)]
+    pub fn pop_into<M: GuestMemory, B: Bitmap>(
+        &mut self,
+        alloc: Global,
+        list: &mut Vec<Segment>,
+        mem: &M,
+        host: &HostMemory<B>,
+    ) -> Result<Option<(PackedBuffer, Chain)>, QueueError>
+        requires { Holds (shape_of host.now) (M.names mem.now) }
+        ensures popped { let m = M.memory mem.now in
+            Answers (MayWantChain m host.now self.old) (popped m host.now self.old) result }
+        ensures none { result ≡ Ok None → HasNone (M.memory mem.now) host.now self.old }
+        ensures moved { self.new ≡ after_pop self.old result }
+    {
         match self {
-            AnyQueue::Split(queue) => match queue.pop_descriptor_chain(alloc, mem, host) {
+            AnyQueue::Split(queue) => match queue.pop_into(alloc, list, mem, host) {
                 Ok(Some((id, chain))) => Ok(Some((PackedBuffer { id, slots: 1 }, chain))),
                 Ok(None) => Ok(None),
                 Err(error) => Err(error),
             },
-            AnyQueue::Packed(queue) => queue.pop_descriptor_chain(alloc, mem, host),
+            AnyQueue::Packed(queue) => queue.pop_into(alloc, list, mem, host),
         }
     }
 
-    /// As `pop_descriptor_chain`, from memory that a driver may write meanwhile.
+    /// As `pop_into`, from memory that a driver may write meanwhile.
     #[inline(always)]
     pub fn pop_from<L: Looks>(
         &mut self,
         alloc: Global,
+        list: &mut Vec<Segment>,
         looks: &mut L,
     ) -> Result<Option<(PackedBuffer, Chain)>, QueueError>
         ensures looks { Follows L.looks (popping self.old) looks.old result looks.new }
         ensures moved { self.new ≡ after_pop self.old result }
     {
         match self {
-            AnyQueue::Split(queue) => match queue.pop_from(alloc, looks) {
+            AnyQueue::Split(queue) => match queue.pop_from(alloc, list, looks) {
                 Ok(Some((id, chain))) => Ok(Some((PackedBuffer { id, slots: 1 }, chain))),
                 Ok(None) => Ok(None),
                 Err(error) => Err(error),
             },
-            AnyQueue::Packed(queue) => queue.pop_from(alloc, looks),
+            AnyQueue::Packed(queue) => queue.pop_from(alloc, list, looks),
         }
     }
 

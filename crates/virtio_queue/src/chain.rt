@@ -10,6 +10,7 @@ use crate::error::QueueError;
 use crate::looks::Looks;
 use crate::state::QueueState;
 use std::alloc::Global;
+use std::mem;
 use vm_memory_device::{Chain, Segment};
 
 // Follows `next` from an index in a table of so many descriptors, and adds the segments of direct ones. It answers
@@ -78,37 +79,39 @@ fn follow_indirect<L: Looks>(
     }
 }
 
-// The segments of the chain of a head.
+// Puts the segments of the chain of a head in place of those of a list.
 #[inline(always)]
-fn segments_at<L: Looks>(
-    alloc: Global,
+fn put_segments<L: Looks>(
+    segments: &mut Vec<Segment>,
     looks: &mut L,
     state: &QueueState,
     head: u16,
-) -> Result<Vec<Segment>, QueueError>
+) -> Result<(), QueueError>
     ensures { Follows L.looks (segments_from state.now head) looks.old
-        (and_then result (λ segments. Ok segments.items)) looks.new }
+        (and_then result (λ _. Ok segments.new.items)) looks.new }
 {
-    let mut segments = Vec::new(alloc);
+    segments.clear();
     let table = state.desc_table;
-    let Some(descriptor) = follow(looks, table, state.size, head, &mut segments)? else {
-        return Ok(segments);
+    let Some(descriptor) = follow(looks, table, state.size, head, segments)? else {
+        return Ok(());
     };
-    follow_indirect(looks, &descriptor, &mut segments)?;
-    Ok(segments)
+    follow_indirect(looks, &descriptor, segments)?;
+    Ok(())
 }
 
-// The chain of a head.
+// The chain of a head, which takes the list.
 #[inline(always)]
 pub(crate) fn chain_at<L: Looks>(
     alloc: Global,
+    list: &mut Vec<Segment>,
     looks: &mut L,
     state: &QueueState,
     head: u16,
 ) -> Result<Chain, QueueError>
     ensures { Follows L.looks (chain_from state.now head) looks.old result looks.new }
 {
-    match Chain::new(segments_at(alloc, looks, state, head)?) {
+    put_segments(list, looks, state, head)?;
+    match Chain::new(mem::replace(list, Vec::new(alloc))) {
         Ok(chain) => Ok(chain),
         Err(fault) => Err(QueueError::InvalidChain(fault)),
     }

@@ -1,7 +1,8 @@
 //! The driver's half of a queue.
 ghost use Rattle.std.specs.Prelude.{◌≡◌, ◌+◌, ◌*◌, ◌<◌, ◌^◌};
 ghost use Rattle.vm_memory_guest.specs.Host.{shape_of, Holds};
-ghost use Rattle.virtio_queue.specs.Driver.{MayWantField, MayWantNext, Publishes, Puts, after_publish, after_take, device_of, field_at, layout_of, next_entry, offset_of, ring_of};
+ghost use Rattle.virtio_queue.specs.Driver.{MayWantField, MayWantNext, Publishes, Puts, after_publish, after_take};
+ghost use Rattle.virtio_queue.specs.Driver.{device_of, field_at, layout_of, next_entry, offset_of, ring_of};
 ghost use Rattle.virtio_queue.specs.Fields.{Answers, StoresWord};
 
 use crate::descriptor::Descriptor;

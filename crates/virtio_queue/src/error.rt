@@ -65,8 +65,8 @@ impl QueueError {
     ghost use Rattle.std.specs.Prelude.{◌≡◌};
     ghost use Rattle.virtio_queue.specs.Error.{of_access};
 
-    // The error of a queue for one of an access.
-    #[cold]
+    // The error of a queue for one of an access. A call would keep each result in memory.
+    #[inline(always)]
     pub(crate) fn of_access(error: GuestMemoryError) -> QueueError
         ensures { result ≡ of_access error }
     {

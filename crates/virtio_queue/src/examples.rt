@@ -8,7 +8,10 @@ ghost use Rattle.virtio_queue.specs.Popping.{next_head, segments_from};
 ghost use Rattle.virtio_queue.specs.Rings.{before, behind, next_in};
 ghost use Rattle.virtio_queue.specs.State.{is_size};
 ghost use Rattle.virtio_queue.specs.declared.descriptor.Descriptor.{Descriptor};
-ghost use Rattle.virtio_queue.specs.declared.error.QueueError.TheVariants.{DescriptorLoop, IndirectWithNext, InvalidAvailRingIndex, InvalidDescriptorIndex, InvalidIndirectTable};
+ghost use Rattle.virtio_queue.specs.declared.error.QueueError.TheVariants.{DescriptorLoop, IndirectWithNext};
+ghost use Rattle.virtio_queue.specs.declared.error.QueueError.TheVariants.{InvalidAvailRingIndex};
+ghost use Rattle.virtio_queue.specs.declared.error.QueueError.TheVariants.{InvalidDescriptorIndex};
+ghost use Rattle.virtio_queue.specs.declared.error.QueueError.TheVariants.{InvalidIndirectTable};
 ghost use Rattle.virtio_queue.specs.declared.state.QueueState.{QueueState};
 
 /// Sizes are powers of two. Indices go on from 65535 to 0. A ring of two heads, 7 and 8, gives the one at the next

@@ -1,5 +1,6 @@
 //! The fields of a queue in guest memory: each is read or written by one access.
-ghost use Rattle.std.specs.Prelude.{◌≡◌, ◌⊎◌, ◌+◌, ◌*◌, ◌<◌, ◌^◌, ◌++◌, ◌∷◌, [], true, option_map, All, Ok, IfOk, IsTrue, MatchResult, OnOk};
+ghost use Rattle.std.specs.Prelude.{◌≡◌, ◌⊎◌, ◌+◌, ◌*◌, ◌<◌, ◌^◌, ◌++◌, ◌∷◌, [], true, option_map, All, Ok, IfOk};
+ghost use Rattle.std.specs.Prelude.{IsTrue, MatchResult, OnOk};
 ghost use Rattle.std.specs.Int.{w16, w32, from_le_bytes, to_le_bytes};
 ghost use Rattle.vm_memory_base.specs.declared.iotlb.Permissions.TheVariants.{Read, Write};
 ghost use Rattle.vm_memory_guest.specs.Error.{error_of};
@@ -8,7 +9,9 @@ ghost use Rattle.vm_memory_guest.specs.Typed.{first_aligned};
 ghost use Rattle.vm_memory_guest.specs.Walk.{NeedsPieces};
 ghost use Rattle.vm_memory_guest.specs.Window.{Writes, cells_of, window_names};
 ghost use Rattle.virtio_queue.specs.Driver.{Puts};
-ghost use Rattle.virtio_queue.specs.Fields.{Answers, MayWant, StoresWord, WritesBytes, descriptor_at, is_word, lies_whole, pair_at, place, room_at, room_fault, stored_at, told, window_at, word_at};
+ghost use Rattle.virtio_queue.specs.Fields.{Answers, MayWant, StoresWord, WritesBytes, descriptor_at, is_word};
+ghost use Rattle.virtio_queue.specs.Fields.{lies_whole, pair_at, place, room_at, room_fault, stored_at, told};
+ghost use Rattle.virtio_queue.specs.Fields.{window_at, word_at};
 
 use crate::descriptor::Descriptor;
 use crate::error::QueueError;

@@ -1,5 +1,6 @@
 //! What becomes of the heads and entries of a queue: each function here is a theorem, and does nothing.
-ghost use Rattle.std.specs.Prelude.{◌≡◌, ◌⊎◌, ◌<◌, ◌≤◌, ◌^◌, ℕ, [], true, Bool, List, Option, All, length, take, slice_get, IsTrue, Result, Ok, Err};
+ghost use Rattle.std.specs.Prelude.{◌≡◌, ◌⊎◌, ◌<◌, ◌≤◌, ◌^◌, ℕ, [], true, Bool, List, Option, All, length, take};
+ghost use Rattle.std.specs.Prelude.{slice_get, IsTrue, Result, Ok, Err};
 ghost use Rattle.std.specs.Int.{w16, to_le_bytes};
 ghost use Rattle.vm_memory_base.specs.declared.iotlb.Permissions.TheVariants.{Write};
 ghost use Rattle.vm_memory_guest.specs.Access.{Reached};
@@ -12,7 +13,8 @@ ghost use Rattle.vm_memory_device.specs.declared.chain.Segment.{Segment};
 ghost use Rattle.virtio_queue.specs.Any.{asking, popping};
 ghost use Rattle.virtio_queue.specs.Available.{Followed, avail_idx, entry, followed, head_in, next_head};
 ghost use Rattle.virtio_queue.specs.Fields.{StoresWord, place, reached_at};
-ghost use Rattle.virtio_queue.specs.History.{Entry, Event, Return, Rings, Story, AllMay, after, beginning, empty_rings, entry_to_take, head_to_pop, story};
+ghost use Rattle.virtio_queue.specs.History.{Entry, Event, Return, Rings, Story, AllMay, after, beginning, empty_rings};
+ghost use Rattle.virtio_queue.specs.History.{entry_to_take, head_to_pop, story};
 ghost use Rattle.virtio_queue.specs.Linked.{AreLinked, LeadsTo, told_by};
 ghost use Rattle.virtio_queue.specs.Looks.{Follows, Saw, Seen};
 ghost use Rattle.virtio_queue.specs.Notification.{is_among};
@@ -22,7 +24,8 @@ ghost use Rattle.virtio_queue.specs.Used.{WritesEntry, after_used, entry_bytes, 
 ghost use Rattle.virtio_queue.specs.declared.any.AnyQueue.{AnyQueue};
 ghost use Rattle.virtio_queue.specs.declared.descriptor.Descriptor.{Descriptor};
 ghost use Rattle.virtio_queue.specs.declared.error.QueueError.{QueueError};
-ghost use Rattle.virtio_queue.specs.declared.error.QueueError.TheVariants.{DescriptorLoop, InvalidDescriptorIndex, Memory};
+ghost use Rattle.virtio_queue.specs.declared.error.QueueError.TheVariants.{DescriptorLoop, InvalidDescriptorIndex};
+ghost use Rattle.virtio_queue.specs.declared.error.QueueError.TheVariants.{Memory};
 ghost use Rattle.virtio_queue.specs.declared.packed.state.PackedBuffer.{PackedBuffer};
 ghost use Rattle.virtio_queue.specs.declared.state.QueueState.{QueueState};
 

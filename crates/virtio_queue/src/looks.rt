@@ -14,8 +14,8 @@ use vm_memory_guest::{GuestMemory, HostMemory};
 
 /// Guest memory at which a call looks, while a driver may write it. Two looks at one place may find two things.
 ///
-/// A ghost member says what is known of a look. A call that is generic over this trait knows no more of memory than what
-/// its looks found, and the fact that they were made.
+/// A ghost member says what is known of a look. A call that is generic over this trait knows no more of memory than
+/// what its looks found, and the fact that they were made.
 pub trait Looks {
     /// A look: what looked before it, the step, what was found or why nothing, and what looks after it.
     ghost looks: { Self → (s : Step) → Result (Given s) QueueError → Self → Type 0 };

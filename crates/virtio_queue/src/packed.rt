@@ -1,6 +1,8 @@
 //! Packed queues: their setup, and their state.
-ghost use Rattle.std.specs.Prelude.{◌≡◌, ◌%◌, ◌^◌, ◌<◌, ◌&&◌, ◌==◌, nat_le, if◌then◌else◌, None, Some, Ok, Err, IsTrue, MatchResult};
-ghost use Rattle.virtio_queue.specs.Packed.{are_positions, at_base, base_of, is_packed_size, new_queue, new_state, set_if, state_error, with_next_avail, with_size, with_state};
+ghost use Rattle.std.specs.Prelude.{◌≡◌, ◌%◌, ◌^◌, ◌<◌, ◌&&◌, ◌==◌, nat_le, if◌then◌else◌, None, Some, Ok, Err, IsTrue};
+ghost use Rattle.std.specs.Prelude.{MatchResult};
+ghost use Rattle.virtio_queue.specs.Packed.{are_positions, at_base, base_of, is_packed_size, new_queue, new_state};
+ghost use Rattle.virtio_queue.specs.Packed.{set_if, state_error, with_next_avail, with_size, with_state};
 
 mod available;
 mod chain;

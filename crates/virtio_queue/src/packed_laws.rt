@@ -1,13 +1,18 @@
 //! What becomes of the chains of a packed queue: each function here is a theorem, and does nothing.
-ghost use Rattle.std.specs.Prelude.{◌≡◌, ℕ, ◌<◌, ◌≤◌, ◌^◌, true, false, List, length, take, slice_get, IsTrue, Option, Some, None, Result, Ok};
+ghost use Rattle.std.specs.Prelude.{◌≡◌, ℕ, ◌<◌, ◌≤◌, ◌^◌, true, false, List, length, take, slice_get, IsTrue, Option};
+ghost use Rattle.std.specs.Prelude.{Some, None, Result, Ok};
 ghost use Rattle.vm_memory_device.specs.declared.chain.Segment.{Segment};
 ghost use Rattle.vm_memory_guest.specs.Host.{Host};
 ghost use Rattle.vm_memory_guest.specs.Memory.{Memory};
-ghost use Rattle.virtio_queue.specs.Packed.{PackedVirtqueue, are_positions, at_base, base_of, moved, of_bits, to_bits, with_positions};
+ghost use Rattle.virtio_queue.specs.Packed.{PackedVirtqueue, are_positions, at_base, base_of, moved, of_bits, to_bits};
+ghost use Rattle.virtio_queue.specs.Packed.{with_positions};
 ghost use Rattle.virtio_queue.specs.PackedEvents.{is_passed};
-ghost use Rattle.virtio_queue.specs.PackedHistory.{Cell, Entry, Event, Pop, Return, Ring, Story, AllMay, after, chain_to_pop, entry_to_take, first, is_available_cell, is_used_cell, story, used_cell};
+ghost use Rattle.virtio_queue.specs.PackedHistory.{Cell, Entry, Event, Pop, Return, Ring, Story, AllMay, after};
+ghost use Rattle.virtio_queue.specs.PackedHistory.{chain_to_pop, entry_to_take, first, is_available_cell, is_used_cell};
+ghost use Rattle.virtio_queue.specs.PackedHistory.{story, used_cell};
 ghost use Rattle.virtio_queue.specs.PackedLaws.{AreInSlots, Marks};
-ghost use Rattle.virtio_queue.specs.PackedRing.{Listed, after_pop, buffer_of, is_available, is_last, is_used, listed, next_chain, next_flags, next_listed, popped};
+ghost use Rattle.virtio_queue.specs.PackedRing.{Listed, after_pop, buffer_of, is_available, is_last, is_used, listed};
+ghost use Rattle.virtio_queue.specs.PackedRing.{next_chain, next_flags, next_listed, popped};
 ghost use Rattle.virtio_queue.specs.PackedUsed.{after_used, used_flags};
 ghost use Rattle.virtio_queue.specs.Rings.{and_then};
 ghost use Rattle.virtio_queue.specs.declared.error.QueueError.{QueueError};

@@ -1,5 +1,6 @@
 //! Queues: their setup, and their state.
-ghost use Rattle.std.specs.Prelude.{◌≡◌, ◌%◌, ◌&&◌, ◌==◌, nat_le, if◌then◌else◌, None, Some, Ok, Err, IsTrue, MatchResult};
+ghost use Rattle.std.specs.Prelude.{◌≡◌, ◌%◌, ◌&&◌, ◌==◌, nat_le, if◌then◌else◌, None, Some, Ok, Err, IsTrue};
+ghost use Rattle.std.specs.Prelude.{MatchResult};
 ghost use Rattle.virtio_queue.specs.Rings.{before};
 ghost use Rattle.virtio_queue.specs.State.{is_size, new_queue, new_state, set_if, state_error, with_state};
 

@@ -18,8 +18,8 @@ use vm_memory_guest::{GuestMemory, HostMemory, VolatileSlice};
 /// Guest memory that a call writes and looks at, while a driver may write it. A call looks its places up first, so that
 /// what it does there cannot be refused any more.
 ///
-/// A ghost member says what is known of a step. A call that is generic over this trait knows no more of memory than what
-/// its steps gave, and the fact that they were taken.
+/// A ghost member says what is known of a step. A call that is generic over this trait knows no more of memory than
+/// what its steps gave, and the fact that they were taken.
 pub trait Stores<H> {
     /// A step: what lay in memory before it, what it gave or why nothing, and what lies there after it.
     ghost steps: { Self → H → (s : Step) → Result (Given s) QueueError → H → Type 0 };

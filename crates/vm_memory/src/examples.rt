@@ -16,9 +16,11 @@ ghost use Rattle.vm_memory_base.specs.declared.iotlb.Reason.TheVariants.{Missing
 ghost use Rattle.vm_memory_guest.specs.Region.{Region};
 ghost use Rattle.vm_memory_guest.specs.declared.region.error.GuestMemoryError.TheVariants as errors;
 ghost use Rattle.vm_memory_guest.specs.declared.region.error.GuestRegionCollectionError.TheVariants as layouts;
-ghost use Rattle.vm_memory.specs.examples.Fixtures.{at, low, high, unbacked, block_pages, space_pages, host, machine, translated_memory};
+ghost use Rattle.vm_memory.specs.examples.Fixtures.{at, low, high, unbacked, block_pages, space_pages, host, machine};
+ghost use Rattle.vm_memory.specs.examples.Fixtures.{translated_memory};
 ghost use Rattle.vm_memory.specs.examples.Fixtures.{marked_host, marked_machine, range, failed, two_bytes, four_bytes};
-ghost use Rattle.vm_memory.specs.examples.Fixtures.{with_bytes, with_translated_bytes, no_region_at, not_translated, in_block};
+ghost use Rattle.vm_memory.specs.examples.Fixtures.{with_bytes, with_translated_bytes, no_region_at, not_translated};
+ghost use Rattle.vm_memory.specs.examples.Fixtures.{in_block};
 ghost use Rattle.vm_memory.specs.History.{table_calls};
 ghost use Rattle.vm_memory.specs.Commands.{MayWant};
 ghost use Rattle.vm_memory.specs.Machine.{outcome, Step, Run};
@@ -29,7 +31,8 @@ ghost use Rattle.vm_memory.specs.Rounds.{image_after, MirrorsBlock, IsTracked, I
 ghost use Rattle.vm_memory_device.specs.Iommu.{behind};
 ghost use Rattle.vm_memory_device.specs.Memories.{plain};
 ghost use Rattle.vm_memory_device.specs.declared.machine_memory.MachineMemory.TheVariants as memory;
-ghost use Rattle.vm_memory.specs.declared.machine.command.Command.TheVariants.{FromRegions, Insert, Remove, ReadSlice, WriteSlice};
+ghost use Rattle.vm_memory.specs.declared.machine.command.Command.TheVariants.{FromRegions, Insert, Remove, ReadSlice};
+ghost use Rattle.vm_memory.specs.declared.machine.command.Command.TheVariants.{WriteSlice};
 ghost use Rattle.vm_memory.specs.declared.machine.command.Command.TheVariants.{NewMemory, ReplaceBackend, Enable};
 ghost use Rattle.vm_memory.specs.declared.machine.command.Command.TheVariants.{Plain, Read, Write, Store, Load};
 ghost use Rattle.vm_memory.specs.declared.machine.command.Command.TheVariants.{Copy, Dirty, Harvest};
@@ -39,7 +42,8 @@ ghost use Rattle.vm_memory.specs.declared.machine.command.Command.TheVariants.{I
 ghost use Rattle.vm_memory.specs.declared.machine.command.Ending.TheVariants as ending;
 ghost use Rattle.vm_memory.specs.declared.machine.command.Reply.TheVariants.{Layout, MemoryMade, Count, Bytes, Pages};
 ghost use Rattle.vm_memory.specs.declared.machine.command.Reply.TheVariants.{Fault, NoSuch, Memory, Truth};
-ghost use Rattle.vm_memory.specs.declared.machine.command.Reply.TheVariants.{Done, Value, BadRange, Pieces, Fails, Sent};
+ghost use Rattle.vm_memory.specs.declared.machine.command.Reply.TheVariants.{Done, Value, BadRange, Pieces, Fails};
+ghost use Rattle.vm_memory.specs.declared.machine.command.Reply.TheVariants.{Sent};
 ghost use Rattle.vm_memory.specs.declared.machine.command.Width.TheVariants.{One, Two, Four, Eight};
 ghost use Rattle.vm_memory.specs.declared.machine.command.Fault.TheVariants as fault;
 

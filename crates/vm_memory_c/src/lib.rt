@@ -55,8 +55,8 @@ pub extern "C" fn vmm_call(
     *session = Handle::of(Loose::of(open));
 }
 
-/// Makes a block of the bytes that lie at a place, as they are, tracked in pages of `page` bytes that are all clean. They
-/// are the block's alone until it is given back or the session is closed, or if it is refused the caller's again.
+/// Makes a block of the bytes that lie at a place, as they are, tracked in pages of `page` bytes that are all clean.
+/// They are the block's alone until it is given back or the session is closed, or if it is refused the caller's again.
 #[unsafe(no_mangle)]
 pub extern "C" fn vmm_lend(
     alloc: Global,

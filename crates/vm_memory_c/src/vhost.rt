@@ -1,7 +1,8 @@
 //! A back end's connection with a vhost-user front end, for C: opens one, calls it, and closes it.
 ghost use Rattle.std.specs.Prelude.{◌≡◌, Some, None, IsSome, Ok};
 ghost use Rattle.vhost_message.specs.Stream.{wanted};
-ghost use Rattle.vhost_calls.specs.Calls.{ChangesConfig, Gives, Handles, Sends, Stops, pages_at, refusal_of, region_at, reply_of, vring_at, wanted_of};
+ghost use Rattle.vhost_calls.specs.Calls.{ChangesConfig, Gives, Handles, Sends, Stops, pages_at, refusal_of, region_at};
+ghost use Rattle.vhost_calls.specs.Calls.{reply_of, vring_at, wanted_of};
 ghost use Rattle.vhost_calls.specs.Channel.{access_at, access_fail_of, answered, config_change, miss_of};
 ghost use Rattle.vhost_calls.specs.Values.{connection_state};
 ghost use Rattle.vm_memory_c.specs.Vhost.{OpensAt, StaysOpen};
@@ -212,8 +213,8 @@ pub extern "C" fn vmm_vhost_logged(
     code
 }
 
-/// Puts the message of a MISS for an address and an access, 1 to read, 2 to write, 3 for both, to the front of the output,
-/// as `vmm_vhost_reply`. It needs no connection.
+/// Puts the message of a MISS for an address and an access, 1 to read, 2 to write, 3 for both, to the front of the
+/// output, as `vmm_vhost_reply`. It needs no connection.
 #[unsafe(no_mangle)]
 pub extern "C" fn vmm_vhost_miss(iova: u64, access: u32, output: &mut [u8]) -> usize
     ensures { Sends (miss_of iova (access_at access)) output.old result output.new }

@@ -5,8 +5,9 @@
 //! the writable ones, over any guest memory, with or without an IOMMU.
 //!
 //! If an IOMMU is on, an access that it allows by two pieces or more allocates for them. If that fails after the first
-//! access of a call, the call ends with a short count, which looks the same as one that ended at an address without a byte.
-ghost use Rattle.std.specs.Prelude.{◌≡◌, ◌<◌, ◌^◌, length, min, drop, None, Some, MatchResult};
+//! access of a call, the call ends with a short count, which looks the same as one that ended at an address without a
+//! byte.
+ghost use Rattle.std.specs.Prelude.{◌≡◌, ◌<◌, ◌^◌, ◌≤◌, length, min, drop, None, Some, MatchResult};
 ghost use Rattle.vm_memory_guest.specs.Host.{shape_of, Holds};
 ghost use Rattle.vm_memory_device.specs.Chain.{ReadsText, WritesText, chain_fault, readable, text, writable};
 
@@ -87,6 +88,22 @@ impl Chain {
         ensures { result.now ≡ self.now }
     {
         self.segments.as_slice()
+    }
+
+    /// Its segments, in order, in a list that another chain can use.
+    #[inline(always)]
+    pub fn into_segments(self) -> Vec<Segment>
+        ensures { result.items ≡ self }
+    {
+        self.segments
+    }
+
+    /// How many segments that list has room for.
+    #[inline(always)]
+    pub fn capacity(&self) -> usize
+        ensures { length self.now ≤ result }
+    {
+        self.segments.capacity()
     }
 
     /// A reader of the readable segments, from their first byte on.

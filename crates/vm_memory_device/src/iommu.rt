@@ -51,8 +51,8 @@ pub trait Iommu: Named + Drop {
             (λ found. Translates (says table.now) iova.0 length access found)
             (RefusesTranslation (says table.now) iova.0 length access) };
 
-    /// The piece of a translation that leads to one, if it is found at once. It allocates nothing, and `None` says nothing
-    /// of the translation.
+    /// The piece of a translation that leads to one, if it is found at once. It allocates nothing, and `None` says
+    /// nothing of the translation.
     #[inline]
     fn translate_one(
         &self,
@@ -171,8 +171,8 @@ impl<M: GuestMemoryBackend, I: Iommu> Model for IommuMemory<M, I> {
 }
 
 impl<M: GuestMemoryBackend, I: Iommu> IommuMemory<M, I> {
-    /// Memory behind an IOMMU, which is on if `use_iommu` is true. Writes through it mark the space `space`. Translations
-    /// allocate from `alloc`.
+    /// Memory behind an IOMMU, which is on if `use_iommu` is true. Writes through it mark the space `space`.
+    /// Translations allocate from `alloc`.
     pub fn new(
         alloc: Global,
         backend: M,

@@ -2,7 +2,8 @@
 ghost use Rattle.std.specs.Prelude.{◌≡◌};
 ghost use Rattle.vm_memory.specs.Reply.{as_done, replied, reply_of_refusal};
 ghost use Rattle.vm_memory.specs.declared.machine.command.Reply.TheVariants as reply;
-ghost use Rattle.vm_session.specs.Answers.{answer_of, answer_of_error, answer_of_fault, code_of_fault, code_of_kind, code_of_reason, counted, valued};
+ghost use Rattle.vm_session.specs.Answers.{answer_of, answer_of_error, answer_of_fault, code_of_fault, code_of_kind};
+ghost use Rattle.vm_session.specs.Answers.{code_of_reason, counted, valued};
 ghost use Rattle.vm_session.specs.Codes.{coded, short_of};
 
 use crate::call::Answer;

@@ -1,6 +1,7 @@
 //! Calls and answers as plain numbers, as they cross to C.
 ghost use Rattle.std.specs.Prelude.{◌≡◌, IfSome, IsTrue, Some, slice_get};
-ghost use Rattle.vm_session.specs.Kinds.{access_at, is_access, is_message, is_queue, is_table, is_work, kinds, limit_at, marks, part_at, read_only_at, sets_up, switch_at, width_at};
+ghost use Rattle.vm_session.specs.Kinds.{access_at, is_access, is_message, is_queue, is_table, is_work, kinds};
+ghost use Rattle.vm_session.specs.Kinds.{limit_at, marks, part_at, read_only_at, sets_up, switch_at, width_at};
 
 use vm_memory::Width;
 use vm_memory_base::Permissions;
@@ -45,8 +46,8 @@ pub struct Answer {
     pub address: u64,
 }
 
-/// What a call that a table refused has to have first: `length` addresses from `address` on, for an access. They are the
-/// first of those that the call wants and that the table misses or forbids.
+/// What a call that a table refused has to have first: `length` addresses from `address` on, for an access. They are
+/// the first of those that the call wants and that the table misses or forbids.
 #[repr(C)]
 #[derive(Clone, Copy, Debug, PartialEq, Eq)]
 pub struct Miss {
@@ -153,8 +154,8 @@ pub enum Kind {
     /// Pops the next chain of the queue `first` on the memory `second`. Its chain is in flight then. `value` is its
     /// head, `count` how many readable bytes it has, and `address` how many writable ones.
     Pop,
-    /// Reads at most `length` of the readable bytes of the chain in flight of the head `third` into the output, from the
-    /// offset `address` on.
+    /// Reads at most `length` of the readable bytes of the chain in flight of the head `third` into the output, from
+    /// the offset `address` on.
     ReadChain,
     /// Writes the bytes of the input to the writable ones of the chain in flight of the head `third`, from the offset
     /// `address` on, as far as there are any.
@@ -167,31 +168,36 @@ pub enum Kind {
     EnableNotification,
     /// Asks the driver not to notify the device.
     DisableNotification,
-    /// What the chain in flight of the head `third` asks a block device for, whose disk has `target` sectors of 512 bytes
-    /// and is only read (`access` 1) or written, too (3), and whose driver accepted the features `value`. `length` is the
-    /// most data segments, of which a chain has two fewer than segments, and `other_length` the most bytes of a segment, if
-    /// the driver keeps such limits, and 0 if it does not.
+    /// What the chain in flight of the head `third` asks a block device for, whose disk has `target` sectors of 512
+    /// bytes and is only read (`access` 1) or written, too (3), and whose driver accepted the features `value`.
+    /// `length` is the most data segments, of which a chain has two fewer than segments, and `other_length` the most
+    /// bytes of a segment, if the driver keeps such limits, and 0 if it does not.
     ///
-    /// The answer's `value` is 0 for a read, 1 for a write, 2 for a write that has to be stable before it is finished, 4
-    /// for a flush, 8 for the device's name, 16 for a request that is refused, and 17 for one with no byte for its status.
+    /// The answer's `value` is 0 for a read, 1 for a write, 2 for a write that has to be stable before it is finished,
+    /// 4 for a flush, 8 for the device's name, 16 for a request that is refused, and 17 for one with no byte for its
+    /// status.
     /// `address` is the sector, and `count` how many bytes are moved, or of a refused request the status.
     BeginRequest,
-    /// Finishes the request of the chain in flight of the head `third`, to which `length` bytes were written: its status is
+    /// Finishes the request of the chain in flight of the head `third`, to which `length` bytes were written: its
+    /// status is
     /// `value`. The answer's `value` is the length that the chain is returned with.
     FinishRequest,
-    /// Applies a message of a vhost front end to the I/O table of the memory `first`, whose IOMMU is on. The input has the
-    /// message's 32 bytes, and then a row of 24 for each part of the memory that the front end announced: where the part
-    /// begins in the front end's memory, where in guest memory, and how many bytes it has. An INVALIDATE needs no rows.
+    /// Applies a message of a vhost front end to the I/O table of the memory `first`, whose IOMMU is on. The input has
+    /// the message's 32 bytes, and then a row of 24 for each part of the memory that the front end announced: where the
+    /// part begins in the front end's memory, where in guest memory, and how many bytes it has. An INVALIDATE needs no
+    /// rows.
     IotlbMessage,
     /// `WriteChain` and then `AddUsed` in one call: writes the bytes of the input to the chain in flight of the head
     /// `third`, from the offset `address` of its writable bytes on, and returns it to the driver with `value` bytes
-    /// written. A chain that did not take all of the input stays in flight: the answer says why, or how many bytes it took.
+    /// written. A chain that did not take all of the input stays in flight: the answer says why, or how many bytes it
+    /// took.
     CompleteChain,
-    /// Makes a packed queue of at most `length` entries, as `Queue` makes a split one. The calls on a queue are for both.
+    /// Makes a packed queue of at most `length` entries, as `Queue` makes a split one. The calls on a queue are for
+    /// both.
     PackedQueue,
-    /// The segments of the chain in flight of the head `third` of the queue `first`, as a list of two numbers for each: its
-    /// address, and how many bytes it has. The answer's `count` is how many there are, and `value` how many of them are
-    /// read, which come first, as in every chain.
+    /// The segments of the chain in flight of the head `third` of the queue `first`, as a list of two numbers for each:
+    /// its address, and how many bytes it has. The answer's `count` is how many there are, and `value` how many of them
+    /// are read, which come first, as in every chain.
     ListSegments,
 }
 

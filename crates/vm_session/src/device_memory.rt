@@ -2,13 +2,14 @@
 ghost use Rattle.std.specs.Prelude.{◌≡◌, []};
 ghost use Rattle.vm_memory_guest.specs.Host.{Holds, Shape, shape_of};
 ghost use Rattle.virtio_queue.specs.Any.{after_asked, after_pop, after_used};
-ghost use Rattle.vm_session.specs.DeviceSteps.{ByLooks, DeviceStep, Returned, Still, adds_used, begins, disables, enables, finishes, needs, pops, reads_avail, reads_used};
+ghost use Rattle.vm_session.specs.DeviceSteps.{ByLooks, DeviceStep, Returned, Still, adds_used, begins, disables};
+ghost use Rattle.vm_session.specs.DeviceSteps.{enables, finishes, needs, pops, reads_avail, reads_used};
 
 use std::alloc::Global;
 use virtio_blk::{Fetches, Puts, Request, Terms, begin, begin_from, finish, finish_from};
 use virtio_queue::{AnyQueue, Looks, PackedBuffer, Queue, QueueError, Stores};
 use vm_memory_base::Bitmap;
-use vm_memory_device::Chain;
+use vm_memory_device::{Chain, Segment};
 use vm_memory_guest::{GuestMemory, GuestMemoryResult, HostMemory};
 
 // Guest memory on which a device takes its steps: calls of a queue, and the beginning and the end of a block request.
@@ -29,6 +30,7 @@ pub(crate) trait DeviceMemory<H> {
         &self,
         host: &mut H,
         alloc: Global,
+        list: &mut Vec<Segment>,
         queue: &mut AnyQueue,
     ) -> Result<Option<(PackedBuffer, Chain)>, QueueError>
         requires { held self.now host.old }
@@ -109,9 +111,10 @@ impl<M: GuestMemory, B: Bitmap> DeviceMemory<HostMemory<B>> for Lent<'_, M> {
         &self,
         host: &mut HostMemory<B>,
         alloc: Global,
+        list: &mut Vec<Segment>,
         queue: &mut AnyQueue,
     ) -> Result<Option<(PackedBuffer, Chain)>, QueueError> {
-        queue.pop_descriptor_chain(alloc, self.mem, host)
+        queue.pop_into(alloc, list, self.mem, host)
     }
 
     #[inline(always)]
@@ -202,9 +205,10 @@ impl<L: Looks + Fetches + Puts, S: Stores<L>> DeviceMemory<L> for Looked<'_, S> 
         &self,
         guest: &mut L,
         alloc: Global,
+        list: &mut Vec<Segment>,
         queue: &mut AnyQueue,
     ) -> Result<Option<(PackedBuffer, Chain)>, QueueError> {
-        queue.pop_from(alloc, guest)
+        queue.pop_from(alloc, list, guest)
     }
 
     fn add_used(

@@ -10,11 +10,11 @@ ghost use Rattle.vm_session.specs.SessionState.{SessionState};
 
 pub mod messages;
 
-/// Any list of calls of a session, with bytes that are lent as blocks, blocks that are given back, and a guest that writes
-/// into shared blocks between them, and before each look and each store of a call on a queue and a memory, is a run of the
-/// model with the same bytes and writes. Each call did nothing and was refused, or it made something, or it ran a command,
-/// and its answer and its output are those of the reply; or a table took a message, or it did what the call of a queue
-/// does. Commands one after another are a run of a machine.
+/// Any list of calls of a session, with bytes that are lent as blocks, blocks that are given back, and a guest that
+/// writes into shared blocks between them, and before each look and each store of a call on a queue and a memory, is a
+/// run of the model with the same bytes and writes. Each call did nothing and was refused, or it made something, or it
+/// ran a command, and its answer and its output are those of the reply; or a table took a message, or it did what the
+/// call of a queue does. Commands one after another are a run of a machine.
 ///
 /// Leaves open: that each UPDATE of announced memory first empties its table, and that each miss is reported as a table
 /// that is too small. `AnswersCall`, the contract of a call, says when.

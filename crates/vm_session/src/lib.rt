@@ -19,6 +19,7 @@ mod requests;
 mod retry;
 mod session;
 mod setup;
+mod spare;
 mod steps;
 mod transfers;
 mod words;

@@ -1,5 +1,6 @@
 //! Messages of a front end on the I/O table of a memory.
-ghost use Rattle.std.specs.Prelude.{◌≡◌, ◌⊎◌, ◌≤◌, ℕ, true, false, length, take, drop, IfOk, IsSome, IsTrue, is_some, List, MatchOption, Result, slice_get};
+ghost use Rattle.std.specs.Prelude.{◌≡◌, ◌⊎◌, ◌≤◌, ℕ, true, false, length, take, drop, IfOk, IsSome, IsTrue, is_some};
+ghost use Rattle.std.specs.Prelude.{List, MatchOption, Result, slice_get};
 ghost use Rattle.std.specs.Int.{w64, from_le_bytes};
 ghost use Rattle.vm_memory_base.specs.Table.{TableEvent};
 ghost use Rattle.vm_memory.specs.Parts.{state_of};
@@ -8,7 +9,9 @@ ghost use Rattle.vhost_iotlb.specs.Changes.{Applies, call_of, done_of, evicted_f
 ghost use Rattle.vhost_message.specs.Regions.{guest_of};
 ghost use Rattle.vhost_iotlb.specs.declared.table.Refusal as refusals;
 ghost use Rattle.vm_session.specs.Codes.{no_memory};
-ghost use Rattle.vm_session.specs.Messages.{AnswersMessage, IsApplied, answer_of_applied, answer_of_refusal, code_of_malformed, is_announced, is_update, is_whole, message_of, region_in, regions_in};
+ghost use Rattle.vm_session.specs.Messages.{AnswersMessage, IsApplied, answer_of_applied, answer_of_refusal};
+ghost use Rattle.vm_session.specs.Messages.{code_of_malformed, is_announced, is_update, is_whole, message_of};
+ghost use Rattle.vm_session.specs.Messages.{region_in, regions_in};
 ghost use Rattle.vm_session.specs.QueueCodes.{no_such};
 
 use crate::answer::refused;
@@ -143,7 +146,8 @@ impl<B: Bitmap> Work<B> for MessageWork {
     ghost does = { λ w m host after host'. (r : Result (Unit {0}) refusals.Refusal) × (calls : List TableEvent)
         × Applies w.device.table.0 w.device.memory w.message r calls host host'
         × (after.answer
-        ≡ answer_of_applied (evicted_for (call_of w.device.memory w.message) (slice_get host.tables w.device.table.0)) r) };
+        ≡ answer_of_applied
+        (evicted_for (call_of w.device.memory w.message) (slice_get host.tables w.device.table.0)) r) };
 
     fn work<M: GuestMemory>(&mut self, _mem: &M, host: &mut HostMemory<B>) {
         self.answer = applied(self.device.apply_counted(host, &self.message));

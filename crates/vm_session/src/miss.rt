@@ -1,7 +1,8 @@
 //! What a call misses that a table refused.
 ghost use Rattle.std.specs.Prelude.{◌≡◌, ◌==◌, false, MatchOption, slice_get, map};
 ghost use Rattle.vm_memory_base.specs.Lookup.{range_in};
-ghost use Rattle.vm_session.specs.Misses.{LooksUp, access_of, first_of, is_untranslated, miss_at, miss_of, no_miss, number_of};
+ghost use Rattle.vm_session.specs.Misses.{LooksUp, access_of, first_of, is_untranslated, miss_at, miss_of, no_miss};
+ghost use Rattle.vm_session.specs.Misses.{number_of};
 ghost use Rattle.vm_session.specs.Requests.{address};
 ghost use Rattle.vm_memory.specs.Reply.{replied};
 ghost use Rattle.vm_memory.specs.ScriptMachine.{state_made};

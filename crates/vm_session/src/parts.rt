@@ -152,7 +152,8 @@ impl SessionParts {
         }
     }
 
-    // How an address is accessed to be notified: what says whether there is a next chain is read, and the rest is written.
+    // How an address is accessed to be notified: what says whether there is a next chain is read, and the rest is
+    // written.
     fn notified(&self, queue: usize, address: u64) -> Option<Permissions>
         ensures { result ≡ notified self.now queue address }
     {
@@ -216,7 +217,8 @@ impl SessionParts {
     // Serves a call on queues alone.
     fn call_queue(&mut self, kind: Kind, call: &Call, output: &mut [u8], answer: &mut Answer)
         requires { IsTrue (is_queue kind) }
-        ensures { (input : List ℕ) → AnswersQueue kind self.old call.now input output.old answer.new self.new output.new }
+        ensures { (input : List ℕ) → AnswersQueue kind self.old call.now input output.old
+            answer.new self.new output.new }
     {
         if let Kind::Queue = kind {
             *answer = make_queue(self.alloc, &mut self.queues, call);
@@ -232,8 +234,8 @@ impl SessionParts {
         }
     }
 
-    // Serves a call on a queue and a memory. Each kind that is made often has a function of its own, since a function pays
-    // at its entry for all values that it may come to have.
+    // Serves a call on a queue and a memory. Each kind that is made often has a function of its own, since a function
+    // pays at its entry for all values that it may come to have.
     #[inline(always)]
     pub(crate) fn work(
         &mut self,
@@ -271,7 +273,8 @@ impl SessionParts {
     // Reads a chain in flight.
     #[inline(never)]
     fn read_chain(&mut self, call: &Call, output: &mut [u8], answer: &mut Answer)
-        ensures { (input : List ℕ) → OnBoth Kind.ReadChain self.old call.now input output.old answer.new self.new output.new }
+        ensures { (input : List ℕ) → OnBoth Kind.ReadChain self.old call.now input output.old
+            answer.new self.new output.new }
     {
         match self.queues.get_mut(call.first) {
             Some(queue) => read_chain(&mut self.machine, queue, call, output, answer),
@@ -315,7 +318,8 @@ impl SessionParts {
     // Whether the driver of a queue has to be notified.
     #[inline(never)]
     fn needs_notification(&mut self, call: &Call, answer: &mut Answer)
-        ensures { (input out : List ℕ) → OnBoth Kind.NeedsNotification self.old call.now input out answer.new self.new out }
+        ensures { (input out : List ℕ) → OnBoth Kind.NeedsNotification self.old call.now input out
+            answer.new self.new out }
     {
         match self.queues.get_mut(call.first) {
             Some(queue) => needs_notification(&mut self.machine, queue, call, answer),
@@ -368,7 +372,8 @@ impl SessionParts {
         output: &mut [u8],
         answer: &mut Answer,
     )
-        ensures served { Served self.old.machine kind call.now input.now output.old answer.new output.new self.new.machine }
+        ensures served { Served self.old.machine kind call.now input.now output.old answer.new output.new
+            self.new.machine }
         ensures queues { self.new.queues ≡ self.old.queues }
     {
         let (alloc, machine) = (self.alloc, &mut self.machine);
@@ -446,7 +451,8 @@ impl SessionParts {
         answer: &mut Answer,
     )
         requires { IsTrue (is_access kind) }
-        ensures served { Served self.old.machine kind call.now input.now output.old answer.new output.new self.new.machine }
+        ensures served { Served self.old.machine kind call.now input.now output.old answer.new output.new
+            self.new.machine }
         ensures queues { self.new.queues ≡ self.old.queues }
     {
         match kind {

@@ -1,7 +1,12 @@
 //! Queues of a session, and their chains in flight.
-ghost use Rattle.std.specs.Prelude.{◌≡◌, ◌==◌, ◌+◌, ◌^◌, ◌<◌, ◌≤◌, true, false, IfOk, replicate, length, Some, None, is_some, option_copied};
+ghost use Rattle.std.specs.Prelude.{◌≡◌, ◌==◌, ◌+◌, ◌^◌, ◌<◌, ◌≤◌, true, false, IfOk, replicate, length, Some, None};
+ghost use Rattle.std.specs.Prelude.{is_some, option_copied};
 ghost use Rattle.vm_memory_guest.specs.Host.{shape_of, Holds};
-ghost use Rattle.vm_session.specs.Queues.{AsksNotToNotify, AsksToNotify, BeginsRequest, FinishesRequest, Forgets, KeepsQueue, ListsSegments, ListsState, MakesQueue, NeedsNotification, Pops, ReadsChain, Returns, SetsAnyPart, TellsAvail, TellsUsed, TellsValid, WritesChain, cleared, forgotten, is_past, refusal_of_chain, with_chain, with_none};
+ghost use Rattle.vm_session.specs.Queues.{AsksNotToNotify, AsksToNotify, BeginsRequest, FinishesRequest, Forgets};
+ghost use Rattle.vm_session.specs.Queues.{KeepsQueue, ListsSegments, ListsState, MakesQueue, NeedsNotification, Pops};
+ghost use Rattle.vm_session.specs.Queues.{ReadsChain, Returns, SetsAnyPart, TellsAvail, TellsUsed, TellsValid};
+ghost use Rattle.vm_session.specs.Queues.{WritesChain, cleared, forgotten, is_past, refusal_of_chain, with_chain};
+ghost use Rattle.vm_session.specs.Queues.{with_none};
 ghost use Rattle.vm_session.specs.Misses.{next_word};
 ghost use Rattle.vm_session.specs.SessionState.{buffer_of, chain_of, descriptors_in};
 
@@ -14,6 +19,7 @@ use crate::packed_answer::{any_part_set, put_any_state};
 use crate::queue_answer::{
     asked, begun, bytes_moved, length_told, number_told, popped, queue_done, queue_refused,
 };
+use crate::spare::SpareLists;
 use std::alloc::{AllocError, Global};
 use std::marker::Model;
 use virtio_blk::Terms;
@@ -32,6 +38,7 @@ pub(crate) struct SessionQueue {
     slots: Vec<u16>,
     // How many descriptors are in flight.
     count: usize,
+    spare: SpareLists,
 }
 
 impl Model for SessionQueue {
@@ -128,6 +135,7 @@ impl SessionQueue {
             flight,
             slots,
             count: 0,
+            spare: SpareLists::new(alloc, most),
         })
     }
 
@@ -138,6 +146,7 @@ impl SessionQueue {
         self.queue.reset();
         clear(self.flight.as_mut_slice());
         self.count = 0;
+        self.spare.reset();
     }
 
     // Sets a part.
@@ -203,6 +212,7 @@ impl SessionQueue {
             *slots = buffer.slots;
         }
         if let Some(slot) = self.flight.get_mut(head) {
+            self.spare.take(&chain);
             *slot = Some(chain);
             self.count += count;
         }
@@ -219,7 +229,7 @@ impl SessionQueue {
         }
     }
 
-    // Takes the chain of a head out of flight, if it is there, and drops it.
+    // Takes the chain of a head out of flight, if it is there, and keeps its list.
     #[inline(always)]
     fn take(&mut self, head: usize)
         ensures { self.new ≡ forgotten self.old head }
@@ -227,6 +237,7 @@ impl SessionQueue {
         if let Some(slot) = self.flight.get_mut(head) {
             if let Some(chain) = slot.take() {
                 self.count -= chain.segments().len();
+                self.spare.give(chain);
             }
         }
     }
@@ -262,11 +273,12 @@ impl SessionQueue {
         ensures shape { D.shape mem.now host.new ≡ D.shape mem.now host.old }
     {
         let next = self.queue.next_avail();
-        match mem.pop(host, alloc, &mut self.queue) {
+        match mem.pop(host, alloc, &mut self.spare.next, &mut self.queue) {
             Ok(Some((buffer, chain))) => {
                 let head = usize::from(buffer.id);
                 if let Some(refusal) = self.refusal_of(head, &chain) {
                     self.queue.go_back(next);
+                    self.spare.put_back(chain);
                     *answer = refusal;
                 } else {
                     *answer = popped(head, &chain);
@@ -334,7 +346,8 @@ impl SessionQueue {
         answer: &mut Answer,
     )
         requires { Holds (shape_of host.old) (M.names mem.now) }
-        ensures written { WritesChain B.marks (M.memory mem.now) self.now head offset bytes.now host.old answer.new host.new }
+        ensures written { WritesChain B.marks (M.memory mem.now) self.now head offset bytes.now host.old
+            answer.new host.new }
         ensures shape { shape_of host.new ≡ shape_of host.old }
     {
         let Some(chain) = self.chain(head) else {

@@ -1,6 +1,8 @@
 //! The answers of calls on queues.
 ghost use Rattle.std.specs.Prelude.{◌≡◌, Some, Err};
-ghost use Rattle.vm_session.specs.QueueCodes.{answer_of_begun, answer_of_bytes, answer_of_done, answer_of_length, answer_of_number, answer_of_queue, answer_of_request, answer_of_truth, code_of_chain, popped_as};
+ghost use Rattle.vm_session.specs.QueueCodes.{answer_of_begun, answer_of_bytes, answer_of_done, answer_of_length};
+ghost use Rattle.vm_session.specs.QueueCodes.{answer_of_number, answer_of_queue, answer_of_request, answer_of_truth};
+ghost use Rattle.vm_session.specs.QueueCodes.{code_of_chain, popped_as};
 ghost use Rattle.vm_session.specs.Answers.{number_of_truth};
 ghost use Rattle.vm_session.specs.Queues.{ListsNine, SetsPart, state_numbers, word};
 

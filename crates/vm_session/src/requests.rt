@@ -1,10 +1,11 @@
-//! The calls on a queue and a memory that a device makes for each request. Each is work of its own, with no more than it
-//! needs, and puts its answer into `answer`, so that it is not copied.
+//! The calls on a queue and a memory that a device makes for each request. Each is work of its own, with no more than
+//! it needs, and puts its answer into `answer`, so that it is not copied.
 ghost use Rattle.std.specs.Prelude.{◌≡◌, List, ℕ};
 ghost use Rattle.vm_memory_guest.specs.Host.{shape_of, Holds};
 ghost use Rattle.vm_memory.specs.Parts.{state_of};
 ghost use Rattle.vm_session.specs.DeviceSteps.{Still};
-ghost use Rattle.vm_session.specs.Queues.{CompletesIf, NeedsNotification, Pops, ReadsInto, ReturnsIf, WorksOn, WritesChain, unfinished};
+ghost use Rattle.vm_session.specs.Queues.{CompletesIf, NeedsNotification, Pops, ReadsInto, ReturnsIf, WorksOn};
+ghost use Rattle.vm_session.specs.Queues.{WritesChain, unfinished};
 
 use crate::answer::{faulted, refuse};
 use crate::call::{Answer, Call, Kind};

@@ -1,6 +1,7 @@
 //! The call that misses a mapping of a table with a limit, and is made again after the mapping came.
 ghost use Rattle.std.specs.Prelude.{◌≡◌};
-ghost use Rattle.vm_session.specs.Retries.{after_update, first_miss, forgotten, heard_by, is_due, is_of, missed, missed_again, same_call};
+ghost use Rattle.vm_session.specs.Retries.{after_update, first_miss, forgotten, heard_by, is_due, is_of, missed};
+ghost use Rattle.vm_session.specs.Retries.{missed_again, same_call};
 
 use crate::call::{Answer, Call};
 use crate::code;

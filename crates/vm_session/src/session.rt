@@ -4,7 +4,8 @@ ghost use Rattle.vm_session.specs.Kinds.{is_table, kinds};
 ghost use Rattle.vm_session.specs.declared.call.Kind.TheVariants as kind;
 ghost use Rattle.vm_session.specs.Messages.{regions_in};
 ghost use Rattle.vm_session.specs.Misses.{MissesIf};
-ghost use Rattle.vm_session.specs.Retries.{AnswersCall, AnswersGivenBack, AnswersLent, IsServed, Readies, bound_of, new_session, noted, without_memories};
+ghost use Rattle.vm_session.specs.Retries.{AnswersCall, AnswersGivenBack, AnswersLent, IsServed, Readies, bound_of};
+ghost use Rattle.vm_session.specs.Retries.{new_session, noted, without_memories};
 
 use crate::call::{Answer, Call, Kind, Miss, access_kind, kind_of, work_kind};
 use crate::code;
@@ -102,19 +103,19 @@ impl Session {
         }
     }
 
-    /// Makes a block of the bytes that lie at a place, as they are, tracked in pages of `page_size` that are all clean, and
-    /// answers its number. If it is refused, `BAD_CALL` for a page of 0 or `MEMORY`, nothing changed, and the place is
-    /// forgotten.
+    /// Makes a block of the bytes that lie at a place, as they are, tracked in pages of `page_size` that are all clean,
+    /// and answers its number. If it is refused, `BAD_CALL` for a page of 0 or `MEMORY`, nothing changed, and the place
+    /// is forgotten.
     pub fn block_at(&mut self, place: HostPlace, page_size: usize) -> Answer
         ensures { AnswersLent self.old place.bytes page_size result self.new }
     {
         self.parts.block_at(place, page_size)
     }
 
-    /// Gives a block back: the session forgets its bytes and its bitmap. Its number stays, and each later call that names it
-    /// is refused with `NO_SUCH`. A block whose bytes lie at a place of the caller's is the caller's again. It is refused
-    /// with `NO_SUCH`, with `IN_USE` unless `forget_regions` came after the last region, layout or memory, or with `MEMORY`,
-    /// and nothing changed then.
+    /// Gives a block back: the session forgets its bytes and its bitmap. Its number stays, and each later call that
+    /// names it is refused with `NO_SUCH`. A block whose bytes lie at a place of the caller's is the caller's again. It
+    /// is refused with `NO_SUCH`, with `IN_USE` unless `forget_regions` came after the last region, layout or memory,
+    /// or with `MEMORY`, and nothing changed then.
     pub fn give_back(&mut self, block: usize) -> Answer
         ensures { AnswersGivenBack self.old block result self.new }
     {

@@ -1,6 +1,7 @@
 //! The header of an ELF file, its program headers, and the segments that they name.
 ghost use Rattle.std.specs.Prelude.{◌≡◌, ◌+◌, ◌*◌, ◌≤◌, length, All, IfOk, IfSome};
-ghost use Rattle.linux_loader.specs.Elf.{header_of, kind_of, lies_in, places_of, program_header, program_headers, segment_of, segments_of};
+ghost use Rattle.linux_loader.specs.Elf.{header_of, kind_of, lies_in, places_of, program_header, program_headers};
+ghost use Rattle.linux_loader.specs.Elf.{segment_of, segments_of};
 ghost use Rattle.linux_loader.specs.Plan.{HasBytes, Lists};
 
 use crate::error::LoaderError;

@@ -1,5 +1,6 @@
 //! Data between guest memory and a disk, in pieces.
-ghost use Rattle.std.specs.Prelude.{◌≡◌, ◌⊎◌, ◌+◌, ◌-◌, ◌*◌, ◌%◌, ◌^◌, ◌<◌, ◌≤◌, ℕ, true, false, List, length, take, drop, MatchBool, MatchOption, MatchResult};
+ghost use Rattle.std.specs.Prelude.{◌≡◌, ◌⊎◌, ◌+◌, ◌-◌, ◌*◌, ◌%◌, ◌^◌, ◌<◌, ◌≤◌, ℕ, true, false, List, length, take};
+ghost use Rattle.std.specs.Prelude.{drop, MatchBool, MatchOption, MatchResult};
 ghost use Rattle.vm_memory_base.specs.declared.iotlb.Permissions.TheVariants.{Read, Write};
 ghost use Rattle.vm_memory_device.specs.Chain.{entries_from, readable, text};
 ghost use Rattle.vm_memory_guest.specs.Host.{shape_of, Holds};

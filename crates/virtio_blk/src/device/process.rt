@@ -8,6 +8,7 @@ use super::BlockDevice;
 use crate::disk::Disk;
 use virtio_queue::{AnyQueue, QueueError};
 use vm_memory_base::Bitmap;
+use vm_memory_device::Chain;
 use vm_memory_guest::{GuestMemory, HostMemory};
 
 /// What a call of `BlockDevice::process` did.
@@ -25,6 +26,14 @@ pub struct Served {
 }
 
 impl<D: Disk> BlockDevice<D> {
+    // Keeps the list of a chain that was served for the next one.
+    #[inline]
+    fn keep_list(&mut self, chain: Chain)
+        ensures { self.new ≡ self.old }
+    {
+        self.list = chain.into_segments();
+    }
+
     // Pops a chain, serves it and returns it, if there is one.
     fn serve_next<M: GuestMemory, B: Bitmap>(
         &mut self,
@@ -40,10 +49,11 @@ impl<D: Disk> BlockDevice<D> {
         ensures none { result ≡ Ok false → HasNone (M.memory mem.now) host.new queue.new }
         ensures shape { shape_of host.new ≡ shape_of host.old }
     {
-        let Some((buffer, chain)) = queue.pop_descriptor_chain(self.alloc, mem, host)? else {
+        let Some((buffer, chain)) = queue.pop_into(self.alloc, &mut self.list, mem, host)? else {
             return Ok(false);
         };
         let len = self.serve(mem, host, &chain);
+        self.keep_list(chain);
         queue.add_used(mem, host, buffer, len)?;
         Ok(true)
     }

@@ -141,8 +141,8 @@ impl<D: Disk> BlockDevice<D> {
     /// byte. It returns how many bytes from the first writable one on it wrote without a gap, which `add_used` takes.
     ///
     /// Whatever the chain is, it returns: what is wrong with a request is told to the guest by the status.
-    /// docs/VIRTIO_BLK.md has the rules. A chain with no byte for the status is not served, and the answer is 0. If no
-    /// memory can be allocated for the translation of an access, the request fails, and `starved` counts one more.
+    /// The crate's README.md has the rules. A chain with no byte for the status is not served, and the answer is 0. If
+    /// no memory can be allocated for the translation of an access, the request fails, and `starved` counts one more.
     pub fn serve<M: GuestMemory, B: Bitmap>(
         &mut self,
         mem: &M,

@@ -15,7 +15,7 @@ use crate::error::QueueError;
 use crate::looks::{Lent, Looks};
 use std::alloc::Global;
 use vm_memory_base::Bitmap;
-use vm_memory_device::Chain;
+use vm_memory_device::{Chain, Segment};
 use vm_memory_guest::{GuestMemory, HostMemory};
 
 impl PackedQueue {
@@ -40,24 +40,45 @@ impl PackedQueue {
         ensures none { result ≡ Ok None → has_next (M.memory mem.now) host.now self.old.state ≡ Ok false }
         ensures moved { self.new ≡ with_state self.old (after_pop self.old.state result) }
     {
+        let mut list = Vec::new(alloc);
+        self.pop_into(alloc, &mut list, mem, host)
+    }
+
+    /// As `pop_descriptor_chain`, in a list that is used again, such as that of a chain that was
+    /// returned (`Chain::into_segments`). A chain takes the list and leaves an empty one. What it held is lost.
+    #[inline(always)]
+    pub fn pop_into<M: GuestMemory, B: Bitmap>(
+        &mut self,
+        alloc: Global,
+        list: &mut Vec<Segment>,
+        mem: &M,
+        host: &HostMemory<B>,
+    ) -> Result<Option<(PackedBuffer, Chain)>, QueueError>
+        requires { Holds (shape_of host.now) (M.names mem.now) }
+        ensures popped { let m = M.memory mem.now in let q = self.old.state in
+            Answers (MayWantChain m host.now q) (popped m host.now q) result }
+        ensures none { result ≡ Ok None → has_next (M.memory mem.now) host.now self.old.state ≡ Ok false }
+        ensures moved { self.new ≡ with_state self.old (after_pop self.old.state result) }
+    {
         let near = self.hints.of_packed_pop(self.state.desc_ring);
         let mut lent = Lent {
             mem,
             host,
             near: &near,
         };
-        let found = self.pop_from(alloc, &mut lent);
+        let found = self.pop_from(alloc, list, &mut lent);
         self.hints.keep_packed_pop(&near);
         found
     }
 
-    /// As `pop_descriptor_chain`, from memory that a driver may write meanwhile. Whatever it writes: this looks at the
+    /// As `pop_into`, from memory that a driver may write meanwhile. Whatever it writes: this looks at the
     /// flags of the next slot, and then at each descriptor of the chain, in this order and each once, and what it
     /// returns is what these looks found. The flags of the first descriptor are those that say that it is available.
     #[inline(never)]
     pub fn pop_from<L: Looks>(
         &mut self,
         alloc: Global,
+        list: &mut Vec<Segment>,
         looks: &mut L,
     ) -> Result<Option<(PackedBuffer, Chain)>, QueueError>
         ensures looks { Follows L.looks (popping self.old.state) looks.old result looks.new }
@@ -76,7 +97,7 @@ impl PackedQueue {
             return Ok(None);
         }
         self.barrier.acquire_release_barrier();
-        match next_chain(alloc, looks, &self.state, flags) {
+        match next_chain(alloc, list, looks, &self.state, flags) {
             Ok((buffer, chain)) => {
                 let size = self.state.size;
                 self.state.next_avail = next.moved(size, buffer.slots);

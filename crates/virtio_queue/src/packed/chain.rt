@@ -17,6 +17,7 @@ use crate::error::QueueError;
 use crate::fields::descriptor_at;
 use crate::looks::Looks;
 use std::alloc::Global;
+use std::mem;
 use vm_memory_base::Bitmap;
 use vm_memory_device::{Chain, Segment};
 use vm_memory_guest::{GuestMemory, HostMemory};
@@ -125,9 +126,11 @@ fn add_last<L: Looks>(
     Ok(())
 }
 
-// The chain that begins where the device pops next, whose flags are known, and what it is returned by.
+// The chain that begins where the device pops next, whose flags are known, and what it is returned by. It takes the
+// list.
 pub(super) fn next_chain<L: Looks>(
     alloc: Global,
+    segments: &mut Vec<Segment>,
     looks: &mut L,
     state: &PackedState,
     flags: u16,
@@ -138,11 +141,11 @@ pub(super) fn next_chain<L: Looks>(
     ensures slots { let q = state.now in IfOk result (λ p. (0 < p.0.slots)
         × (p.0.slots ≤ q.size - slots_out q.size q.next_avail q.next_used)) }
 {
-    let mut segments = Vec::new(alloc);
+    segments.clear();
     let room = state.size - slots_out(state.size, state.next_avail, state.next_used);
-    let (last, slots) = list(looks, state, room, flags, &mut segments)?;
-    add_last(looks, &last, &mut segments)?;
-    match Chain::new(segments) {
+    let (last, slots) = list(looks, state, room, flags, segments)?;
+    add_last(looks, &last, segments)?;
+    match Chain::new(mem::replace(segments, Vec::new(alloc))) {
         Ok(chain) => Ok((PackedBuffer { id: last.id, slots }, chain)),
         Err(fault) => Err(QueueError::InvalidChain(fault)),
     }

@@ -1,7 +1,8 @@
 //! Descriptors of packed rings.
 ghost use Rattle.std.specs.Prelude.{◌≡◌};
 ghost use Rattle.virtio_queue.specs.PackedDriver.{made_available, split_of};
-ghost use Rattle.virtio_queue.specs.PackedRing.{is_available, is_indirect, is_last, is_used, packed_of, plain, segment_of};
+ghost use Rattle.virtio_queue.specs.PackedRing.{is_available, is_indirect, is_last, is_used, packed_of, plain};
+ghost use Rattle.virtio_queue.specs.PackedRing.{segment_of};
 
 use crate::descriptor::Descriptor;
 use vm_memory_device::Segment;

@@ -5,7 +5,8 @@ ghost use Rattle.vm_memory_guest.specs.Host.{shape_of, Holds};
 ghost use Rattle.virtio_queue.specs.Driver.{Puts};
 ghost use Rattle.virtio_queue.specs.Fields.{Answers, MayWant, StoresWord, word_at};
 ghost use Rattle.virtio_queue.specs.Packed.{moved};
-ghost use Rattle.virtio_queue.specs.PackedDriver.{Publishes, after_publish, after_skip, area_of, device_of, layout_of, made_available, moved_in, next_used, offset_of, skipped, split_of};
+ghost use Rattle.virtio_queue.specs.PackedDriver.{Publishes, after_publish, after_skip, area_of, device_of, layout_of};
+ghost use Rattle.virtio_queue.specs.PackedDriver.{made_available, moved_in, next_used, offset_of, skipped, split_of};
 
 use super::chain::packed_at;
 use super::descriptor::PackedDescriptor;

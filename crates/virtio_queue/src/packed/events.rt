@@ -3,7 +3,9 @@ ghost use Rattle.std.specs.Prelude.{◌≡◌, ◌*◌, ◌<◌, ◌≤◌, ◌^
 ghost use Rattle.vm_memory_guest.specs.Host.{shape_of, Holds};
 ghost use Rattle.virtio_queue.specs.Fields.{Answers};
 ghost use Rattle.virtio_queue.specs.Looks.{Follows, MayWantAny};
-ghost use Rattle.virtio_queue.specs.PackedEvents.{Disables, EnablesIfReady, Offers, Waits, after_asked, count_of, disabling, enabling, is_passed, kick_flags, needing, needs_notification, wanting};
+ghost use Rattle.virtio_queue.specs.PackedEvents.{Disables, EnablesIfReady, Offers, Waits, after_asked, count_of};
+ghost use Rattle.virtio_queue.specs.PackedEvents.{disabling, enabling, is_passed, kick_flags, needing};
+ghost use Rattle.virtio_queue.specs.PackedEvents.{needs_notification, wanting};
 
 use super::PackedQueue;
 use super::descriptor::is_available;

@@ -1,6 +1,7 @@
 //! Where a side stands in a packed ring.
 ghost use Rattle.std.specs.Prelude.{◌≡◌, ◌+◌, ◌-◌, ◌^◌, ◌<◌, ◌≤◌, IsTrue};
-ghost use Rattle.virtio_queue.specs.Packed.{are_positions, beginning, is_same, moved, of_bits, slot_after, slots_out, to_bits};
+ghost use Rattle.virtio_queue.specs.Packed.{are_positions, beginning, is_same, moved, of_bits, slot_after, slots_out};
+ghost use Rattle.virtio_queue.specs.Packed.{to_bits};
 
 /// Where a side of a packed queue stands: a slot of the ring, and the wrap counter of that side, which is true at first
 /// and flips each time that the side passes the end of the ring.

@@ -4,7 +4,8 @@ ghost use Rattle.vm_memory_guest.specs.Host.{shape_of, Holds};
 ghost use Rattle.virtio_queue.specs.Fields.{Answers};
 ghost use Rattle.virtio_queue.specs.Looks.{Follows};
 ghost use Rattle.virtio_queue.specs.Packed.{are_positions};
-ghost use Rattle.virtio_queue.specs.PackedUsed.{AddsUsed, MayWantValid, after_used, is_out, returning, used_flags, valid};
+ghost use Rattle.virtio_queue.specs.PackedUsed.{AddsUsed, MayWantValid, after_used, is_out, returning, used_flags};
+ghost use Rattle.virtio_queue.specs.PackedUsed.{valid};
 
 use super::PackedQueue;
 use super::descriptor::{VRING_PACKED_DESC_F_AVAIL, VRING_PACKED_DESC_F_USED};
@@ -104,8 +105,8 @@ impl PackedQueue {
         done
     }
 
-    /// As `add_used`, in memory that a driver may write meanwhile. Whatever it writes: this looks both places up, writes
-    /// length and id, and stores the flags last, each once.
+    /// As `add_used`, in memory that a driver may write meanwhile. Whatever it writes: this looks both places up,
+    /// writes length and id, and stores the flags last, each once.
     #[inline]
     pub fn add_used_in<H, S: Stores<H>>(
         &mut self,

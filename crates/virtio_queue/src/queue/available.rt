@@ -16,7 +16,7 @@ use crate::looks::{Lent, Looks};
 use crate::state::QueueState;
 use std::alloc::Global;
 use vm_memory_base::Bitmap;
-use vm_memory_device::Chain;
+use vm_memory_device::{Chain, Segment};
 use vm_memory_guest::{GuestMemory, HostMemory};
 
 // The head that is popped next, if the driver has published one.
@@ -104,24 +104,46 @@ impl Queue {
             result ≡ Ok None → avail_idx (M.memory mem.now) host.now q ≡ Ok q.next_avail }
         ensures moved { self.new ≡ with_state self.old (after_pop self.old.state result) }
     {
+        let mut list = Vec::new(alloc);
+        self.pop_into(alloc, &mut list, mem, host)
+    }
+
+    /// As `pop_descriptor_chain`, in a list that is used again, such as that of a chain that was
+    /// returned (`Chain::into_segments`). A chain takes the list and leaves an empty one. What it held is lost.
+    #[inline(always)]
+    pub fn pop_into<M: GuestMemory, B: Bitmap>(
+        &mut self,
+        alloc: Global,
+        list: &mut Vec<Segment>,
+        mem: &M,
+        host: &HostMemory<B>,
+    ) -> Result<Option<(u16, Chain)>, QueueError>
+        requires { Holds (shape_of host.now) (M.names mem.now) }
+        ensures popped { let m = M.memory mem.now in let q = self.old.state in
+            Answers (MayWantChain m host.now q) (popped m host.now q) result }
+        ensures none { let q = self.old.state in
+            result ≡ Ok None → avail_idx (M.memory mem.now) host.now q ≡ Ok q.next_avail }
+        ensures moved { self.new ≡ with_state self.old (after_pop self.old.state result) }
+    {
         let near = self.hints.of_split_pop(self.state.desc_table);
         let mut lent = Lent {
             mem,
             host,
             near: &near,
         };
-        let found = self.pop_from(alloc, &mut lent);
+        let found = self.pop_from(alloc, list, &mut lent);
         self.hints.keep_split_pop(&near);
         found
     }
 
-    /// As `pop_descriptor_chain`, from memory that a driver may write meanwhile. Whatever it writes: this looks at the
+    /// As `pop_into`, from memory that a driver may write meanwhile. Whatever it writes: this looks at the
     /// driver's index, at the slot of the next head, and then at each descriptor of the chain, in this order and each
     /// once, and what it returns is what these looks found.
     #[inline(always)]
     pub fn pop_from<L: Looks>(
         &mut self,
         alloc: Global,
+        list: &mut Vec<Segment>,
         looks: &mut L,
     ) -> Result<Option<(u16, Chain)>, QueueError>
         ensures looks { Follows L.looks (popping self.old.state) looks.old result looks.new }
@@ -132,7 +154,7 @@ impl Queue {
         let Some(head) = next_head(looks, &self.state, &self.barrier)? else {
             return Ok(None);
         };
-        let chain = chain_at(alloc, looks, &self.state, head)?;
+        let chain = chain_at(alloc, list, looks, &self.state, head)?;
         self.state.next_avail = self.state.next_avail.wrapping_add(1);
         Ok(Some((head, chain)))
     }

@@ -3,7 +3,9 @@ ghost use Rattle.std.specs.Prelude.{◌≡◌, ◌<◌, ◌^◌, false, Ok, OnOk
 ghost use Rattle.vm_memory_guest.specs.Host.{shape_of, Holds};
 ghost use Rattle.virtio_queue.specs.Fields.{Answers, stored_at};
 ghost use Rattle.virtio_queue.specs.Looks.{Follows, MayWantAny};
-ghost use Rattle.virtio_queue.specs.Notification.{Disables, EnablesIfReady, Waits, after_asked, disabling, enabling, is_among, kick_offset, kick_value, needing, needs_notification, wanting};
+ghost use Rattle.virtio_queue.specs.Notification.{Disables, EnablesIfReady, Waits, after_asked, disabling, enabling};
+ghost use Rattle.virtio_queue.specs.Notification.{is_among, kick_offset, kick_value, needing, needs_notification};
+ghost use Rattle.virtio_queue.specs.Notification.{wanting};
 
 use super::Queue;
 use crate::error::QueueError;
@@ -142,8 +144,8 @@ impl Queue {
         done
     }
 
-    /// As `enable_notification`, in memory that a driver may write meanwhile. Whatever it writes: this looks both places
-    /// up, asks for the notification, and then looks at the driver's index, each once.
+    /// As `enable_notification`, in memory that a driver may write meanwhile. Whatever it writes: this looks both
+    /// places up, asks for the notification, and then looks at the driver's index, each once.
     #[inline]
     pub fn enable_notification_in<H, S: Stores<H>>(
         &self,

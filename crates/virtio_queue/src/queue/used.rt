@@ -3,7 +3,8 @@ ghost use Rattle.std.specs.Prelude.{◌≡◌};
 ghost use Rattle.vm_memory_guest.specs.Host.{shape_of, Holds};
 ghost use Rattle.virtio_queue.specs.Fields.{Answers};
 ghost use Rattle.virtio_queue.specs.Looks.{Follows, index_of};
-ghost use Rattle.virtio_queue.specs.Used.{AddsUsed, MayWantUsedIdx, MayWantValid, after_used, one_more, returning, used_idx, valid};
+ghost use Rattle.virtio_queue.specs.Used.{AddsUsed, MayWantUsedIdx, MayWantValid, after_used, one_more, returning};
+ghost use Rattle.virtio_queue.specs.Used.{used_idx, valid};
 
 use super::Queue;
 use crate::error::QueueError;
@@ -107,8 +108,8 @@ impl Queue {
         done
     }
 
-    /// As `add_used`, in memory that a driver may write meanwhile. Whatever it writes: this looks both places up, writes
-    /// the entry, and stores the index last, each once.
+    /// As `add_used`, in memory that a driver may write meanwhile. Whatever it writes: this looks both places up,
+    /// writes the entry, and stores the index last, each once.
     #[inline]
     pub fn add_used_in<H, S: Stores<H>>(
         &mut self,

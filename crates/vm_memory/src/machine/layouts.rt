@@ -1,5 +1,6 @@
 //! The commands that make layouts and memories.
-ghost use Rattle.std.specs.Prelude.{◌≡◌, ◌↔◌, ◌<◌, ◌⊎◌, ◌++◌, ◌∷◌, [], length, All, IsTrue, IsSome, IfOk, Ok, Err, Some, map};
+ghost use Rattle.std.specs.Prelude.{◌≡◌, ◌↔◌, ◌<◌, ◌⊎◌, ◌++◌, ◌∷◌, [], length, All, IsTrue, IsSome, IfOk, Ok, Err};
+ghost use Rattle.std.specs.Prelude.{Some, map};
 ghost use Rattle.vm_memory_guest.specs.Collection.{regions_of};
 ghost use Rattle.vm_memory.specs.Machine.{Step};
 ghost use Rattle.vm_memory.specs.Parts.{HoldsRegions, state_of};

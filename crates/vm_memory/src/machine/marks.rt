@@ -49,9 +49,9 @@ impl<R: GuestMemoryRegion, I: Iommu, B: ExactBitmap> Machine<R, I, B> {
     }
 
     /// Marks the pages of the bytes that a write of `count` bytes at `addr` would reach, each in the bitmap of its own
-    /// block, and returns how many bytes these are. It is for bytes that something else wrote: it reads and writes none.
-    /// If an IOMMU is on, a write marks a space, but this marks no space. `NoSuch` if there is no such memory. Other
-    /// refusals come as in `write`, and change nothing.
+    /// block, and returns how many bytes these are. It is for bytes that something else wrote: it reads and writes
+    /// none. If an IOMMU is on, a write marks a space, but this marks no space. `NoSuch` if there is no such memory.
+    /// Other refusals come as in `write`, and change nothing.
     pub fn mark_reached(
         &mut self,
         memory: usize,

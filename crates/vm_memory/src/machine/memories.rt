@@ -98,8 +98,8 @@ impl<R: GuestMemoryRegion, I: Iommu, B: ExactBitmap> Machine<R, I, B> {
         memory.turn(on)
     }
 
-    /// The number of the table that translates the addresses of a memory, if its IOMMU is on. `NoSuch` if there is no such
-    /// memory.
+    /// The number of the table that translates the addresses of a memory, if its IOMMU is on. `NoSuch` if there is no
+    /// such memory.
     pub fn table_of(&self, memory: usize) -> Result<Option<usize>, Refusal>
         ensures { let now = state_of R.region I.number B.pages self.now in
             result ≡ table_told (slice_get now.memories memory) }

@@ -199,11 +199,11 @@ impl Machine<GuestRegionMmap, TableIommu, ExclusiveBitmap> {
 }
 
 impl Machine<GuestRegionMmap, TableIommu, ExclusiveBitmap> {
-    /// Gives a block back: the machine forgets its bytes and its bitmap. Its number stays, and each later call that names
-    /// it is refused with `NoSuch`. A block whose bytes lie at a place of the caller's is the caller's again.
+    /// Gives a block back: the machine forgets its bytes and its bitmap. Its number stays, and each later call that
+    /// names it is refused with `NoSuch`. A block whose bytes lie at a place of the caller's is the caller's again.
     ///
-    /// Nothing of the machine may name a block then: `forget_regions` comes first. What stays can be made again: regions
-    /// and memories of the other blocks have no bytes of their own.
+    /// Nothing of the machine may name a block then: `forget_regions` comes first. What stays can be made again:
+    /// regions and memories of the other blocks have no bytes of their own.
     pub fn give_back(&mut self, block: BlockId) -> Result<(), GiveBackError>
         ensures { GivesBack (state_made self.old) block.0 result (state_made self.new) }
     {
@@ -233,7 +233,8 @@ impl<R: GuestMemoryRegion, I: Iommu, B> Machine<R, I, B> {
 
     // Whether nothing of the machine names a block.
     fn names_no_block(&self) -> bool
-        ensures { result ≡ (length self.now.regions == 0 && length self.now.layouts == 0 && length self.now.memories == 0) }
+        ensures { result ≡ (length self.now.regions == 0 && length self.now.layouts == 0
+            && length self.now.memories == 0) }
     {
         self.regions.is_empty() && self.layouts.is_empty() && self.memories.is_empty()
     }

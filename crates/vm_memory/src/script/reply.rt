@@ -1,7 +1,9 @@
 //! Reply lines.
 ghost use Rattle.std.specs.Prelude.{◌≡◌, ℕ, Some, List, map};
 ghost use Rattle.std.specs.Fmt.{WritesOnOk, decimal};
-ghost use Rattle.vm_memory.specs.Texts.{text_of, text_of_setup, text_of_ending, text_of_fault, text_of_refusal, text_of_range, text_of_piece, text_of_ranges, text_of_reason, text_of_kind, text_of_bytes, spaced};
+ghost use Rattle.vm_memory.specs.Texts.{text_of, text_of_setup, text_of_ending, text_of_fault, text_of_refusal};
+ghost use Rattle.vm_memory.specs.Texts.{text_of_range, text_of_piece, text_of_ranges, text_of_reason, text_of_kind};
+ghost use Rattle.vm_memory.specs.Texts.{text_of_bytes, spaced};
 
 use crate::machine::command::{Ending, Fault, Reply};
 use crate::machine::setup::SetupReply;

@@ -3,7 +3,10 @@ ghost use Rattle.std.specs.Prelude.{◌≡◌, ◌<◌, ◌≤◌, ◌∷◌, []
 ghost use Rattle.std.specs.Int.NonZero.{non_zero_usize_get};
 ghost use Rattle.std.specs.Option.{option_map};
 ghost use Rattle.vm_memory.specs.Words.{parts_of};
-ghost use Rattle.vm_memory.specs.Reading.{Gives, IsRead, bytes_of, pairs_of, bytes_at, source_of, source_step_of, source_at, sink_of, sink_step_of, sink_at, numbers_at, number_in, number_of, words_of, word_at, number_at, address_at, page_size_at, limit_at, width_at, permissions_at, switch_at, bitmap_at, block_range_at, end_at};
+ghost use Rattle.vm_memory.specs.Reading.{Gives, IsRead, bytes_of, pairs_of, bytes_at, source_of, source_step_of};
+ghost use Rattle.vm_memory.specs.Reading.{source_at, sink_of, sink_step_of, sink_at, numbers_at, number_in, number_of};
+ghost use Rattle.vm_memory.specs.Reading.{words_of, word_at, number_at, address_at, page_size_at, limit_at, width_at};
+ghost use Rattle.vm_memory.specs.Reading.{permissions_at, switch_at, bitmap_at, block_range_at, end_at};
 ghost use Rattle.vm_memory.specs.declared.script.words.LineError.TheVariants as error;
 
 use crate::machine::command::{BlockRange, Width};

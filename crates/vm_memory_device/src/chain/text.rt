@@ -1,5 +1,6 @@
 //! The text of segments: their bytes in order, and calls over them.
-ghost use Rattle.std.specs.Prelude.{◌≡◌, ◌+◌, ◌<◌, ◌≤◌, ◌^◌, [], length, min, take, drop, None, Some, All, IfOk, MatchOption, MatchResult};
+ghost use Rattle.std.specs.Prelude.{◌≡◌, ◌+◌, ◌<◌, ◌≤◌, ◌^◌, [], length, min, take, drop, None, Some, All, IfOk};
+ghost use Rattle.std.specs.Prelude.{MatchOption, MatchResult};
 ghost use Rattle.vm_memory_guest.specs.Host.{shape_of, Holds};
 ghost use Rattle.vm_memory_device.specs.Chain.{ReadsText, WritesText, access_len, chain_fault, fault_behind, text};
 ghost use Rattle.vm_memory_device.specs.ChainText.{Divides, Fits, GoesOn, IsNext, IsPlace, entries};

@@ -3,7 +3,8 @@ ghost use Rattle.std.specs.Prelude.{◌≡◌, ◌+◌, ◌-◌, ◌^◌, ◌<�
 ghost use Rattle.vm_memory_base.specs.Address.{step};
 ghost use Rattle.vm_memory_base.specs.Permissions.{allow};
 ghost use Rattle.vm_memory_base.specs.Table as table;
-ghost use Rattle.vm_memory_base.specs.Table.{Table, TableEvent, changed_by, covers, events_of, says, says_after, says_after_all};
+ghost use Rattle.vm_memory_base.specs.Table.{Table, TableEvent, changed_by, covers, events_of, says, says_after};
+ghost use Rattle.vm_memory_base.specs.Table.{says_after_all};
 ghost use Rattle.vm_memory_base.specs.declared.iotlb.Permissions.{Permissions};
 ghost use Rattle.vm_memory_guest.specs.Access.{Reached};
 ghost use Rattle.vm_memory_guest.specs.Memory.{Memory, Translation, behind_of};

@@ -13,8 +13,8 @@ ghost use Rattle.vhost_message.specs.declared.regions.MemoryRegion.{MemoryRegion
 ghost use Rattle.vm_session.specs.Commands.{all_done, commands_of};
 
 /// What a message makes of a table of a host are commands of a machine, each of which is done. So what holds of every
-/// run of a machine holds of messages, whatever it does between them; and of a list of messages the table has the events
-/// that their commands lead to.
+/// run of a machine holds of messages, whatever it does between them; and of a list of messages the table has the
+/// events that their commands lead to.
 pub fn messages_are_commands()
     ensures run { (number : ℕ) (regions : List MemoryRegion) (m : IotlbMessage) (answer : Result (Unit {0}) Refusal)
         (calls : List TableEvent) (old new : Host PageSet) (s : State) → Applies number regions m answer calls old new

@@ -1,7 +1,7 @@
 use Rattle.virtio_queue.specs.PackedPopping.{popping}
 use Rattle.virtio_queue.proofs.PackedStillLemmas.{none_held, pops_held}
 use Rattle.virtio_queue.proofs.StillLemmas.{still}
-use Rattle.virtio_queue.proofs.packed.PackedQueue.pop_descriptor_chain.Goals as goal
+use Rattle.virtio_queue.proofs.packed.PackedQueue.pop_into.Goals as goal
 
 pub returns-clause-popped : goal.returns-clause-popped
 returns-clause-popped g c =

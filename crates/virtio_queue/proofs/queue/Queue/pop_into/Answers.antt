@@ -1,6 +1,6 @@
 use Rattle.virtio_queue.specs.Popping.{popping}
 use Rattle.virtio_queue.proofs.StillLemmas.{none_held, pops_held, still}
-use Rattle.virtio_queue.proofs.queue.Queue.pop_descriptor_chain.Goals as goal
+use Rattle.virtio_queue.proofs.queue.Queue.pop_into.Goals as goal
 
 pub returns-clause-popped : goal.returns-clause-popped
 returns-clause-popped g c =

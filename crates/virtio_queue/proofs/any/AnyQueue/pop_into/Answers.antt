@@ -2,7 +2,7 @@ use Rattle.std.proofs.Common.{Err}
 use Rattle.virtio_queue.specs.Available.{popped}
 use Rattle.virtio_queue.specs.Popping.{MayWantChain}
 use Rattle.virtio_queue.proofs.AnyLemmas.{answers_by_head}
-use Rattle.virtio_queue.proofs.any.AnyQueue.pop_descriptor_chain.Goals as goal
+use Rattle.virtio_queue.proofs.any.AnyQueue.pop_into.Goals as goal
 
 pub returns-in-Err-clause-popped : goal.returns-in-Err-clause-popped
 returns-in-Err-clause-popped g c =
