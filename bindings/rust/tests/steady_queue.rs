@@ -3,9 +3,8 @@
 mod ring;
 
 use ring::{at, memory_of, Descriptor, Driver, INDIRECT, NEXT};
+use std::cell::Cell;
 use std::ffi::c_void;
-use std::sync::atomic::{AtomicIsize, AtomicUsize, Ordering::SeqCst};
-use std::sync::Mutex;
 use vm_memory_proved::queue::Queue;
 use vm_memory_proved::{GuestMemory, Machine, MemoryId, Permissions};
 
@@ -17,18 +16,24 @@ unsafe extern "C" {
     fn malloc_usable_size(at: *mut c_void) -> usize;
 }
 
-// How often the program asked for memory, and how many bytes it has.
-static ASKED: AtomicUsize = AtomicUsize::new(0);
-static HELD: AtomicIsize = AtomicIsize::new(0);
+// How often a thread asked for memory, and how many bytes it holds: other threads of the test program allocate too.
+thread_local! {
+    static ASKED: Cell<usize> = const { Cell::new(0) };
+    static HELD: Cell<isize> = const { Cell::new(0) };
+}
 
 fn size_of(at: *mut c_void) -> isize {
     // SAFETY: it is null, or memory of the C library's allocator.
     unsafe { malloc_usable_size(at) as isize }
 }
 
+fn hold(size: isize) {
+    HELD.with(|held| held.set(held.get() + size));
+}
+
 fn counted(at: *mut c_void) -> *mut c_void {
-    ASKED.fetch_add(1, SeqCst);
-    HELD.fetch_add(size_of(at), SeqCst);
+    ASKED.with(|asked| asked.set(asked.get() + 1));
+    hold(size_of(at));
     at
 }
 
@@ -45,18 +50,15 @@ extern "C" fn calloc(count: usize, size: usize) -> *mut c_void {
 
 #[unsafe(no_mangle)]
 unsafe extern "C" fn realloc(at: *mut c_void, size: usize) -> *mut c_void {
-    HELD.fetch_sub(size_of(at), SeqCst);
+    hold(-size_of(at));
     counted(unsafe { __libc_realloc(at, size) })
 }
 
 #[unsafe(no_mangle)]
 unsafe extern "C" fn free(at: *mut c_void) {
-    HELD.fetch_sub(size_of(at), SeqCst);
+    hold(-size_of(at));
     unsafe { __libc_free(at) }
 }
-
-// The tests count one after the other.
-static ONE: Mutex<()> = Mutex::new(());
 
 const SIZE: u16 = 64;
 const DATA: u64 = 0x8000;
@@ -131,9 +133,9 @@ fn serve(queue: &Queue<'_>, memory: &GuestMemory<'_>) {
 
 // How often a call asks for memory.
 fn asked(call: impl FnOnce()) -> usize {
-    let before = ASKED.load(SeqCst);
+    let before = ASKED.get();
     call();
-    ASKED.load(SeqCst) - before
+    ASKED.get() - before
 }
 
 // Serves rounds until the lists are as long as the longest chain, and then a hundred that allocate nothing.
@@ -152,7 +154,6 @@ fn expect_steady(queue: &Queue<'_>, memory: &GuestMemory<'_>, mut publish: impl 
 
 #[test]
 fn queues_in_their_steady_state_allocate_nothing() {
-    let _one = ONE.lock();
     let machine = Machine::new().unwrap();
     for id in memories(&machine) {
         let memory = machine.memory(id).unwrap();
@@ -178,7 +179,6 @@ fn set_up_packed(queue: &Queue<'_>) {
 // A driver has short chains take the lists of long ones, and keeps the short ones in flight.
 #[test]
 fn what_lists_take_is_bounded() {
-    let _one = ONE.lock();
     const LONG: u16 = 2000;
     let machine = Machine::new().unwrap();
     let memory = machine.memory(memory_of(&machine, 0, BYTES)).unwrap();
@@ -201,7 +201,7 @@ fn what_lists_take_is_bounded() {
         next: 0,
     };
     driver.put(0, indirect);
-    let before = HELD.load(SeqCst);
+    let before = HELD.get();
     for head in 1..SIZE {
         driver.put_chain(head, &[(DATA, 1, false)]);
         driver.publish(0);
@@ -212,6 +212,6 @@ fn what_lists_take_is_bounded() {
         assert_eq!(queue.pop_descriptor_chain(&memory).unwrap().unwrap().head_index(), head);
     }
     // Each short one would hold the list of a long one: 63 of 2,048 segments.
-    let held = usize::try_from(HELD.load(SeqCst) - before).unwrap();
+    let held = usize::try_from(HELD.get() - before).unwrap();
     assert!(held <= 24 * (4 * most + 2 * 4096), "{held} bytes");
 }
