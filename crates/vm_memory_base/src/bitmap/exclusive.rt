@@ -194,16 +194,18 @@ fn set_flags(words: &mut [u64], first: usize, end: usize, dirty: bool)
     }
 }
 
-// Adds the numbers of the pages of a word, the lowest bit of which is that of page `first`, where all are dirty.
-#[inline]
+// Adds the numbers of the pages of a word, the lowest bit of which is that of page `first`, where all are dirty. They are
+// written aside, several at once, since a push tests the room each time.
+#[inline(never)]
 fn add_all(pages: &mut Vec<usize>, first: usize) -> Result<(), AllocError>
     requires { first + 64 ≤ 2 ^ 64 }
     ensures { OnOk result (pages.new.items ≡ pages.old.items ++ dirty_among (2 ^ 64 - 1) first) }
 {
+    let mut numbers = [0usize; 64];
     for bit in 0..64 {
-        pages.push(first + bit)?;
+        numbers[bit] = first + bit;
     }
-    Ok(())
+    pages.extend_from_slice(numbers.as_slice())
 }
 
 // Adds the numbers of the dirty pages of a word, whose lowest bit is that of page `first`.
@@ -270,10 +272,16 @@ impl ExactBitmap for ExclusiveBitmap {
         Some((self.paging.page_size().get(), self.paging.count()))
     }
 
+    // It is called, so that its loop has registers of its own.
+    #[inline(never)]
     fn dirty_pages(&self, alloc: Global) -> Result<Vec<usize>, AllocError> {
+        let words = self.words.as_slice();
         let mut pages = Vec::new(alloc);
-        for k in 0..self.words.len() {
-            add_pages(&mut pages, 64 * k, self.words[k])?;
+        for k in 0..words.len() {
+            let word = words[k];
+            if word != 0 {
+                add_pages(&mut pages, 64 * k, word)?;
+            }
         }
         Ok(pages)
     }
