@@ -134,7 +134,7 @@ fn a_connection_that_lacks_descriptors_ends_alone() {
             (SET_VRING_KICK, &[0; 8], front.ram.as_raw_fd()),
         ] {
             // It may have been let go.
-            send(&front.socket, &message(request, 1, payload), &[descriptor]);
+            send(&front.socket, &message(request, 0, payload), &[descriptor]);
         }
         program.rest();
         drop(front);

@@ -81,7 +81,7 @@ fn nothing_goes_through_what_was_taken_back() {
     assert_eq!(front.read(other as usize, 512), image_of(LEN)[5 * 512..6 * 512]);
     // All addresses are taken back: the rings are asked for again, too.
     front.io().misses.clear();
-    assert!(front.is_done(IOTLB_MSG, &FrontEnd::iotlb(0, 0, 0, 0, 3), &[]));
+    assert!(front.is_done(IOTLB_MSG, &iotlb(0, 0, 0, 0, 3), &[]));
     assert_eq!(front.request(0, 0, 6, 512), (0, 513));
     let asked: Vec<u64> = front.io().misses.iter().map(|(iova, _)| iova / PAGE * PAGE).collect();
     for wanted in [page, SHIFT + (1 << 20), SHIFT + front.used_ring(0)] {
@@ -212,13 +212,13 @@ fn a_device_that_is_stopped_has_no_mappings() {
 fn a_mapping_outside_of_memory_is_refused() {
     let program = Program::start("outside", LEN, &[]);
     let mut front = started(&program, BEHIND);
-    let outside = FrontEnd::iotlb(SHIFT, PAGE, USER + RAM as u64, READ, 2);
+    let outside = iotlb(SHIFT, PAGE, USER + RAM as u64, READ, 2);
     assert!(!front.is_done(IOTLB_MSG, &outside, &[]));
     assert!(front.is_let_go());
     // No front end maps the last address, and none sends a MISS.
     for payload in [
-        FrontEnd::iotlb(u64::MAX - PAGE + 1, PAGE, USER, READ, 2),
-        FrontEnd::iotlb(SHIFT, 0, 0, READ, 1),
+        iotlb(u64::MAX - PAGE + 1, PAGE, USER, READ, 2),
+        iotlb(SHIFT, 0, 0, READ, 1),
     ] {
         let mut front = started(&program, BEHIND);
         assert!(!front.is_done(IOTLB_MSG, &payload, &[]));
@@ -228,7 +228,7 @@ fn a_mapping_outside_of_memory_is_refused() {
     let mut front = program.connect();
     front.negotiate(USUAL);
     front.set_memory();
-    assert!(!front.is_done(IOTLB_MSG, &FrontEnd::iotlb(0, 0, 0, 0, 3), &[]));
+    assert!(!front.is_done(IOTLB_MSG, &iotlb(0, 0, 0, 0, 3), &[]));
 }
 
 #[test]
@@ -256,10 +256,10 @@ fn two_rings_share_a_table() {
 // Maps so many pages, every second one from one on: no two of them are one range.
 fn map_pages(front: &mut FrontEnd, first: u64, count: u64) {
     for page in first..first + count {
-        let update = FrontEnd::iotlb(2 * page * PAGE, PAGE, USER + (8 << 20), READ, 2);
+        let update = iotlb(2 * page * PAGE, PAGE, USER + (8 << 20), READ, 2);
         front.send(IOTLB_MSG, 0, &update, &[]);
     }
-    assert!(front.is_done(IOTLB_MSG, &FrontEnd::iotlb(1 << 40, PAGE, USER, READ, 2), &[]));
+    assert!(front.is_done(IOTLB_MSG, &iotlb(1 << 40, PAGE, USER, READ, 2), &[]));
 }
 
 // A table that keeps eight ranges gives up twelve of twenty.

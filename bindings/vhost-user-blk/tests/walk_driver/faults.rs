@@ -1,6 +1,6 @@
 //! A disk that fails, by a small library of C in front of the system's.
 
-use super::system::Map;
+use crate::front_end::Map;
 use std::fs::File;
 use std::path::{Path, PathBuf};
 use std::process::Command;
