@@ -186,7 +186,7 @@ static void dirty_pages(void) {
     /* What went through an I/O table is marked in its space alone. */
     IS(vmm_harvest_block(s, 1, list, 16), VMM_DONE, 1, 0, 0);
     HOLDS(vmm_number(list, 0) == 2);
-    DONE(vmm_mark_block(s, 2, 0x900, 0x800));
+    DONE(vmm_mark_block(s, 2, 0xf00, 0x200));
     IS(vmm_dirty_block(s, 2, list, 16), VMM_DONE, 2, 0, 0);
     HOLDS(are(1, 2));
     IS(vmm_mark_reached(s, 2, 0x4000, 0x120), VMM_DONE, 0x120, 0, 0);
@@ -204,8 +204,8 @@ static void mappings(void) {
     } update = {{0}, {0x6ffff0, 0x20000, 0x1000}};
     DONE(vmm_invalidate(s, 2, 0x4008, 0x108));
     MAKES(vmm_check(s, 2, 0x4000, 8, VMM_W), 1);
-    MAKES(vmm_check(s, 2, 0x4008, 1, VMM_W), 0);
-    MAKES(vmm_check(s, 2, 0x410f, 1, VMM_W), 0);
+    IS(vmm_lookup(s, 2, 0x4000, 0x118, VMM_W, list, 16), VMM_FAILS, 1, 0, 0);
+    HOLDS(are(0x4008, 0x108));
     MAKES(vmm_check(s, 2, 0x4110, 0x10, VMM_W), 1);
     update.message[1] = 0x60;
     update.message[8] = 0x10;
@@ -282,8 +282,9 @@ static void chains(void) {
     IS(vmm_pop(s, 1, 4), VMM_DONE, 0x140, 3, 0x110);
     IS(vmm_read_chain(s, 1, 4, 3, 5, bytes, 0x106), VMM_DONE, 0x106, 0, 0);
     HOLDS(memcmp(bytes + 0xff, "questio", 7) == 0);
+    IS(vmm_write_chain(s, 1, 4, 3, 0x106, "answer", 6), VMM_DONE, 6, 0, 0);
     IS(vmm_write_chain(s, 1, 4, 3, 0x10c, "answer", 6), VMM_DONE, 4, 0, 0);
-    MAKES(vmm_load(s, 4, 4, DATA + 0x30c), 0x77736e61);
+    MAKES(vmm_load(s, 4, 8, DATA + 0x308), 0x77736e6172657773);
     IS(vmm_list_segments(s, 1, 3, list, 32), VMM_DONE, 2, 1, 0);
     HOLDS(are(DATA, 0x140) && vmm_number(list, 2) == DATA + 0x200 && vmm_number(list, 3) == 0x110);
     DONE(vmm_add_used(s, 1, 4, 3, 0x10203));
@@ -310,6 +311,8 @@ static void notifications(void) {
     MAKES(vmm_load(s, 4, 2, USED), 0);
     publish(0xff08);
     MAKES(vmm_enable_notification(s, 1, 4), 1);
+    DONE(vmm_store(s, 4, 2, AVAIL, 1));
+    MAKES(vmm_needs_notification(s, 1, 4), 0);
 }
 
 /* A write of sector 0x20005 whose chain has a header, a sector and room for a status. */

@@ -2,6 +2,7 @@
 //! The walks have another driver over it.
 #![allow(dead_code, unused_imports)]
 
+pub mod faults;
 pub mod link;
 pub mod numbers;
 pub mod program;
@@ -9,6 +10,7 @@ pub mod program;
 pub mod protocol;
 pub mod system;
 
+pub use faults::Faults;
 pub use link::Link;
 pub use numbers::Numbers;
 pub use program::{image_of, Program};

@@ -1,9 +1,8 @@
 //! The program, and messages of a front end that cuts them as it likes.
 
-use super::faults::Faults;
 use super::memory::Region;
 use super::{patience, Numbers};
-use crate::front_end::{eventfd, message, send, set_waiting, table, Link, Program};
+use crate::front_end::{eventfd, message, send, set_waiting, table, Faults, Link, Program};
 use crate::front_end::{GET_FEATURES, NEED_REPLY, NO_DESCRIPTOR, SET_MEM_TABLE};
 use std::os::fd::{AsRawFd, OwnedFd, RawFd};
 use std::path::Path;
@@ -15,9 +14,7 @@ pub fn start(folder: &Path, options: &[&str], faults: Option<&Faults>) -> Progra
     let program = std::env::var_os("WALKS_PROGRAM").unwrap_or(env!("CARGO_BIN_EXE_vhost-user-blk").into());
     let mut command = Program::command(Command::new(program), folder, options);
     if let Some(faults) = faults {
-        command
-            .env("LD_PRELOAD", &faults.library)
-            .env("WALK_FAULTS", &faults.file);
+        faults.precede(&mut command);
     }
     Program::spawn(folder, command)
 }

@@ -4,7 +4,6 @@
 
 pub mod checks;
 pub mod dirty;
-pub mod faults;
 pub mod iommu;
 pub mod link;
 pub mod memory;

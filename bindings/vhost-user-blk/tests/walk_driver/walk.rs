@@ -1,7 +1,6 @@
 //! A walk: the front end, its driver and the model, and what has to hold whenever the device is quiet.
 
 use super::dirty::Log;
-use super::faults::Faults;
 use super::iommu::{Iommu, READ, WRITE};
 use super::link::{connect, start};
 use super::memory::{Memory, Region};
