@@ -220,6 +220,9 @@ static void mappings(void) {
     MAKES(vmm_check(s, 2, 0x4000, 8, VMM_W), 0);
     IS(vmm_lookup(s, 1, 0x5000, 0x100, VMM_W, list, 16), VMM_DONE, 1, 0, 0);
     HOLDS(are(0x20000, 0x100));
+    DONE(vmm_set(s, 2, 0x7000, 0x123456789abcde, 0x10, VMM_R));
+    IS(vmm_lookup(s, 2, 0x7000, 0x10, VMM_R, list, 16), VMM_DONE, 1, 0, 0);
+    HOLDS(are(0x123456789abcde, 0x10));
 }
 
 enum { TABLE = 0x10000, AVAIL = 0x10102, USED = 0x10204, RING = 0x10300, AREAS = 0x10400, DATA = 0x20400 };
