@@ -315,6 +315,14 @@ impl FrontEnd {
 
     // ---- memory
 
+    /// Has the memory lie in another file, or in another place of one, and returns where it was. The back end is not told.
+    pub fn move_memory(&mut self, file: &OwnedFd, offset: usize) -> Map {
+        let map = Map::new(file, offset as u64, RAM);
+        map.write(0, &self.read(0, RAM));
+        self.ram = again(file);
+        std::mem::replace(&mut self.map, map)
+    }
+
     pub fn read(&self, from: usize, len: usize) -> Vec<u8> {
         let mut bytes = vec![0; len];
         self.map.read(from, &mut bytes);
