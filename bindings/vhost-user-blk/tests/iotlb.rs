@@ -114,6 +114,28 @@ fn what_the_front_end_does_not_map_fails() {
     assert_eq!(front.read_disk(0, 4, 512), [9; 512]);
 }
 
+// The page of the header and the status may only be read. The request comes back without a byte that was not written.
+#[test]
+fn a_status_that_is_forbidden_is_not_written() {
+    let program = Program::start("no_status", LEN, &[]);
+    let mut front = started(&program, BEHIND);
+    let (data, status) = front.places(0, 0);
+    let place = status as u64 / PAGE * PAGE;
+    front.remap(SHIFT + place, Some((place, READ)));
+    front.write(data, &[9; 512]);
+    for (kind, len) in [(1, 512), (4, 0)] {
+        front.put_request(0, 0, kind, 4, len);
+        front.publish(0, 0);
+        front.kick(0);
+        assert_eq!(front.take_used(0), (0, 0));
+        assert_eq!(front.read(status, 1), [0xff]);
+    }
+    front.serve_table();
+    assert_eq!(front.io().forbidden, [(SHIFT + status as u64, WRITE); 2]);
+    front.remap(SHIFT + place, Some((place, READ | WRITE)));
+    assert_eq!(front.read_disk(0, 4, 512), [9; 512]);
+}
+
 // A page that may only be read lies before one that nobody asked for yet.
 #[test]
 fn a_page_that_is_forbidden_is_not_asked_for_again() {
