@@ -8,10 +8,12 @@ enum {
     GET_FEATURES = 1,
     SET_FEATURES = 2,
     SET_MEM_TABLE = 5,
+    SET_LOG_BASE = 6,
     SET_VRING_NUM = 8,
     SET_VRING_ADDR = 9,
     GET_VRING_BASE = 11,
     SET_VRING_KICK = 12,
+    SET_PROTOCOL_FEATURES = 16,
     GET_CONFIG = 24
 };
 
@@ -176,8 +178,121 @@ static int refused(void) {
     return vmm_vhost_config(&connection, config, sizeof config) == 8 && config[1] == 8 ? 0 : 44;
 }
 
+/* Bytes of the configuration change by themselves, as far as it has them. */
+static int changed(void) {
+    const uint8_t bytes[3] = {0x21, 0x32, 0x43};
+    uint8_t config[8] = {0};
+    if (vmm_vhost_change_config(&connection, 5, bytes, 3) != VMM_DONE ||
+        vmm_vhost_change_config(&connection, 6, bytes, 3) != VMM_VHOST_CONFIG_RANGE ||
+        vmm_vhost_config(&connection, config, 7) != 8 || config[1] != 0) {
+        return 60;
+    }
+    return vmm_vhost_config(&connection, config, 8) == 8 && memcmp(config, "\0\10\0\0\0\x21\x32\x43", 8) == 0 ? 0 : 61;
+}
+
+/* Whether the output has these numbers of four bytes each in front, and so many zeros after them. */
+static int has(const uint32_t *numbers, size_t count, size_t zeros) {
+    for (size_t i = 0; i < 4 * count; i++) {
+        if (reply[i] != (uint8_t)(numbers[i / 4] >> 8 * (i % 4))) {
+            return 0;
+        }
+    }
+    for (size_t i = 0; i < zeros; i++) {
+        if (reply[4 * count + i] != 0) {
+            return 0;
+        }
+    }
+    return reply[4 * count + zeros] == 0xee;
+}
+
+/* The messages of the back end's own channel. The access and the kind follow three numbers of eight bytes. */
+static int asked(void) {
+    static const uint32_t miss[] = {1, 9, 32, 0x55667788, 0x11223344}, fail[] = {1, 1, 32, 0x9abcdef0, 0x12345678};
+    static const uint32_t change[] = {2, 1, 0};
+    memset(reply, 0xee, sizeof reply);
+    if (vmm_vhost_miss(0x1122334455667788u, VMM_W, reply, 43) != 44 || reply[0] != 0xee ||
+        vmm_vhost_miss(1, VMM_NO, reply, sizeof reply) != 0 || reply[0] != 0xee) {
+        return 70;
+    }
+    if (vmm_vhost_miss(0x1122334455667788u, VMM_W, reply, 44) != 44 || reply[36] != VMM_W || reply[37] != 1) {
+        return 71;
+    }
+    reply[36] = reply[37] = 0;
+    if (!has(miss, 5, 24)) {
+        return 72;
+    }
+    memset(reply, 0xee, sizeof reply);
+    if (vmm_vhost_access_fail(0x123456789abcdef0u, VMM_R, reply, sizeof reply) != 44 || reply[36] != VMM_R ||
+        reply[37] != 4) {
+        return 73;
+    }
+    reply[36] = reply[37] = 0;
+    if (!has(fail, 5, 24)) {
+        return 74;
+    }
+    memset(reply, 0xee, sizeof reply);
+    return vmm_vhost_config_change(reply, 11) == 12 && reply[0] == 0xee &&
+                   vmm_vhost_config_change(reply, sizeof reply) == 12 && has(change, 3, 0)
+               ? 0
+               : 75;
+}
+
+/* What a front end replies there, of a version, to a request. */
+static uint32_t answered(uint32_t number, uint32_t flags, size_t size, uint64_t *value) {
+    message_size = 0;
+    put(number, 4);
+    put(flags, 4);
+    put(8, 4);
+    put(0x8877665544332211u, 8);
+    return vmm_vhost_answered(message, size, value);
+}
+
+static int answers(void) {
+    uint64_t value = 7;
+    if (answered(1, 5, 11, &value) != VMM_VHOST_HEADER || answered(1, 6, 20, &value) != VMM_VHOST_VERSION ||
+        answered(1, 1, 20, &value) != VMM_VHOST_DIRECTION || answered(9, 5, 20, &value) != VMM_VHOST_REQUEST ||
+        answered(1, 5, 19, &value) != VMM_VHOST_PAYLOAD_SIZE || value != 7) {
+        return 80;
+    }
+    return answered(1, 5, 20, &value) == VMM_DONE && value == 0x8877665544332211u ? 0 : 81;
+}
+
+/* A connection with a log of 4 bytes, which has bits for 32 pages. */
+static int logged(void) {
+    vmm_vhost_offer offer = {1ull << 26 | 1ull << 30, 1 << 1, 2, 256, 0, 0};
+    vmm_vhost_pages pages = {7, 7};
+    vmm_vhost_negotiated state;
+    vmm_vhost_close(&connection);
+    if (vmm_vhost_open(&connection, &offer, reply, 0) != VMM_DONE) {
+        return 90;
+    }
+    begin(SET_PROTOCOL_FEATURES, 8);
+    put(1 << 1, 8);
+    if (handle(0) != VMM_DONE || vmm_vhost_logged(&connection, 0x3fff, 0x1002, &pages) != VMM_DONE ||
+        pages.count != 0) {
+        return 91;
+    }
+    begin(SET_FEATURES, 8);
+    put(1ull << 26, 8);
+    handle(0);
+    begin(SET_LOG_BASE, 16);
+    put(4, 8);
+    put(0x5000, 8);
+    if (handle(1) != VMM_DONE || request.size != 4 || request.value != 0x5000) {
+        return 92;
+    }
+    if (vmm_vhost_logged(&connection, 0x3fff, 0x1002, &pages) != VMM_DONE || pages.first != 3 || pages.count != 3) {
+        return 93;
+    }
+    if (vmm_vhost_logged(&connection, 0x1ffff, 2, &pages) != VMM_VHOST_LOG || pages.first != 3 || pages.count != 3) {
+        return 94;
+    }
+    vmm_vhost_state(&connection, &state);
+    return state.features == 1ull << 26 && state.protocol_features == 1 << 1 && state.queues == 2 ? 0 : 95;
+}
+
 int main(void) {
-    int (*const tests[])(void) = {opened, features, memory, ring, refused};
+    int (*const tests[])(void) = {opened, features, memory, ring, refused, changed, asked, answers, logged};
     for (size_t i = 0; i < sizeof tests / sizeof *tests; i++) {
         int failed = tests[i]();
         if (failed) {

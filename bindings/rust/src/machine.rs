@@ -82,6 +82,20 @@ pub struct IotlbFails {
 ///
 /// These, layouts, memories and queues go by number, from 0 in the order of making, each kind by itself. A number means
 /// nothing to another machine.
+///
+/// A machine moves to another thread, and no two threads have it at once:
+///
+/// ```
+/// let machine = vm_memory_proved::Machine::new()?;
+/// std::thread::scope(|scope| drop(scope.spawn(move || machine.table(None))));
+/// # Ok::<(), vm_memory_proved::MachineError>(())
+/// ```
+///
+/// ```compile_fail,E0277
+/// let machine = vm_memory_proved::Machine::new()?;
+/// std::thread::scope(|scope| drop(scope.spawn(|| machine.table(None))));
+/// # Ok::<(), vm_memory_proved::MachineError>(())
+/// ```
 pub struct Machine {
     session: Session,
 }

@@ -154,7 +154,15 @@ impl Machine {
         }
     }
 
-    /// Forgets all regions, layouts and memories, whose numbers begin at 0 again. Everything else stays.
+    /// Forgets all regions, layouts and memories, whose numbers begin at 0 again. Everything else stays. Nothing that the
+    /// machine lent is used after it:
+    ///
+    /// ```compile_fail,E0502
+    /// let mut machine = vm_memory_proved::Machine::new().unwrap();
+    /// let queue = machine.queue(16, 16).unwrap();
+    /// machine.forget_regions();
+    /// queue.reset();
+    /// ```
     pub fn forget_regions(&mut self) {
         self.session().forget_regions();
     }

@@ -481,6 +481,24 @@ pub fn answered(message: &[u8]) -> Result<u64, Refusal> {
 }
 
 /// A connection with a front end: what was negotiated, and what the front end said of its memory and its rings.
+///
+/// It moves to another thread, and no two threads have it at once:
+///
+/// ```
+/// use vm_memory_proved::vhost_user::{Backend, Offer, Refusal};
+///
+/// let backend = Backend::new(&Offer { queues: 1, max_queue_size: 1, ..Offer::default() }, &[])?;
+/// std::thread::scope(|scope| drop(scope.spawn(move || backend.features())));
+/// # Ok::<(), Refusal>(())
+/// ```
+///
+/// ```compile_fail,E0277
+/// use vm_memory_proved::vhost_user::{Backend, Offer, Refusal};
+///
+/// let backend = Backend::new(&Offer { queues: 1, max_queue_size: 1, ..Offer::default() }, &[])?;
+/// std::thread::scope(|scope| drop(scope.spawn(|| backend.features())));
+/// # Ok::<(), Refusal>(())
+/// ```
 pub struct Backend {
     connection: Connection,
 }

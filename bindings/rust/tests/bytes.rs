@@ -88,14 +88,21 @@ fn objects_are_their_bytes() {
     assert_eq!(memory.read_obj::<[u8; 3]>(at(0x100f)).unwrap(), [5, 4, 3]);
     memory.write_obj(-2_i16, at(0x1001)).unwrap();
     assert_eq!(memory.read_obj::<i16>(at(0x1001)).unwrap(), -2);
-    let refused = memory.read_obj::<u32>(at(0x101d)).unwrap_err();
-    assert!(matches!(
-        refused,
-        GuestMemoryError::PartialBuffer {
-            expected: 4,
-            completed: 3
-        }
-    ));
+    let refused = [
+        memory.read_obj::<u32>(at(0x101d)).map(drop),
+        memory.write_obj(7_u32, at(0x101d)),
+        memory.read_slice(&mut [0; 4], at(0x101d)),
+        memory.write_slice(&[0; 4], at(0x101d)),
+    ];
+    for error in refused.map(Result::unwrap_err) {
+        assert!(matches!(
+            error,
+            GuestMemoryError::PartialBuffer {
+                expected: 4,
+                completed: 3
+            }
+        ));
+    }
 }
 
 #[test]
@@ -194,10 +201,16 @@ fn sources_are_asked_for_what_the_access_reaches() {
 fn sources_end_and_fail() {
     let (machine, memory) = machine_of(&[(0x100, 0x1000)]);
     let memory = machine.memory(memory).unwrap();
+    memory.write_slice(&[0xaa; 0x100], at(0x1000)).unwrap();
     let interrupted = Err(ErrorKind::Interrupted);
     let mut source = Tries(vec![interrupted, interrupted, Ok(3), Ok(5)]);
     assert_eq!(memory.read_volatile_from(at(0x1000), &mut source, 8).unwrap(), 3);
     assert_eq!(source.0.len(), 1);
+    // What a source does not give stays as it was.
+    assert_eq!(
+        memory.read_obj::<[u8; 8]>(at(0x1000)).unwrap(),
+        [7, 7, 7, 0xaa, 0xaa, 0xaa, 0xaa, 0xaa]
+    );
     let mut source = Tries(vec![Ok(3), Ok(5)]);
     memory.read_exact_volatile_from(at(0x1010), &mut source, 8).unwrap();
     let mut source = Tries(vec![Ok(3)]);
@@ -213,7 +226,7 @@ fn sources_end_and_fail() {
     let mut source = Tries(vec![Ok(2), Err(ErrorKind::TimedOut)]);
     let refused = memory.read_exact_volatile_from(at(0x1030), &mut source, 8).unwrap_err();
     assert!(matches!(refused, GuestMemoryError::IOError(error) if error.kind() == ErrorKind::TimedOut));
-    assert_eq!(memory.read_obj::<[u8; 4]>(at(0x1030)).unwrap(), [7, 7, 0, 0]);
+    assert_eq!(memory.read_obj::<[u8; 4]>(at(0x1030)).unwrap(), [7, 7, 0xaa, 0xaa]);
     let mut source = Tries(vec![interrupted; 65]);
     let refused = memory.read_volatile_from(at(0x1000), &mut source, 8).unwrap_err();
     assert!(matches!(refused, GuestMemoryError::IOError(error) if error.kind() == ErrorKind::Interrupted));
@@ -461,4 +474,28 @@ fn a_machine_goes_to_another_thread() {
     .join()
     .unwrap();
     assert_eq!(machine.memory(memory).unwrap().read_obj::<u8>(at(5)).unwrap(), 3);
+}
+
+#[test]
+fn permissions_are_sets_of_two_accesses() {
+    use Permissions::{No, Read, ReadWrite, Write};
+    let all = [No, Read, Write, ReadWrite];
+    for (has, allowed) in [
+        (No, &[No][..]),
+        (Read, &[No, Read]),
+        (Write, &[No, Write]),
+        (ReadWrite, &all),
+    ] {
+        for access in all {
+            assert_eq!(has.allow(access), allowed.contains(&access), "{has:?} {access:?}");
+        }
+    }
+    for (one, other, both) in [
+        (No, No, No),
+        (Read, No, Read),
+        (Write, Write, Write),
+        (Read, Write, ReadWrite),
+    ] {
+        assert_eq!((one | other, other | one), (both, both));
+    }
 }

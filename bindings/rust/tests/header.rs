@@ -76,3 +76,41 @@ fn the_header_has_the_numbers_of_this_crate() {
     let codes: Vec<_> = codes.filter(|(_, number)| !(64..70).contains(number)).collect();
     assert_eq!(codes, of_crate("code"));
 }
+
+// The functions that the header declares or defines.
+fn functions() -> Vec<String> {
+    let header = text("../c/vm_memory.h");
+    let mut names: Vec<String> = Vec::new();
+    for line in header
+        .lines()
+        .filter(|line| line.starts_with(|first: char| first.is_ascii_lowercase()))
+    {
+        let Some((before, _)) = line.split_once('(') else {
+            continue;
+        };
+        let name = before.rsplit([' ', '*']).next().unwrap();
+        if name.starts_with("vmm_") {
+            names.push(name.to_string());
+        }
+    }
+    names
+}
+
+#[test]
+fn programs_of_c_call_each_function_of_the_header() {
+    let programs = ["calls.c", "backend.c", "shared.c", "version.c"].map(|name| text(&format!("../c/{name}")));
+    // Those that the others are made of.
+    let parts = ["vmm_asked", "vmm_of_kind", "vmm_at", "vmm_on", "vmm_call", "vmm_lend"];
+    let names = functions();
+    assert!(names.len() > 90, "{}", names.len());
+    for name in names.iter().filter(|name| !parts.contains(&name.as_str())) {
+        let call = format!("{name}(");
+        let is_called = |program: &String| {
+            let calls = program.match_indices(&call).map(|(at, _)| &program[..at]);
+            calls
+                .into_iter()
+                .any(|before| !before.ends_with(|last: char| last.is_alphanumeric() || last == '_'))
+        };
+        assert!(programs.iter().any(is_called), "no program calls {name}");
+    }
+}

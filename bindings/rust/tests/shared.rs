@@ -7,6 +7,7 @@ use std::env;
 use std::fs::{self, File};
 use std::io::{Cursor, ErrorKind};
 use std::os::fd::{AsFd, AsRawFd, OwnedFd};
+use std::os::unix::fs::FileExt;
 use std::process::Command;
 use std::sync::atomic::AtomicBool;
 use std::sync::atomic::Ordering::SeqCst;
@@ -592,4 +593,62 @@ fn the_guest_of_the_example_is_answered() {
         "the monitor reads \"hello\"\nthe guest reads \"olleh\"\ndirty pages: [2, 3]\n"
     );
     assert!(run.status.success());
+}
+
+// A guest that holds the descriptor cannot take the bytes away. It may have more of them.
+#[test]
+fn a_file_of_the_crate_does_not_shrink() {
+    let file = File::from(memfd(3 * PAGE as u64).unwrap());
+    assert_eq!(file.metadata().unwrap().len(), 3 * PAGE as u64);
+    assert!(file.set_len(2 * PAGE as u64).is_err());
+    file.set_len(4 * PAGE as u64).unwrap();
+    assert_eq!(file.metadata().unwrap().len(), 4 * PAGE as u64);
+}
+
+// The last three bytes of a block.
+fn last(machine: &Machine, block: &SharedBlock) -> [u8; 3] {
+    let region = machine.region(block.id(), at(0)).unwrap();
+    let memory = machine.plain(machine.layout(&[region]).unwrap()).unwrap();
+    let memory = machine.memory(memory).unwrap();
+    memory.read_obj(at(block.len() as u64 - 3)).unwrap()
+}
+
+// Of three blocks each one goes, and its bytes to another machine. The other two are as they were.
+#[test]
+fn a_block_is_given_back_with_its_own_bytes() {
+    for gone in 0..3 {
+        let machine = Machine::new().unwrap();
+        let files = [1, 2, 3].map(file_of);
+        let blocks: Vec<_> = files
+            .iter()
+            .zip(1..)
+            .map(|(file, pages)| shared(&machine, pages, Some((file, 0))))
+            .collect();
+        let memory = machine.give_back(blocks[gone].id()).unwrap().unwrap();
+        assert_eq!(memory.len(), (gone + 1) * PAGE);
+        for (file, pages) in files.iter().zip(1..) {
+            let end = [7, 8, pages as u8];
+            File::from(file.try_clone().unwrap())
+                .write_all_at(&end, (pages * PAGE) as u64 - 3)
+                .unwrap();
+        }
+        let other = Machine::new().unwrap();
+        let moved = other.shared_block_of(memory, PAGE).unwrap();
+        assert_eq!(last(&other, &moved), [7, 8, gone as u8 + 1]);
+        for (place, block) in blocks.iter().enumerate().filter(|(place, _)| *place != gone) {
+            assert_eq!(last(&machine, block), [7, 8, place as u8 + 1]);
+        }
+    }
+}
+
+#[test]
+fn a_block_may_begin_past_4_gib_of_a_file() {
+    let (machine, far) = (Machine::new().unwrap(), (1 << 32) / PAGE);
+    let file = file_of(far + 2);
+    let end = (far as u64 + 2) * PAGE as u64;
+    File::from(file.try_clone().unwrap())
+        .write_all_at(&[4, 5, 6], end - 3)
+        .unwrap();
+    let block = shared(&machine, 1, Some((&file, far + 1)));
+    assert_eq!(last(&machine, &block), [4, 5, 6]);
 }

@@ -21,11 +21,14 @@ fn round() {
         let other = machine.block(pages * PAGE, PAGE).unwrap();
         let long = machine.shared_block(2 * pages * PAGE, PAGE, Some((file.as_fd(), 0)));
         assert!(matches!(long, Err(SharedBlockError::FileShort)));
+        let before = mappings_and_descriptors();
         let no_pages = machine.shared_block(pages * PAGE, 0, Some((file.as_fd(), 0)));
         assert!(matches!(
             no_pages,
             Err(SharedBlockError::Machine(MachineError::BadCall))
         ));
+        drop(no_pages);
+        assert_eq!(mappings_and_descriptors(), before);
         let layout = machine.layout(&[machine.region(shared.id(), GuestAddress(0)).unwrap()]);
         assert_eq!(layout.unwrap().number(), 0);
         let late = machine.shared_block(pages * PAGE, PAGE, Some((file.as_fd(), 0)));

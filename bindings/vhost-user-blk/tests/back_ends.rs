@@ -113,7 +113,7 @@ fn a_connection_is_inherited() {
     let folder = Program::prepare("inherited", LEN);
     let (mine, other) = UnixStream::pair().unwrap();
     let program = program_with(other.into(), &folder, &["--fd=9"]);
-    assert!(send(&mine, &message(99, 1, &[]), &[]));
+    assert!(send(&mine, &message(99, 0, &[]), &[]));
     assert_eq!(ended(program).code(), Some(1));
     let (mine, other) = UnixStream::pair().unwrap();
     let program = program_with(other.into(), &folder, &["--fd=9"]);

@@ -386,6 +386,31 @@ fn a_part_without_memory_fails() {
     }
 }
 
+// A request whose status has no memory is done all the same. Its length counts what was written.
+#[test]
+fn a_status_without_memory_is_not_written() {
+    let len = MIB;
+    let program = Program::start("no_status", len, &[]);
+    let mut front = started(&program, USUAL);
+    for (kind, written) in [(0, 512), (1, 0)] {
+        front.write(8 * MIB, &[7; 512]);
+        front.put_long(1, kind, 3, &[]);
+        let segments = [
+            (HEADERS + 0x1000, 16, false),
+            (8 * MIB, 512, kind == 0),
+            (32 * MIB, 1, true),
+        ];
+        front.put_segments(1, &segments);
+        front.publish(0, 1);
+        front.kick(0);
+        assert_eq!(front.take_used(0), (1, written));
+        if kind == 0 {
+            assert!(front.read(8 * MIB, 512) == image_of(len)[3 * 512..4 * 512]);
+        }
+    }
+    assert_eq!(front.read_disk(0, 3, 512), [7; 512]);
+}
+
 // The header may end and the status may lie in a segment of data.
 #[test]
 fn segments_need_not_end_with_the_data() {

@@ -23,39 +23,106 @@ fn started(program: &Program, features: u64) -> FrontEnd {
 
 fn expect_well(program: Program) {
     let mut front = started(&program, USUAL);
-    assert_eq!(front.read_disk(0, 2, 512), image_of(LEN)[2 * 512..3 * 512]);
+    assert_eq!(front.read_disk(0, 2, 512), sectors(2, 512));
     drop(front);
     assert!(program.end(libc::SIGTERM).success());
 }
 
-// The program, whose second sync fails and whose later ones succeed, as after the system has dropped what it could not write.
-// strace makes that so; without it there is no program.
-fn with_a_sync_that_fails(name: &str, words: &[&str]) -> Option<Program> {
+// The program, whose disk moves less than it is asked to or is interrupted, and fails from a byte on. Without a compiler of
+// C there is none.
+fn with_faults(name: &str, bad_from: u64, words: &[&str]) -> Option<(Program, Faults)> {
     let folder = Program::prepare(name, LEN);
-    // The program is the child, and strace its own.
-    let mut strace = Command::new("strace");
-    strace.args(["-D", "-f", "-qq", "-o", "/dev/null"]);
-    if !strace.arg("true").status().is_ok_and(|status| status.success()) {
-        println!("{name} is left out: strace is missing, or may not trace");
+    let Some(faults) = Faults::new(&folder, bad_from) else {
+        println!("{name} is left out: there is no compiler of C");
         return None;
+    };
+    let mut command = Program::command(Command::new(env!("CARGO_BIN_EXE_vhost-user-blk")), &folder, words);
+    faults.precede(&mut command);
+    Some((Program::spawn(&folder, command), faults))
+}
+
+// Whole sectors of an image.
+fn sectors(from: usize, len: usize) -> Vec<u8> {
+    image_of(LEN)[512 * from..][..len].to_vec()
+}
+
+#[test]
+fn each_byte_is_moved_however_few_a_call_moves() {
+    let Some((program, _faults)) = with_faults("few_bytes", u64::MAX, &[]) else {
+        return;
+    };
+    let mut front = started(&program, USUAL);
+    let mut wanted = image_of(LEN);
+    for round in 0..40 {
+        let (sector, len) = (24 * round, 512 * (1 + round % 24));
+        assert!(
+            front.read_disk(0, sector as u64, len as u32) == sectors(sector, len),
+            "{sector}"
+        );
+        let bytes: Vec<u8> = (0..len).map(|at| (at * 7 + round) as u8).collect();
+        front.write_disk(0, sector as u64, &bytes);
+        wanted[512 * sector..][..len].copy_from_slice(&bytes);
     }
-    let mut strace = Command::new("strace");
-    strace.args(["-D", "-f", "-qq", "-e", "trace=fdatasync", "-e", "signal=none", "-o"]);
-    strace.arg(folder.join("trace"));
-    strace.args(["-e", "inject=fdatasync:error=EIO:when=2"]);
-    strace.arg(env!("CARGO_BIN_EXE_vhost-user-blk"));
-    Some(Program::spawn(&folder, Program::command(strace, &folder, words)))
+    assert!(fs::read(&program.image).unwrap() == wanted);
+}
+
+// A read that fails leaves what was there, and no byte of another request.
+#[test]
+fn what_the_disk_refuses_fails() {
+    let bad = 1000;
+    let Some((program, _faults)) = with_faults("bad_sectors", 512 * bad, &[]) else {
+        return;
+    };
+    let mut front = started(&program, USUAL);
+    let place = front.places(0, 0).0;
+    for _ in 0..10 {
+        front.read_disk(0, 3, 0x3000);
+        front.write(place, &[0xaa; 0x3000]);
+        assert_eq!(front.request(0, 0, bad, 0x3000), (1, 0));
+        assert!(front.read(place, 0x3000) == [0xaa; 0x3000]);
+        assert_eq!(front.request(0, 1, bad + 1, 512), (1, 1));
+    }
+    assert_eq!(front.request(0, 0, bad - 1, 512), (0, 513));
+    assert_eq!(fs::read(&program.image).unwrap(), image_of(LEN));
+}
+
+// A flush syncs once, and so does each write of a driver that knows no flush. Nothing else does.
+#[test]
+fn syncs_are_those_that_were_asked_for() {
+    for (name, words, features, of_a_write) in [
+        ("flushes", &[][..], USUAL, 0),
+        ("no_flush", &[][..], USUAL & !FLUSH, 1),
+        ("stable", &["--write-through"][..], USUAL & !FLUSH, 1),
+    ] {
+        let Some((program, faults)) = with_faults(name, u64::MAX, words) else {
+            return;
+        };
+        let mut front = started(&program, features);
+        for round in 1..4 {
+            front.write_disk(0, round, &[1; 1024]);
+            assert_eq!(faults.syncs(), round * of_a_write, "{name}");
+            front.read_disk(0, round, 512);
+        }
+        assert_eq!(faults.syncs(), 3 * of_a_write, "{name}");
+        if features & FLUSH != 0 {
+            for round in 1..4 {
+                assert_eq!(front.request(0, 4, 0, 0), (0, 1));
+                assert_eq!(faults.syncs(), round);
+            }
+        }
+    }
 }
 
 #[test]
 fn after_a_sync_that_failed_no_flush_succeeds() {
-    let Some(program) = with_a_sync_that_fails("failed_flush", &["--stats", "1"]) else {
+    let Some((program, faults)) = with_faults("failed_flush", u64::MAX, &["--stats", "1"]) else {
         return;
     };
     let mut front = started(&program, USUAL);
     front.write_disk(0, 3, &[1; 512]);
     assert_eq!(front.request(0, 4, 0, 0), (0, 1));
-    // This one fails, and so do all after it, of the next front end, too.
+    // The system would succeed again: it has dropped what it could not write.
+    faults.fail_sync();
     for _ in 0..3 {
         assert_eq!(front.request(0, 4, 0, 0), (1, 1));
     }
@@ -76,15 +143,16 @@ fn after_a_sync_that_failed_no_flush_succeeds() {
 
 #[test]
 fn after_a_sync_that_failed_no_write_is_stable() {
-    let Some(program) = with_a_sync_that_fails("failed_write", &["--write-through"]) else {
+    let Some((program, faults)) = with_faults("failed_write", u64::MAX, &["--write-through"]) else {
         return;
     };
     let mut front = started(&program, USUAL & !FLUSH);
     front.write_disk(0, 3, &[1; 512]);
+    faults.fail_sync();
     for _ in 0..3 {
         assert_eq!(front.request(0, 1, 3, 512), (1, 1));
     }
-    assert_eq!(front.read_disk(0, 2, 512), image_of(LEN)[2 * 512..3 * 512]);
+    assert_eq!(front.read_disk(0, 2, 512), sectors(2, 512));
 }
 
 // A file may have 512 KiB.
@@ -134,7 +202,7 @@ fn a_connection_that_lacks_descriptors_ends_alone() {
             (SET_VRING_KICK, &[0; 8], front.ram.as_raw_fd()),
         ] {
             // It may have been let go.
-            send(&front.socket, &message(request, 1, payload), &[descriptor]);
+            send(&front.socket, &message(request, 0, payload), &[descriptor]);
         }
         program.rest();
         drop(front);

@@ -112,7 +112,7 @@ impl Things {
 // The messages of a front end that keeps the protocol.
 fn usual(things: &Things, ram: RawFd, is_packed: bool, numbers: &mut Numbers) -> Vec<Message> {
     let of = |request: u32, flags: u32, payload: &[u8], descriptors: &[RawFd]| Message {
-        bytes: message(request, 1 | flags, payload),
+        bytes: message(request, flags, payload),
         descriptors: descriptors.to_vec(),
     };
     let event_idx = if numbers.one_in(2) { EVENT_IDX } else { 0 };

@@ -81,7 +81,7 @@ fn nothing_goes_through_what_was_taken_back() {
     assert_eq!(front.read(other as usize, 512), image_of(LEN)[5 * 512..6 * 512]);
     // All addresses are taken back: the rings are asked for again, too.
     front.io().misses.clear();
-    assert!(front.is_done(IOTLB_MSG, &FrontEnd::iotlb(0, 0, 0, 0, 3), &[]));
+    assert!(front.is_done(IOTLB_MSG, &iotlb(0, 0, 0, 0, 3), &[]));
     assert_eq!(front.request(0, 0, 6, 512), (0, 513));
     let asked: Vec<u64> = front.io().misses.iter().map(|(iova, _)| iova / PAGE * PAGE).collect();
     for wanted in [page, SHIFT + (1 << 20), SHIFT + front.used_ring(0)] {
@@ -111,6 +111,28 @@ fn what_the_front_end_does_not_map_fails() {
     assert_eq!(front.read(data, 512), [9; 512]);
     // The ring goes on.
     front.remap(page, Some((data as u64, WRITE)));
+    assert_eq!(front.read_disk(0, 4, 512), [9; 512]);
+}
+
+// The page of the header and the status may only be read. The request comes back without a byte that was not written.
+#[test]
+fn a_status_that_is_forbidden_is_not_written() {
+    let program = Program::start("no_status", LEN, &[]);
+    let mut front = started(&program, BEHIND);
+    let (data, status) = front.places(0, 0);
+    let place = status as u64 / PAGE * PAGE;
+    front.remap(SHIFT + place, Some((place, READ)));
+    front.write(data, &[9; 512]);
+    for (kind, len) in [(1, 512), (4, 0)] {
+        front.put_request(0, 0, kind, 4, len);
+        front.publish(0, 0);
+        front.kick(0);
+        assert_eq!(front.take_used(0), (0, 0));
+        assert_eq!(front.read(status, 1), [0xff]);
+    }
+    front.serve_table();
+    assert_eq!(front.io().forbidden, [(SHIFT + status as u64, WRITE); 2]);
+    front.remap(SHIFT + place, Some((place, READ | WRITE)));
     assert_eq!(front.read_disk(0, 4, 512), [9; 512]);
 }
 
@@ -212,13 +234,13 @@ fn a_device_that_is_stopped_has_no_mappings() {
 fn a_mapping_outside_of_memory_is_refused() {
     let program = Program::start("outside", LEN, &[]);
     let mut front = started(&program, BEHIND);
-    let outside = FrontEnd::iotlb(SHIFT, PAGE, USER + RAM as u64, READ, 2);
+    let outside = iotlb(SHIFT, PAGE, USER + RAM as u64, READ, 2);
     assert!(!front.is_done(IOTLB_MSG, &outside, &[]));
     assert!(front.is_let_go());
     // No front end maps the last address, and none sends a MISS.
     for payload in [
-        FrontEnd::iotlb(u64::MAX - PAGE + 1, PAGE, USER, READ, 2),
-        FrontEnd::iotlb(SHIFT, 0, 0, READ, 1),
+        iotlb(u64::MAX - PAGE + 1, PAGE, USER, READ, 2),
+        iotlb(SHIFT, 0, 0, READ, 1),
     ] {
         let mut front = started(&program, BEHIND);
         assert!(!front.is_done(IOTLB_MSG, &payload, &[]));
@@ -228,7 +250,7 @@ fn a_mapping_outside_of_memory_is_refused() {
     let mut front = program.connect();
     front.negotiate(USUAL);
     front.set_memory();
-    assert!(!front.is_done(IOTLB_MSG, &FrontEnd::iotlb(0, 0, 0, 0, 3), &[]));
+    assert!(!front.is_done(IOTLB_MSG, &iotlb(0, 0, 0, 0, 3), &[]));
 }
 
 #[test]
@@ -256,10 +278,10 @@ fn two_rings_share_a_table() {
 // Maps so many pages, every second one from one on: no two of them are one range.
 fn map_pages(front: &mut FrontEnd, first: u64, count: u64) {
     for page in first..first + count {
-        let update = FrontEnd::iotlb(2 * page * PAGE, PAGE, USER + (8 << 20), READ, 2);
+        let update = iotlb(2 * page * PAGE, PAGE, USER + (8 << 20), READ, 2);
         front.send(IOTLB_MSG, 0, &update, &[]);
     }
-    assert!(front.is_done(IOTLB_MSG, &FrontEnd::iotlb(1 << 40, PAGE, USER, READ, 2), &[]));
+    assert!(front.is_done(IOTLB_MSG, &iotlb(1 << 40, PAGE, USER, READ, 2), &[]));
 }
 
 // A table that keeps eight ranges gives up twelve of twenty.

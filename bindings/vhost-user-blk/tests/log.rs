@@ -16,6 +16,8 @@ const MIB: usize = 1 << 20;
 const SHIFT: u64 = 0x8000_0000;
 // A bit for each page of the memory.
 const LOG_LEN: u64 = RAM as u64 / PAGE / 8;
+// Where it begins in its file.
+const LOG_AT: u64 = 3 * PAGE;
 
 fn started(program: &Program, features: u64) -> FrontEnd {
     let mut front = program.connect();
@@ -30,8 +32,8 @@ fn started(program: &Program, features: u64) -> FrontEnd {
 
 // Shares a log and has writes be marked there, while the ring runs.
 fn begin(front: &mut FrontEnd, features: u64, len: u64) -> OwnedFd {
-    let log = memfd(len.max(LOG_LEN) as usize);
-    front.send(SET_LOG_BASE, 0, &[len, 0].map(u64::to_le_bytes).concat(), &[&log]);
+    let log = memfd((LOG_AT + len.max(LOG_LEN)) as usize);
+    front.send(SET_LOG_BASE, 0, &longs(&[len, LOG_AT]), &[&log]);
     assert!(front.reply(SET_LOG_BASE).is_empty());
     assert!(front.is_done(SET_FEATURES, &(features | LOG_ALL).to_le_bytes(), &[]));
     for index in 0..front.rings.len() {
@@ -44,9 +46,9 @@ fn begin(front: &mut FrontEnd, features: u64, len: u64) -> OwnedFd {
 // The pages that are marked, which are cleared.
 fn taken(log: &OwnedFd) -> BTreeSet<u64> {
     let file = File::from(again(log));
-    let mut bytes = vec![0; file.metadata().unwrap().len() as usize];
-    file.read_exact_at(&mut bytes, 0).unwrap();
-    file.write_all_at(&vec![0; bytes.len()], 0).unwrap();
+    let mut bytes = vec![0; (file.metadata().unwrap().len() - LOG_AT) as usize];
+    file.read_exact_at(&mut bytes, LOG_AT).unwrap();
+    file.write_all_at(&vec![0; bytes.len()], LOG_AT).unwrap();
     let is_set = |page: &u64| bytes[(page / 8) as usize] >> (page % 8) & 1 == 1;
     (0..8 * bytes.len() as u64).filter(is_set).collect()
 }
@@ -141,16 +143,21 @@ fn writes_are_marked_as_long_as_it_was_asked_for() {
     assert!(front.is_let_go());
 }
 
+// A mark comes before the request comes back: one that cannot be marked does not.
 #[test]
 fn a_log_that_is_too_short_ends_the_connection() {
     let program = Program::start("log_short", LEN, &[]);
-    let mut front = started(&program, USUAL);
-    // Bits for the first 272 pages: the used ring lies in one of them, and the data do not.
-    begin(&mut front, USUAL, 34);
-    front.put_request(0, 0, 0, 1, 512);
-    front.publish(0, 0);
-    front.kick(0);
-    assert!(front.is_let_go());
+    // A read, a write, and a flush, each with its status in a page without a bit.
+    for (kind, len) in [(0, 512), (1, 512), (4, 0)] {
+        let mut front = started(&program, USUAL);
+        // Bits for the first 272 pages: the used ring lies in one of them, and the data and the status do not.
+        begin(&mut front, USUAL, 34);
+        front.put_request(0, 0, kind, 1, len);
+        front.publish(0, 0);
+        front.kick(0);
+        assert!(front.is_let_go());
+        assert_eq!(front.used_idx(0), 0, "a request of the kind {kind} came back");
+    }
 }
 
 // Where the second half of the memory lies for the guest.
@@ -439,7 +446,9 @@ fn a_mark_leaves_the_other_bits() {
     let program = Program::start("log_bits", LEN, &[]);
     let mut front = started(&program, USUAL);
     let log = begin(&mut front, USUAL, LOG_LEN);
-    let (data, status) = front.places(0, 0);
+    // A read whose data come in a hundred pieces to one page, and each is marked.
+    let data = HEADERS + 3 * PAGE as usize;
+    let status = front.put_long(1, 0, 0, &[(data, 512); 100]);
     let (byte, bit) = (data as u64 / PAGE / 8, 1 << 7);
     assert_eq!(status as u64 / PAGE / 8, byte);
     assert!(data as u64 / PAGE % 8 != 7 && status as u64 / PAGE % 8 != 7);
@@ -453,7 +462,7 @@ fn a_mark_leaves_the_other_bits() {
             access,
             libc::MAP_SHARED,
             log.as_raw_fd(),
-            0,
+            LOG_AT as libc::off_t,
         );
         assert_ne!(at, libc::MAP_FAILED);
         AtomicU8::from_ptr(at.cast::<u8>().add(byte as usize))
@@ -470,10 +479,52 @@ fn a_mark_leaves_the_other_bits() {
             }
             kept
         });
-        for turn in 0..4000 {
-            front.read_disk(0, turn % 100, 512);
+        for _ in 0..4000 {
+            front.publish(0, 1);
+            front.kick(0);
+            assert_eq!(front.take_used(0), (1, 51_201));
         }
         is_over.store(true, SeqCst);
         assert!(other.join().unwrap(), "a mark changed the bit of another page");
     });
+}
+
+// New bits are told by a descriptor, also those of the next log, and bits that are there are not.
+#[test]
+fn new_bits_are_told() {
+    let program = Program::start("log_call", LEN, &[]);
+    let mut front = started(&program, USUAL);
+    let mut log = begin(&mut front, USUAL, LOG_LEN);
+    let call = eventfd();
+    assert!(front.is_done(SET_LOG_FD, &[], &[&call]));
+    for round in 0..4 {
+        front.read_disk(0, 1, 512);
+        program.rest();
+        if round % 2 == 0 {
+            assert!(take(&call) > 0, "round {round}");
+        } else {
+            assert_eq!(take(&call), 0, "round {round}");
+        }
+        if round == 1 {
+            log = begin(&mut front, USUAL, LOG_LEN);
+            program.rest();
+            taken(&log);
+            take(&call);
+        }
+    }
+    // The status alone is new.
+    let status = front.places(0, 0).1 as u64 / PAGE;
+    assert!(taken(&log).contains(&status));
+    front.read_disk(0, 1, 512);
+    program.rest();
+    let place = LOG_AT + status / 8;
+    let mut byte = [0];
+    File::from(again(&log)).read_exact_at(&mut byte, place).unwrap();
+    File::from(again(&log))
+        .write_all_at(&[byte[0] & !(1 << (status % 8))], place)
+        .unwrap();
+    take(&call);
+    front.read_disk(0, 1, 512);
+    program.rest();
+    assert!(take(&call) > 0);
 }

@@ -562,16 +562,23 @@ fn taken(log: &OwnedFd) -> BTreeSet<u64> {
 
 #[test]
 fn the_pages_that_are_written_are_marked() {
-    for table in [0, ACCESS_PLATFORM] {
-        let program = Program::start(&format!("packed_log_{table}"), LEN, &[]);
+    for (table, size, before) in [
+        (0, 64, 1),
+        (ACCESS_PLATFORM, 64, 1),
+        (0, 1024, 200),
+        (ACCESS_PLATFORM, 1024, 300),
+    ] {
+        let program = Program::start(&format!("packed_log_{table}_{size}"), LEN, &[]);
         let features = PACKED | table;
-        let mut driver = Driver::start(&program, features, 64);
-        driver.request(0, 0, 1, 512);
+        let mut driver = Driver::start(&program, features, size);
+        for _ in 0..before {
+            driver.request(0, 0, 1, 512);
+        }
         driver.settle(&program);
         let len = RAM as u64 / PAGE / 8;
         let log = memfd(len as usize);
         let front = &mut driver.front;
-        front.send(SET_LOG_BASE, 0, &[len, 0].map(u64::to_le_bytes).concat(), &[&log]);
+        front.send(SET_LOG_BASE, 0, &longs(&[len, 0]), &[&log]);
         assert!(front.reply(SET_LOG_BASE).is_empty());
         assert!(front.is_done(SET_FEATURES, &(features | LOG_ALL).to_le_bytes(), &[]));
         let addresses = front.addresses(0, true);
@@ -582,7 +589,12 @@ fn the_pages_that_are_written_are_marked() {
         driver.settle(&program);
         let (ring, _, device) = driver.front.parts(0);
         let (data, status) = driver.front.places(0, 0);
-        let wanted = [ring, device, data, status].map(|it| it as u64 / PAGE);
-        assert_eq!(taken(&log), BTreeSet::from(wanted));
+        // The request before it took three slots as well.
+        let slot = ring + 16 * (3 * before % size as usize);
+        let must = BTreeSet::from([slot, device, data, status].map(|it| it as u64 / PAGE));
+        let may = (ring as u64..ring as u64 + 16 * u64::from(size)).map(|it| it / PAGE);
+        let taken = taken(&log);
+        assert!(taken.is_superset(&must), "{taken:?}, not {must:?}");
+        assert!(taken.is_subset(&must.iter().copied().chain(may).collect()), "{taken:?}");
     }
 }

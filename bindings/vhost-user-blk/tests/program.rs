@@ -367,7 +367,7 @@ fn a_message_may_come_in_pieces() {
     let mut front = program.connect();
     front.negotiate(USUAL);
     let ram = again(&front.ram);
-    let bytes = message(SET_MEM_TABLE, 1 | NEED_REPLY, &FrontEnd::table(&[(0, RAM as u64, 0)]));
+    let bytes = message(SET_MEM_TABLE, NEED_REPLY, &FrontEnd::table(&[(0, RAM as u64, 0)]));
     for cut in 1..bytes.len() {
         use std::os::fd::AsRawFd;
         // The descriptor comes with the first bytes.
@@ -389,21 +389,21 @@ fn what_breaks_the_protocol_ends_the_connection() {
     // offered, payloads and descriptors that do not fit.
     for (request, flags, payload, count) in [
         (GET_FEATURES, 2, vec![], 0),
-        (GET_FEATURES, 5, vec![], 0),
-        (0, 1, vec![], 0),
-        (u32::MAX, 1, vec![], 0),
-        (GET_FEATURES, 1, vec![0; 8], 0),
-        (SET_FEATURES, 1, u64::MAX.to_le_bytes().to_vec(), 0),
-        (SET_LOG_BASE, 1, vec![0; 16], 1),
-        (SET_MEM_TABLE, 1, FrontEnd::table(&[(0, 4096, 0)]), 0),
-        (SET_MEM_TABLE, 1, FrontEnd::table(&[(0, 4096, 0)]), 2),
-        (SET_MEM_TABLE, 1, FrontEnd::table(&[(0, 4096, 0)]), 12),
-        (SET_VRING_NUM, 1, two(1, 4), 0),
-        (SET_VRING_NUM, 1, two(0, 4), 1),
-        (SET_VRING_NUM, 1, two(0, 2048), 0),
-        (SET_VRING_ENABLE, 1, two(0, 1), 0),
-        (21, 1, vec![], 1),
-        (28, 1, vec![], 0),
+        (GET_FEATURES, REPLY, vec![], 0),
+        (0, 0, vec![], 0),
+        (u32::MAX, 0, vec![], 0),
+        (GET_FEATURES, 0, vec![0; 8], 0),
+        (SET_FEATURES, 0, u64::MAX.to_le_bytes().to_vec(), 0),
+        (SET_LOG_BASE, 0, vec![0; 16], 1),
+        (SET_MEM_TABLE, 0, FrontEnd::table(&[(0, 4096, 0)]), 0),
+        (SET_MEM_TABLE, 0, FrontEnd::table(&[(0, 4096, 0)]), 2),
+        (SET_MEM_TABLE, 0, FrontEnd::table(&[(0, 4096, 0)]), 12),
+        (SET_VRING_NUM, 0, two(1, 4), 0),
+        (SET_VRING_NUM, 0, two(0, 4), 1),
+        (SET_VRING_NUM, 0, two(0, 2048), 0),
+        (SET_VRING_ENABLE, 0, two(0, 1), 0),
+        (21, 0, vec![], 1),
+        (28, 0, vec![], 0),
     ] {
         use std::os::fd::AsRawFd;
         let mut front = program.connect();
@@ -439,7 +439,7 @@ fn front_ends_come_one_after_another() {
     // A second one waits until the first has gone.
     let first = started(&program, USUAL);
     let second = UnixStream::connect(program.folder.join("s")).unwrap();
-    send(&second, &message(GET_FEATURES, 1, &[]), &[]);
+    send(&second, &message(GET_FEATURES, 0, &[]), &[]);
     assert!(!can_read(&second, Duration::from_millis(100)));
     drop(first);
     assert!(can_read(&second, LONG));

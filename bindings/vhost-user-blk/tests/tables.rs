@@ -98,6 +98,91 @@ fn what_stays_of_a_table_stays_mapped() {
     }
 }
 
+// Each table differs from the one before by its file alone, by the offset, or by both.
+#[test]
+fn a_file_and_its_offset_are_compared() {
+    let program = Program::start("other_files", LEN, &[]);
+    let mut front = program.connect();
+    front.negotiate(USUAL | EVENT_IDX);
+    front.set_memory();
+    front.start_ring(16, 0);
+    let mut file = again(&front.ram);
+    for (round, (is_other, offset)) in [(true, 0), (false, RAM), (true, RAM), (true, 0), (false, RAM)]
+        .into_iter()
+        .enumerate()
+    {
+        if is_other {
+            file = memfd(2 * RAM);
+        }
+        let old = front.move_memory(&file, offset);
+        let table = FrontEnd::table(&[(0, RAM as u64, offset as u64)]);
+        assert!(front.is_done(SET_MEM_TABLE, &table, &[&file]));
+        // What was there is another's now.
+        let stale = vec![0x3c; RAM];
+        old.write(0, &stale);
+        let sector = 40 + round as u64;
+        front.write_disk(0, sector, &[round as u8; 512]);
+        assert_eq!(front.read_disk(0, sector, 512), [round as u8; 512]);
+        assert!(old.is(&stale), "round {round}");
+    }
+}
+
+// Without memory no request is served, and with it those that came meanwhile are.
+#[test]
+fn an_empty_table_takes_the_memory() {
+    let program = Program::start("no_memory", LEN, &[]);
+    for features in [USUAL, USUAL | EVENT_IDX] {
+        let mut front = program.connect();
+        front.negotiate(features);
+        front.set_memory();
+        front.start_ring(16, 0);
+        for round in 0..5 {
+            front.read_disk(0, round, 512);
+            assert!(front.is_done(SET_MEM_TABLE, &FrontEnd::table(&[]), &[]));
+            assert!(mapped(&program).is_empty());
+            front.put_request(0, 0, 0, round, 512);
+            front.publish(0, 0);
+            front.kick(0);
+            front.ask_u64(GET_FEATURES);
+            program.rest();
+            assert_eq!(front.used_idx(0), front.rings[0].next_used);
+            front.set_memory();
+            assert_eq!(front.take_used(0), (0, 513));
+        }
+    }
+}
+
+// Of eight regions with a file each one loses its bytes. A request that reaches there does not come back, and nothing of it
+// is on the disk. The other files are as they were.
+#[test]
+fn each_region_may_go_away() {
+    let mut program = Program::start("lost_regions", LEN, &[]);
+    let place = |region: usize| PLUGGED + region as u64 * GIB;
+    for (region, kind) in (0..7).flat_map(|region| [(region, 0), (region, 1)]) {
+        let mut front = program.connect();
+        front.negotiate(USUAL);
+        let files: Vec<OwnedFd> = (0..7).map(|_| memfd(1 << 20)).collect();
+        let mut rows = vec![(0, RAM as u64, 0)];
+        rows.extend((0..7).map(|at| (place(at), 1 << 20, 0)));
+        let ram = again(&front.ram);
+        let all: Vec<&OwnedFd> = [&ram].into_iter().chain(&files).collect();
+        assert!(front.is_done(SET_MEM_TABLE, &FrontEnd::table(&rows), &all));
+        front.start_ring(16, 0);
+        for (at, file) in files.iter().enumerate() {
+            read_into(&mut front, file, 0x2000, place(at) + 0x2000);
+        }
+        let before = front.used_idx(0);
+        File::from(again(&files[region])).set_len(0).unwrap();
+        front.put_long(2, kind, 8, &[(place(region) as usize + 0x2000, 1024)]);
+        front.publish(0, 2);
+        front.kick(0);
+        assert!(front.is_let_go(), "region {region}");
+        assert_eq!(front.used_idx(0), before);
+        assert!(program.lives());
+    }
+    assert!(fs::read(&program.image).unwrap() == image_of(LEN));
+}
+
 // What it takes to replace a table, of ten times the shortest: the machine may have other work.
 #[test]
 fn a_table_of_64_gib_is_taken_at_once() {

@@ -255,7 +255,7 @@ fn no_socket_is_held_for_the_rest_of_a_message() {
             if is_inside {
                 assert!(send(&mine, &[0], &[front.socket.as_raw_fd()]));
             }
-            let whole = message(SET_VRING_ERR, 1, &[0; 8]);
+            let whole = message(SET_VRING_ERR, 0, &[0; 8]);
             assert!(send(&front.socket, &whole[..len], &[held.as_raw_fd()]));
             drop((front, mine, other));
             started(&program, USUAL).read_disk(0, 1, 512);

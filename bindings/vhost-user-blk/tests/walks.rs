@@ -1,6 +1,7 @@
 //! Random walks of a front end and a driver over the states of the program, beside a model of the disk, of memory and
 //! of the log. `WALKS_STEPS` is how many steps all of them have together, and `WALKS_SEED` the seed of the first one.
 
+mod front_end;
 mod walk_driver;
 
 use std::time::{Duration, Instant};

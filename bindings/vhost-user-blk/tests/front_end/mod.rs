@@ -1,51 +1,32 @@
-//! The program, and a front end with a driver: its guest memory is a memfd.
-#![allow(dead_code)]
+//! The library of these tests: the program, the messages of a front end, and a driver whose guest memory is a memfd.
+//! The walks have another driver over it.
+#![allow(dead_code, unused_imports)]
 
+pub mod faults;
+pub mod link;
+pub mod numbers;
+pub mod program;
+#[path = "../../../rust/tests/front_end/protocol.rs"]
+pub mod protocol;
+pub mod system;
+
+pub use faults::Faults;
+pub use link::Link;
+pub use numbers::Numbers;
+pub use program::{image_of, Program};
+pub use protocol::*;
 use std::collections::BTreeMap;
-use std::fs::{self, File};
-use std::io::{BufRead, BufReader, ErrorKind, Read, Write};
-use std::mem::{size_of, size_of_val, zeroed};
-use std::os::fd::{AsRawFd, FromRawFd, OwnedFd, RawFd};
+use std::fs::File;
+use std::io::{Read, Write};
+use std::ops::{Deref, DerefMut};
+use std::os::fd::OwnedFd;
 use std::os::unix::fs::FileExt;
 use std::os::unix::net::UnixStream;
-use std::path::{Path, PathBuf};
-use std::process::{Child, Command, ExitStatus, Stdio};
-use std::ptr::{copy, null_mut};
+use std::path::Path;
 use std::sync::atomic::{fence, AtomicU16, Ordering::SeqCst};
-use std::sync::{Arc, Mutex};
-use std::thread::sleep;
 use std::time::{Duration, Instant};
+pub use system::*;
 
-pub const GET_FEATURES: u32 = 1;
-pub const SET_FEATURES: u32 = 2;
-pub const SET_OWNER: u32 = 3;
-pub const SET_MEM_TABLE: u32 = 5;
-pub const SET_LOG_BASE: u32 = 6;
-pub const SET_VRING_NUM: u32 = 8;
-pub const SET_VRING_ADDR: u32 = 9;
-pub const SET_VRING_BASE: u32 = 10;
-pub const GET_VRING_BASE: u32 = 11;
-pub const SET_VRING_KICK: u32 = 12;
-pub const SET_VRING_CALL: u32 = 13;
-pub const SET_VRING_ERR: u32 = 14;
-pub const GET_PROTOCOL_FEATURES: u32 = 15;
-pub const SET_PROTOCOL_FEATURES: u32 = 16;
-pub const GET_QUEUE_NUM: u32 = 17;
-pub const SET_VRING_ENABLE: u32 = 18;
-pub const SET_BACKEND_REQ_FD: u32 = 21;
-pub const IOTLB_MSG: u32 = 22;
-pub const GET_CONFIG: u32 = 24;
-
-pub const NEED_REPLY: u32 = 8;
-
-pub const FLUSH: u64 = 1 << 9;
-pub const INDIRECT_DESC: u64 = 1 << 28;
-pub const EVENT_IDX: u64 = 1 << 29;
-pub const PROTOCOL_FEATURES: u64 = 1 << 30;
-pub const VERSION_1: u64 = 1 << 32;
-pub const ACCESS_PLATFORM: u64 = 1 << 33;
-pub const RING_PACKED: u64 = 1 << 34;
-pub const LOG_ALL: u64 = 1 << 26;
 pub const USUAL: u64 = FLUSH | INDIRECT_DESC | PROTOCOL_FEATURES | VERSION_1;
 
 /// What the guest sees at 0 lies here in the front end.
@@ -68,344 +49,9 @@ const TABLE_LEN: usize = 0x8000;
 /// How long a test waits for what has to come.
 pub const LONG: Duration = Duration::from_secs(60);
 
-pub struct Program {
-    child: Child,
-    // The last of what it said.
-    said: Arc<Mutex<String>>,
-    pub folder: PathBuf,
-    pub image: PathBuf,
-}
-
-impl Program {
-    /// Starts the program on an image of `len` bytes, each of which depends on its sector.
-    pub fn start(name: &str, len: usize, words: &[&str]) -> Program {
-        Program::start_again(&Program::prepare(name, len), words)
-    }
-
-    /// A folder with such an image.
-    pub fn prepare(name: &str, len: usize) -> PathBuf {
-        let folder = Path::new(env!("CARGO_TARGET_TMPDIR")).join(name);
-        let _ = fs::remove_dir_all(&folder);
-        fs::create_dir_all(&folder).unwrap();
-        fs::write(folder.join("disk.img"), image_of(len)).unwrap();
-        folder
-    }
-
-    /// The command that serves the image of a folder.
-    pub fn command(mut command: Command, folder: &Path, words: &[&str]) -> Command {
-        let [socket, image] = ["s", "disk.img"].map(|name| folder.join(name));
-        command.arg("--socket").arg(socket).arg("--image").arg(image);
-        command.args(words);
-        command
-    }
-
-    /// Starts it on the image that is there.
-    pub fn start_again(folder: &Path, words: &[&str]) -> Program {
-        let program = Command::new(env!("CARGO_BIN_EXE_vhost-user-blk"));
-        Program::spawn(folder, Program::command(program, folder, words))
-    }
-
-    /// Starts a command that serves the image of a folder.
-    pub fn spawn(folder: &Path, mut command: Command) -> Program {
-        let mut child = command.stdout(Stdio::piped()).spawn().unwrap();
-        // It says so once it listens.
-        let mut lines = BufReader::new(child.stdout.take().unwrap());
-        let mut line = String::new();
-        lines.read_line(&mut line).unwrap();
-        assert!(line.contains("sectors"), "{line}");
-        let said = Arc::new(Mutex::new(line));
-        let kept = Arc::clone(&said);
-        std::thread::spawn(move || {
-            let mut line = Vec::new();
-            while lines.read_until(b'\n', &mut line).is_ok_and(|count| count > 0) {
-                let mut kept = kept.lock().unwrap();
-                if kept.len() > 1 << 16 {
-                    kept.clear();
-                }
-                kept.push_str(&String::from_utf8_lossy(&line));
-                line.clear();
-            }
-        });
-        Program {
-            child,
-            said,
-            folder: folder.to_owned(),
-            image: folder.join("disk.img"),
-        }
-    }
-
-    pub fn has_said(&self, words: &str) -> bool {
-        self.said.lock().unwrap().contains(words)
-    }
-
-    /// Waits until it has said something.
-    pub fn expect_said(&self, words: &str) {
-        let begun = Instant::now();
-        while !self.has_said(words) {
-            assert!(
-                begun.elapsed() < LONG,
-                "{words} is not in {}",
-                self.said.lock().unwrap()
-            );
-            sleep(Duration::from_millis(2));
-        }
-    }
-
-    /// Starts it on an image that is a hole of `len` bytes.
-    pub fn start_on_a_hole(name: &str, len: u64, words: &[&str]) -> Program {
-        let folder = Path::new(env!("CARGO_TARGET_TMPDIR")).join(name);
-        let _ = fs::remove_dir_all(&folder);
-        fs::create_dir_all(&folder).unwrap();
-        File::create(folder.join("disk.img")).unwrap().set_len(len).unwrap();
-        Program::start_again(&folder, words)
-    }
-
-    pub fn pid(&self) -> i32 {
-        self.child.id() as i32
-    }
-
-    pub fn connect(&self) -> FrontEnd {
-        FrontEnd::new(UnixStream::connect(self.folder.join("s")).unwrap())
-    }
-
-    /// Waits until it has nothing more to do.
-    pub fn rest(&self) {
-        let (begun, mut rests) = (Instant::now(), 0);
-        while rests < 10 {
-            assert!(begun.elapsed() < LONG, "it works without end");
-            let words = fs::read_to_string(format!("/proc/{}/stat", self.pid())).unwrap();
-            rests = if words.contains(") S ") { rests + 1 } else { 0 };
-            sleep(Duration::from_millis(2));
-        }
-    }
-
-    /// How many descriptors it has once it rests.
-    pub fn descriptors(&self) -> usize {
-        self.rest();
-        fs::read_dir(format!("/proc/{}/fd", self.pid())).unwrap().count()
-    }
-
-    /// How many bytes of memory it has, in all and in mappings.
-    pub fn memory(&self) -> (u64, u64) {
-        let words = fs::read_to_string(format!("/proc/{}/statm", self.pid())).unwrap();
-        let pages: Vec<u64> = words.split(' ').map(|it| it.trim().parse().unwrap()).collect();
-        (4096 * pages[1], 4096 * pages[0])
-    }
-
-    /// How many bytes are mapped that it shares with others: the allocator's reserves are not among them.
-    pub fn shared(&self) -> u64 {
-        let address = |it: &str| u64::from_str_radix(it, 16).unwrap();
-        let maps = fs::read_to_string(format!("/proc/{}/maps", self.pid())).unwrap();
-        let len = |line: &str| {
-            let (range, rest) = line.split_once(' ').unwrap();
-            let (from, to) = range.split_once('-').unwrap();
-            if rest.starts_with("rw-s") {
-                address(to) - address(from)
-            } else {
-                0
-            }
-        };
-        maps.lines().map(len).sum()
-    }
-
-    /// How long a processor worked for it, in nanoseconds.
-    pub fn processor_time(&self) -> u64 {
-        let mut clock = 0;
-        // SAFETY: it writes the number of a clock, and the pointer is that of one.
-        assert_eq!(unsafe { libc::clock_getcpuclockid(self.pid(), &mut clock) }, 0);
-        time_of(clock)
-    }
-
-    /// Waits until it has worked for 20 milliseconds.
-    pub fn wait_for_work(&self) {
-        let (begun, before) = (Instant::now(), self.processor_time());
-        while self.processor_time() < before + 20_000_000 {
-            assert!(begun.elapsed() < LONG, "it does not work");
-            sleep(Duration::from_millis(1));
-        }
-    }
-
-    pub fn lives(&mut self) -> bool {
-        self.child.try_wait().unwrap().is_none()
-    }
-
-    /// Sends it a signal.
-    pub fn signal(&self, signal: i32) {
-        // SAFETY: it takes numbers, of a child that was not waited for.
-        assert_eq!(unsafe { libc::kill(self.pid(), signal) }, 0);
-    }
-
-    /// How it ended, if it did within a time.
-    pub fn ended(&mut self, time: Duration) -> Option<ExitStatus> {
-        let begun = Instant::now();
-        while begun.elapsed() < time {
-            if let Some(status) = self.child.try_wait().unwrap() {
-                return Some(status);
-            }
-            sleep(Duration::from_millis(2));
-        }
-        None
-    }
-
-    /// Sets how much it may have of something, and returns how much it could have.
-    pub fn limit(&self, resource: libc::__rlimit_resource_t, most: u64) -> u64 {
-        let mut limit = libc::rlimit {
-            rlim_cur: 0,
-            rlim_max: 0,
-        };
-        // SAFETY: it fills in a limit.
-        assert_eq!(
-            unsafe { libc::prlimit(self.pid(), resource, std::ptr::null(), &mut limit) },
-            0
-        );
-        let before = std::mem::replace(&mut limit.rlim_cur, most);
-        // SAFETY: it reads a limit.
-        assert_eq!(unsafe { libc::prlimit(self.pid(), resource, &limit, null_mut()) }, 0);
-        before
-    }
-
-    pub fn end(mut self, signal: i32) -> ExitStatus {
-        self.signal(signal);
-        self.child.wait().unwrap()
-    }
-}
-
-impl Drop for Program {
-    fn drop(&mut self) {
-        let _ = self.child.kill();
-        let _ = self.child.wait();
-    }
-}
-
-/// The bytes of an image: of each sector its number, again and again.
-pub fn image_of(len: usize) -> Vec<u8> {
-    (0..len).map(|at| ((at / 512) as u32).to_le_bytes()[at % 4]).collect()
-}
-
-/// What a clock says, in nanoseconds.
-pub fn time_of(clock: libc::clockid_t) -> u64 {
-    let mut time = libc::timespec { tv_sec: 0, tv_nsec: 0 };
-    // SAFETY: it writes a time, and the pointer is that of one.
-    assert_eq!(unsafe { libc::clock_gettime(clock, &mut time) }, 0);
-    time.tv_sec as u64 * 1_000_000_000 + time.tv_nsec as u64
-}
-
-/// A counter that wakes whoever waits for it.
-pub fn eventfd() -> OwnedFd {
-    // SAFETY: it takes numbers.
-    let fd = unsafe { libc::eventfd(0, libc::EFD_CLOEXEC | libc::EFD_NONBLOCK) };
-    assert!(fd >= 0);
-    // SAFETY: the system has just opened it.
-    unsafe { OwnedFd::from_raw_fd(fd) }
-}
-
-/// Has reads and writes of an open file wait, or not.
-pub fn set_waiting(fd: &impl AsRawFd, waits: bool) {
-    let flags = if waits { 0 } else { libc::O_NONBLOCK };
-    // SAFETY: it takes numbers.
-    assert_eq!(unsafe { libc::fcntl(fd.as_raw_fd(), libc::F_SETFL, flags) }, 0);
-}
-
-/// Fills a counter, so that the next write to it would wait. Who writes to it between the two steps has it taken again.
-pub fn fill(counter: &OwnedFd) {
-    loop {
-        take(counter);
-        match File::from(again(counter)).write(&(u64::MAX - 1).to_ne_bytes()) {
-            Ok(8) => return,
-            Err(error) if error.kind() == ErrorKind::WouldBlock => (),
-            other => panic!("{other:?}"),
-        }
-    }
-}
-
-/// The end of a pipe that is read, and the one that is written.
-pub fn pipe() -> [OwnedFd; 2] {
-    let mut ends = [0; 2];
-    // SAFETY: it fills in both.
-    assert_eq!(unsafe { libc::pipe2(ends.as_mut_ptr(), libc::O_CLOEXEC) }, 0);
-    // SAFETY: the system has just opened them.
-    ends.map(|end| unsafe { OwnedFd::from_raw_fd(end) })
-}
-
-/// Whether a descriptor can be read within a time.
-pub fn can_read(fd: &impl AsRawFd, time: Duration) -> bool {
-    let mut asked = libc::pollfd {
-        fd: fd.as_raw_fd(),
-        events: libc::POLLIN,
-        revents: 0,
-    };
-    // SAFETY: it is lent one entry.
-    unsafe { libc::poll(&mut asked, 1, time.as_millis() as i32) == 1 }
-}
-
-/// Another descriptor of the same open file.
-pub fn again(fd: &OwnedFd) -> OwnedFd {
-    fd.try_clone().unwrap()
-}
-
-pub fn write_one(fd: &OwnedFd) {
-    File::from(again(fd)).write_all(&1_u64.to_ne_bytes()).unwrap();
-}
-
-// The counter, which is 0 then.
-pub fn take(fd: &OwnedFd) -> u64 {
-    let mut bytes = [0; 8];
-    match File::from(again(fd)).read(&mut bytes) {
-        Ok(8) => u64::from_ne_bytes(bytes),
-        _ => 0,
-    }
-}
-
-/// Bytes of a message.
-pub fn message(request: u32, flags: u32, payload: &[u8]) -> Vec<u8> {
-    let header = [request, flags, payload.len() as u32];
-    [&header.map(u32::to_le_bytes).concat(), payload].concat()
-}
-
 /// The payload of two numbers.
 pub fn two(index: u32, number: u32) -> Vec<u8> {
-    [index, number].map(u32::to_le_bytes).concat()
-}
-
-/// Sends bytes with descriptors. False if the other end is gone.
-pub fn send(socket: &UnixStream, bytes: &[u8], descriptors: &[RawFd]) -> bool {
-    let mut part = libc::iovec {
-        iov_base: bytes.as_ptr().cast_mut().cast(),
-        iov_len: bytes.len(),
-    };
-    let mut control = [0_u64; 64];
-    // SAFETY: numbers and pointers may be 0.
-    let mut message: libc::msghdr = unsafe { zeroed() };
-    message.msg_iov = &mut part;
-    message.msg_iovlen = 1;
-    if !descriptors.is_empty() {
-        let size = size_of_val(descriptors) as u32;
-        message.msg_control = control.as_mut_ptr().cast();
-        // SAFETY: the control has room for the descriptors, of which the header and the data are filled in.
-        unsafe {
-            message.msg_controllen = libc::CMSG_SPACE(size) as _;
-            assert!(message.msg_controllen as usize <= size_of::<[u64; 64]>());
-            let header = libc::CMSG_FIRSTHDR(&message);
-            (*header).cmsg_level = libc::SOL_SOCKET;
-            (*header).cmsg_type = libc::SCM_RIGHTS;
-            (*header).cmsg_len = libc::CMSG_LEN(size) as _;
-            copy(descriptors.as_ptr(), libc::CMSG_DATA(header).cast(), descriptors.len());
-        }
-    }
-    // SAFETY: the message is whole.
-    let sent = unsafe { libc::sendmsg(socket.as_raw_fd(), &message, libc::MSG_NOSIGNAL) };
-    sent == bytes.len() as isize
-}
-
-/// A memfd that may shrink.
-pub fn memfd(size: usize) -> OwnedFd {
-    // SAFETY: the name is a text that ends with 0.
-    let fd = unsafe { libc::memfd_create(c"ram".as_ptr(), libc::MFD_CLOEXEC) };
-    assert!(fd >= 0);
-    // SAFETY: the system has just opened it.
-    let fd = unsafe { OwnedFd::from_raw_fd(fd) };
-    File::from(again(&fd)).set_len(size as u64).unwrap();
-    fd
+    words(&[index, number])
 }
 
 /// A ring of the driver.
@@ -438,84 +84,39 @@ pub struct IoTable {
 }
 
 pub struct FrontEnd {
-    pub socket: UnixStream,
+    link: Link,
     pub io: Option<IoTable>,
     /// The I/O address of the guest address 0.
     pub shift: u64,
     pub ram: OwnedFd,
-    at: *mut u8,
+    map: Map,
     pub rings: Vec<Ring>,
 }
 
-// SAFETY: a mapping is tied to no thread.
-unsafe impl Send for FrontEnd {}
+impl Deref for FrontEnd {
+    type Target = Link;
 
-impl Drop for FrontEnd {
-    fn drop(&mut self) {
-        // SAFETY: this mapping is its own.
-        unsafe { libc::munmap(self.at.cast(), RAM) };
+    fn deref(&self) -> &Link {
+        &self.link
+    }
+}
+
+impl DerefMut for FrontEnd {
+    fn deref_mut(&mut self) -> &mut Link {
+        &mut self.link
     }
 }
 
 impl FrontEnd {
     pub fn new(socket: UnixStream) -> FrontEnd {
         let ram = memfd(RAM);
-        // SAFETY: the system takes addresses that nothing has.
-        let at = unsafe { libc::mmap(null_mut(), RAM, 3, libc::MAP_SHARED, ram.as_raw_fd(), 0) };
-        assert_ne!(at, libc::MAP_FAILED);
-        socket.set_read_timeout(Some(LONG)).unwrap();
         FrontEnd {
-            socket,
+            link: Link::new(socket),
             io: None,
             shift: 0,
+            map: Map::new(&ram, 0, RAM),
             ram,
-            at: at.cast(),
             rings: Vec::new(),
-        }
-    }
-
-    // ---- messages
-
-    pub fn send(&self, request: u32, flags: u32, payload: &[u8], descriptors: &[&OwnedFd]) {
-        let descriptors: Vec<RawFd> = descriptors.iter().map(|it| it.as_raw_fd()).collect();
-        assert!(send(&self.socket, &message(request, 1 | flags, payload), &descriptors));
-    }
-
-    /// The payload of the reply to a request.
-    pub fn reply(&mut self, request: u32) -> Vec<u8> {
-        let mut header = [0; 12];
-        self.socket.read_exact(&mut header).unwrap();
-        let number = |at: usize| u32::from_le_bytes(header[at..at + 4].try_into().unwrap());
-        assert_eq!((number(0), number(4)), (request, 5));
-        let mut payload = vec![0; number(8) as usize];
-        self.socket.read_exact(&mut payload).unwrap();
-        payload
-    }
-
-    pub fn ask(&mut self, request: u32, payload: &[u8]) -> Vec<u8> {
-        self.send(request, 0, payload, &[]);
-        self.reply(request)
-    }
-
-    pub fn ask_u64(&mut self, request: u32) -> u64 {
-        u64::from_le_bytes(self.ask(request, &[]).try_into().unwrap())
-    }
-
-    /// Sends a request, and returns whether it was done.
-    pub fn is_done(&mut self, request: u32, payload: &[u8], descriptors: &[&OwnedFd]) -> bool {
-        self.send(request, NEED_REPLY, payload, descriptors);
-        self.reply(request) == 0_u64.to_le_bytes()
-    }
-
-    /// Whether the other end closes the connection. What it says before is read.
-    pub fn is_let_go(&mut self) -> bool {
-        let mut rest = [0; 512];
-        loop {
-            match self.socket.read(&mut rest) {
-                Ok(0) => return true,
-                Ok(_) => (),
-                Err(error) => return error.kind() == ErrorKind::ConnectionReset,
-            }
         }
     }
 
@@ -551,23 +152,13 @@ impl FrontEnd {
         self.io.as_mut().unwrap()
     }
 
-    /// The payload of a message on the table: UPDATE is 2, INVALIDATE 3.
-    pub fn iotlb(iova: u64, size: u64, user: u64, permissions: u8, kind: u8) -> Vec<u8> {
-        [
-            &[iova, size, user].map(u64::to_le_bytes).concat()[..],
-            &[permissions, kind],
-            &[0; 6],
-        ]
-        .concat()
-    }
-
     /// Has a page lead elsewhere, or nowhere.
     pub fn remap(&mut self, iova: u64, to: Option<(u64, u8)>) {
         match to {
             Some(to) => self.io().pages.insert(iova, to),
             None => self.io().pages.remove(&iova),
         };
-        assert!(self.is_done(IOTLB_MSG, &FrontEnd::iotlb(iova, PAGE, 0, 0, 3), &[]));
+        assert!(self.is_done(IOTLB_MSG, &iotlb(iova, PAGE, 0, 0, 3), &[]));
     }
 
     /// The message of 44 bytes that waits on the back end's channel, if there is one.
@@ -604,7 +195,7 @@ impl FrontEnd {
     pub fn answer(&mut self, page: u64) {
         let to = self.io().pages.get(&page).copied();
         if let Some((to, permissions)) = to {
-            assert!(self.is_done(IOTLB_MSG, &FrontEnd::iotlb(page, PAGE, USER + to, permissions, 2), &[]));
+            assert!(self.is_done(IOTLB_MSG, &iotlb(page, PAGE, USER + to, permissions, 2), &[]));
         }
         let value = u64::from(to.is_none());
         let reply = [&[1, 5, 8].map(u32::to_le_bytes).concat()[..], &value.to_le_bytes()].concat();
@@ -623,15 +214,13 @@ impl FrontEnd {
         self.io().held = None;
     }
 
-    /// The whole memory, as one region at the address 0.
+    /// The payload of a table of regions: the guest address of each, its size, and its offset.
     pub fn table(regions: &[(u64, u64, u64)]) -> Vec<u8> {
-        let mut payload = two(regions.len() as u32, 0);
-        for (guest, size, offset) in regions {
-            payload.extend([*guest, *size, USER + guest, *offset].map(u64::to_le_bytes).concat());
-        }
-        payload
+        let row = |&(guest, size, offset): &(u64, u64, u64)| [guest, size, USER + guest, offset];
+        table(&regions.iter().map(row).collect::<Vec<_>>())
     }
 
+    /// The whole memory is one region at the address 0.
     pub fn set_memory(&mut self) {
         let ram = again(&self.ram);
         assert!(self.is_done(SET_MEM_TABLE, &FrontEnd::table(&[(0, RAM as u64, 0)]), &[&ram]));
@@ -685,7 +274,8 @@ impl FrontEnd {
         let (number, size) = (index as u32, self.rings[index].size);
         assert!(self.is_done(SET_VRING_NUM, &two(number, size.into()), &[]));
         assert!(self.is_done(SET_VRING_BASE, &two(number, base), &[]));
-        assert!(self.is_done(SET_VRING_ADDR, &self.addresses(index, false), &[]));
+        let addresses = self.addresses(index, false);
+        assert!(self.is_done(SET_VRING_ADDR, &addresses, &[]));
         let value = u64::from(number).to_le_bytes();
         let [kick, call, err] = [&self.rings[index].kick, &self.rings[index].call, &self.rings[index].err].map(again);
         assert!(self.is_done(SET_VRING_CALL, &value, &[&call]));
@@ -699,17 +289,10 @@ impl FrontEnd {
     pub fn addresses(&self, index: usize, is_logged: bool) -> Vec<u8> {
         let place = self.rings[index].base;
         let base = if self.io.is_some() { self.shift } else { USER };
-        let at = |from: u64| (base + place + from).to_le_bytes();
+        let at = |from: u64| base + place + from;
         // Without a table the log has the guest's addresses.
-        let log = (self.shift + place + USED).to_le_bytes();
-        [
-            &two(index as u32, is_logged.into())[..],
-            &at(0),
-            &at(USED),
-            &at(AVAIL),
-            &log,
-        ]
-        .concat()
+        let log = self.shift + place + USED;
+        addresses(index as u32, is_logged.into(), [at(0), at(USED), at(AVAIL), log])
     }
 
     /// Where its descriptors lie, and of a packed ring the driver's and the device's event suppression.
@@ -732,24 +315,26 @@ impl FrontEnd {
 
     // ---- memory
 
+    /// Has the memory lie in another file, or in another place of one, and returns where it was. The back end is not told.
+    pub fn move_memory(&mut self, file: &OwnedFd, offset: usize) -> Map {
+        let map = Map::new(file, offset as u64, RAM);
+        map.write(0, &self.read(0, RAM));
+        self.ram = again(file);
+        std::mem::replace(&mut self.map, map)
+    }
+
     pub fn read(&self, from: usize, len: usize) -> Vec<u8> {
-        assert!(from + len <= RAM);
         let mut bytes = vec![0; len];
-        // SAFETY: both have these bytes.
-        unsafe { copy(self.at.add(from), bytes.as_mut_ptr(), len) };
+        self.map.read(from, &mut bytes);
         bytes
     }
 
     pub fn write(&self, from: usize, bytes: &[u8]) {
-        assert!(from + bytes.len() <= RAM);
-        // SAFETY: both have these bytes.
-        unsafe { copy(bytes.as_ptr(), self.at.add(from), bytes.len()) };
+        self.map.write(from, bytes);
     }
 
     pub fn word(&self, from: usize) -> &AtomicU16 {
-        assert!(from % 2 == 0 && from + 2 <= RAM);
-        // SAFETY: the mapping has these bytes, and it is aligned to pages.
-        unsafe { AtomicU16::from_ptr(self.at.add(from).cast()) }
+        self.map.half(from)
     }
 
     // ---- the driver
@@ -903,24 +488,4 @@ pub fn bytes_at(path: &Path, place: u64, len: usize) -> Vec<u8> {
     let mut bytes = vec![0; len];
     File::open(path).unwrap().read_exact_at(&mut bytes, place).unwrap();
     bytes
-}
-
-/// A generator of numbers: xorshift.
-pub struct Numbers(pub u64);
-
-impl Numbers {
-    pub fn any(&mut self) -> u64 {
-        self.0 ^= self.0 << 13;
-        self.0 ^= self.0 >> 7;
-        self.0 ^= self.0 << 17;
-        self.0.wrapping_mul(0x2545_f491_4f6c_dd1d)
-    }
-
-    pub fn below(&mut self, bound: u64) -> u64 {
-        (self.any() >> 11) % bound
-    }
-
-    pub fn one_in(&mut self, many: u64) -> bool {
-        self.below(many) == 0
-    }
 }

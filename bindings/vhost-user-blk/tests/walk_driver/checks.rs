@@ -1,10 +1,10 @@
 //! What has to hold whenever the device is quiet.
 
 use super::dirty::Log;
-use super::link::SET_VRING_CALL;
+use super::link::counter;
 use super::request::Marks;
-use super::system::{counter, drain};
 use super::walk::{Walk, RINGS};
+use crate::front_end::{take, SET_VRING_CALL};
 use std::collections::BTreeSet;
 use std::fs;
 
@@ -43,9 +43,9 @@ impl Walk {
             if let Some(marks) = first.map(|it| it.may_be_begun(&mut self.memory, &mut self.model)) {
                 now.extend(marks.may);
             }
-            assert_eq!(drain(&it.ring.err), 0, "ring {index} failed");
+            assert_eq!(take(&it.ring.err), 0, "ring {index} failed");
             if it.is_due && !is_held {
-                assert!(drain(&it.ring.call) > 0, "ring {index} has no interrupt");
+                assert!(take(&it.ring.call) > 0, "ring {index} has no interrupt");
                 self.disarm(index);
             }
             let [descriptors, _, device] = &self.rings[index].ring.parts;
@@ -63,7 +63,7 @@ impl Walk {
         // A ring that runs is looked at now and then, and asks for notifications meanwhile.
         let free: Vec<u64> = self.rings.iter().flat_map(|it| it.ring.suppression()).collect();
         self.memory.check(&free);
-        let image = fs::read(self.served.image()).unwrap();
+        let image = fs::read(&self.served.image).unwrap();
         self.model.check(&image);
         if let Some(faults) = &self.faults {
             let (syncs, wanted) = (faults.syncs(), self.model.syncs);
@@ -112,11 +112,11 @@ impl Walk {
 
     pub fn renew_call(&mut self, index: usize) {
         let it = &mut self.rings[index];
-        it.ring.call = counter();
         let (link, numbers) = (&mut self.link, &mut self.numbers);
+        it.ring.call = counter(numbers);
         link.set_notifier(numbers, SET_VRING_CALL, index, Some(&it.ring.call));
         // An interrupt of before may have gone to the old one.
-        assert!(drain(&it.ring.call) > 0, "a new descriptor of calls is not signalled");
+        assert!(take(&it.ring.call) > 0, "a new descriptor of calls is not signalled");
         self.disarm(index);
     }
 }

@@ -1,8 +1,8 @@
 //! The log of dirty pages, and what has to be in it.
 
 use super::request::Marks;
-use super::system::{counter, drain, memory_file, wait, Map};
 use super::{patience, Numbers, PAGE};
+use crate::front_end::{memfd, take, wait, Map};
 use std::collections::BTreeSet;
 use std::os::fd::{AsRawFd, OwnedFd};
 use std::sync::atomic::Ordering::SeqCst;
@@ -28,7 +28,7 @@ impl Log {
         let size = end.div_ceil(64 * PAGE) * 8 + numbers.below(3) * 8;
         let offset = PAGE * numbers.below(5);
         let whole = (offset + size + PAGE).div_ceil(PAGE) * PAGE;
-        let file = memory_file(whole);
+        let file = memfd(whole as usize);
         let map = Map::new(&file, 0, whole as usize);
         // What lies before it and after it is not the log's.
         map.write(0, &vec![0xaa; offset as usize]);
@@ -73,7 +73,7 @@ impl Log {
     /// Compares the bits with what has to be there. `now` may be marked at any time.
     pub fn check(&mut self, now: &BTreeSet<u64>) {
         // A bit is told right after it is set.
-        let was_told = self.call.as_ref().is_some_and(|it| drain(it) > 0);
+        let was_told = self.call.as_ref().is_some_and(|it| take(it) > 0);
         let before = self.found.len();
         self.collect();
         let is_told = || self.call.as_ref().is_some_and(|it| wait(&[it.as_raw_fd()], patience()));
@@ -107,8 +107,8 @@ impl Log {
         assert!(self.found.is_empty(), "an old log has new bits: {:x?}", self.found);
     }
 
-    pub fn set_call(&mut self) {
-        self.call = Some(counter());
+    pub fn set_call(&mut self, call: OwnedFd) {
+        self.call = Some(call);
     }
 
     /// Takes the call for the next log. What was told of this one is not looked at any more: whoever drains the call takes

@@ -1,16 +1,14 @@
 //! The I/O addresses of a guest: what they lead to, and the channel on which the device asks for that.
 
-use super::link::{halves_of, numbers_of, Link, IOTLB_MSG};
 use super::memory::Memory;
-use super::system::send;
 use super::{Numbers, PAGE};
+use crate::front_end::{acknowledged, iotlb, send, Link, IOTLB_MSG};
 use std::collections::{BTreeMap, VecDeque};
 use std::io::{ErrorKind, Read};
 use std::os::unix::net::UnixStream;
 use std::thread;
 
-pub const READ: u8 = 1;
-pub const WRITE: u8 = 2;
+pub use crate::front_end::{READ, WRITE};
 
 const MISS: u8 = 1;
 const UPDATE: u8 = 2;
@@ -76,15 +74,9 @@ impl Iommu {
         (self.holds, &self.asked, self.misses)
     }
 
-    fn message(iova: u64, len: u64, user: u64, access: u8, kind: u8) -> Vec<u8> {
-        let mut payload = numbers_of(&[iova, len, user]);
-        payload.extend([access, kind, 0, 0, 0, 0, 0, 0]);
-        payload
-    }
-
     /// Takes back mappings of some addresses.
     pub fn invalidate(&self, link: &mut Link, numbers: &mut Numbers, iova: u64, len: u64) {
-        let payload = Iommu::message(iova, len, 0, 0, INVALIDATE);
+        let payload = iotlb(iova, len, 0, 0, INVALIDATE);
         link.order(numbers, IOTLB_MSG, &payload, &[]);
     }
 
@@ -162,22 +154,21 @@ impl Iommu {
             allowed & access != 0 || allowed == READ,
             "{iova:#x} is asked for {access}"
         );
-        let payload = Iommu::message(page, PAGE, memory.user(guest), allowed, UPDATE);
+        let payload = iotlb(page, PAGE, memory.user(guest), allowed, UPDATE);
         link.order(numbers, IOTLB_MSG, &payload, &[]);
     }
 
     // The reply to a MISS, in pieces.
     fn reply(&self, numbers: &mut Numbers, iova: u64) {
         let is_known = self.pages.contains_key(&(iova / PAGE * PAGE));
-        let mut reply = halves_of(&[1, 5, 8]);
-        reply.extend(u64::from(!is_known).to_le_bytes());
+        let reply = acknowledged(MISS.into(), u64::from(!is_known));
         let mut rest = &reply[..];
         while !rest.is_empty() {
             let count = match numbers.below(3) {
                 0 => 1 + numbers.below(rest.len() as u64) as usize,
                 _ => rest.len(),
             };
-            send(&self.channel, &rest[..count], &[]);
+            assert!(send(&self.channel, &rest[..count], &[]));
             rest = &rest[count..];
             thread::yield_now();
         }

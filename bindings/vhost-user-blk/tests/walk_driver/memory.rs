@@ -1,7 +1,7 @@
 //! Guest memory in files, beside what it has to be.
 
-use super::system::{memory_file, Map};
 use super::{Numbers, PAGE};
+use crate::front_end::{memfd, Map};
 use std::collections::BTreeMap;
 use std::os::fd::{AsRawFd, OwnedFd, RawFd};
 use std::rc::Rc;
@@ -94,12 +94,12 @@ impl Memory {
         ];
         let rows = if many_files { &many[..] } else { &few[..] };
         let files: Vec<_> = (0..if many_files { 8 } else { 2 })
-            .map(|_| Rc::new(memory_file(1 << 40)))
+            .map(|_| Rc::new(memfd(1 << 40)))
             .collect();
         let regions = rows.iter().enumerate().map(|(at, &(guest, len, user, offset))| {
             Region::new(guest, len, user, offset, Rc::clone(&files[at % files.len()]))
         });
-        let file = Rc::new(memory_file(1 << 40));
+        let file = Rc::new(memfd(1 << 40));
         Memory {
             regions: regions.collect(),
             extra: Region::new(8 << 30, MIB, 0x7100_0000_0000, 0x11_1000, file),
@@ -243,8 +243,8 @@ impl Memory {
             let far = 0x4_0000_0000 + self.places * APART;
             let (file, offset) = match numbers.below(3) {
                 0 => (Rc::clone(&region.file), far),
-                1 => (Rc::new(memory_file(1 << 40)), region.offset),
-                _ => (Rc::new(memory_file(1 << 40)), far),
+                1 => (Rc::new(memfd(1 << 40)), region.offset),
+                _ => (Rc::new(memfd(1 << 40)), far),
             };
             let old = self.regions[index].move_to(file, offset);
             self.old.push(old);

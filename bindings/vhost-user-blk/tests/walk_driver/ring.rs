@@ -1,8 +1,8 @@
 //! The driver's side of a ring, split or packed.
 
+use super::link::counter;
 use super::memory::Memory;
 use super::stream::Stream;
-use super::system::counter;
 use super::Numbers;
 use std::os::fd::OwnedFd;
 
@@ -122,9 +122,9 @@ impl Ring {
         let ring = Ring {
             shape,
             parts,
-            kick: counter(),
-            call: counter(),
-            err: counter(),
+            kick: counter(numbers),
+            call: counter(numbers),
+            err: counter(numbers),
             free,
             chains: Default::default(),
             next_avail: start,

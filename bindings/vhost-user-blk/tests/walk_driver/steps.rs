@@ -1,10 +1,10 @@
 //! The steps of a walk.
 
 use super::dirty::Log;
-use super::link::*;
+use super::link::{connect, counter};
 use super::request::MOST;
-use super::system::{counter, send};
-use super::walk::{Walk, EVENT_IDX, INDIRECT_DESC, LOG_ALL, RINGS, RING_PACKED};
+use super::walk::{Walk, RINGS};
+use crate::front_end::*;
 use std::os::fd::AsRawFd;
 use std::time::Instant;
 
@@ -233,10 +233,10 @@ impl Walk {
     // Has the back end take the log that is there.
     fn share_log(&mut self) {
         let log = Log::new(&mut self.numbers, self.memory.end(), self.log_call.take());
-        let payload = numbers_of(&[log.size, log.offset]);
+        let payload = longs(&[log.size, log.offset]);
         let reply = self
             .link
-            .ask(&mut self.numbers, SET_LOG_BASE, &payload, &[log.file.as_raw_fd()]);
+            .inquire(&mut self.numbers, SET_LOG_BASE, &payload, &[log.file.as_raw_fd()]);
         assert!(reply.is_empty() || reply == payload);
         self.log = Some(log);
     }
@@ -308,7 +308,7 @@ impl Walk {
         self.settle();
         self.check();
         let log = self.log.as_mut().expect("there is a log");
-        log.set_call();
+        log.set_call(counter(&mut self.numbers));
         let call = log.call.as_ref().unwrap().as_raw_fd();
         self.link.order(&mut self.numbers, SET_LOG_FD, &[], &[call]);
         self.check();
@@ -377,7 +377,7 @@ impl Walk {
             return;
         }
         let it = &mut self.rings[index];
-        it.ring.kick = counter();
+        it.ring.kick = counter(&mut self.numbers);
         it.is_polled = false;
         let kick = Some(&it.ring.kick);
         self.link.set_notifier(&mut self.numbers, SET_VRING_KICK, index, kick);
@@ -386,14 +386,14 @@ impl Walk {
     // The front end goes, maybe in the middle of a message, and comes back.
     fn leave(&mut self) {
         if self.numbers.one_in(3) {
-            let bytes = message(SET_FEATURES, 1, &[0; 8]);
+            let bytes = message(SET_FEATURES, 0, &[0; 8]);
             let count = 1 + self.numbers.below(bytes.len() as u64 - 1) as usize;
             send(&self.link.socket, &bytes[..count], &[]);
         }
         let log = self.log.is_some().then(|| self.leave_log());
         self.features &= !LOG_ALL;
         self.log_call = None;
-        self.link = self.served.connect();
+        self.link = connect(&self.served);
         self.negotiate();
         self.harvest_all();
         for it in &mut self.rings {

@@ -1,15 +1,14 @@
 //! A walk: the front end, its driver and the model, and what has to hold whenever the device is quiet.
 
 use super::dirty::Log;
-use super::faults::Faults;
 use super::iommu::{Iommu, READ, WRITE};
-use super::link::*;
+use super::link::{connect, start};
 use super::memory::{Memory, Region};
 use super::request::{Area, Draw, Model, Request, BROKEN, SECTOR};
 use super::ring::{parts_of, Ring, Shape};
 use super::stream::{Places, Stream};
-use super::system::{drain, narrow, wait};
 use super::{patience, Numbers};
+use crate::front_end::*;
 use std::collections::VecDeque;
 use std::fs::File;
 use std::io::Write;
@@ -17,19 +16,9 @@ use std::os::fd::{AsRawFd, OwnedFd};
 use std::os::unix::net::UnixStream;
 use std::time::{Duration, Instant};
 
-pub const FLUSH: u64 = 1 << 9;
-pub const MQ: u64 = 1 << 12;
-pub const LOG_ALL: u64 = 1 << 26;
-pub const INDIRECT_DESC: u64 = 1 << 28;
-pub const EVENT_IDX: u64 = 1 << 29;
-pub const PROTOCOL_FEATURES: u64 = 1 << 30;
-pub const VERSION_1: u64 = 1 << 32;
-pub const ACCESS_PLATFORM: u64 = 1 << 33;
-pub const RING_PACKED: u64 = 1 << 34;
-
 const SECTORS: u64 = 8192;
 const ROOMY: &str = "65536";
-const NAME: &str = "walk.img";
+const NAME: &str = "disk.img";
 pub const RINGS: usize = 2;
 
 // A request that the device has, and whether all of its writes have to be in the log.
@@ -57,7 +46,7 @@ pub struct Driven {
 
 pub struct Walk {
     pub numbers: Numbers,
-    pub served: Served,
+    pub served: Program,
     pub link: Link,
     pub memory: Memory,
     pub places: Places,
@@ -93,7 +82,7 @@ impl Walk {
         let limit = numbers.of(&["8", "16", "64", ROOMY, ROOMY, ROOMY]);
         let words = ["--queues", "2", "--iotlb-limit", limit, "--write-through"];
         let upto = if numbers.one_in(5) { 5 } else { 4 };
-        let folder = Served::prepare(name, &disk);
+        let folder = Program::prepare_with(name, &disk);
         let bad_from = (SECTORS - BROKEN) * SECTOR as u64;
         let faults = if numbers.one_in(3) {
             Faults::new(&folder, bad_from)
@@ -101,9 +90,9 @@ impl Walk {
             None
         };
         println!("{:?}, with faults: {}", &words[..upto], faults.is_some());
-        let served = Served::start(&folder, &words[..upto], faults.as_ref());
+        let served = start(&folder, &words[..upto], faults.as_ref());
         let memory = Memory::new(seed / 2 % 2 == 1);
-        let link = served.connect();
+        let link = connect(&served);
         let mut walk = Walk {
             places: Places::new(&memory, is_translated),
             io: None,
@@ -135,7 +124,7 @@ impl Walk {
 
     pub fn draw_features(&mut self) {
         let numbers = &mut self.numbers;
-        let mut features = PROTOCOL_FEATURES | VERSION_1 | MQ | FLUSH;
+        let mut features = PROTOCOL_FEATURES | VERSION_1 | BLK_MQ | FLUSH;
         for feature in [INDIRECT_DESC, EVENT_IDX, RING_PACKED] {
             features |= if numbers.one_in(2) { feature } else { 0 };
         }
@@ -148,13 +137,13 @@ impl Walk {
     /// What a connection begins with.
     pub fn negotiate(&mut self) {
         let (link, numbers) = (&mut self.link, &mut self.numbers);
-        let offered = link.ask_number(numbers, GET_FEATURES);
+        let offered = link.inquire_u64(numbers, GET_FEATURES);
         self.features &= offered;
-        let protocol = link.ask_number(numbers, GET_PROTOCOL_FEATURES);
+        let protocol = link.inquire_u64(numbers, GET_PROTOCOL_FEATURES);
         link.order(numbers, SET_PROTOCOL_FEATURES, &protocol.to_le_bytes(), &[]);
         link.order(numbers, SET_OWNER, &[], &[]);
         link.order(numbers, SET_FEATURES, &self.features.to_le_bytes(), &[]);
-        assert!(link.ask_number(numbers, GET_QUEUE_NUM) >= RINGS as u64);
+        assert!(link.inquire_u64(numbers, GET_QUEUE_NUM) >= RINGS as u64);
         self.has_memory = false;
         if !self.places.is_translated {
             return;
@@ -237,19 +226,14 @@ impl Walk {
             true => part.pieces[0].0,
             false => self.memory.user(part.spot(0)),
         };
-        let mut payload = halves_of(&[index as u32, self.log.is_some().into()]);
-        payload.extend(numbers_of(&[
-            at(descriptors),
-            at(device),
-            at(driver),
-            device.pieces[0].0,
-        ]));
+        let mut payload = words(&[index as u32, self.log.is_some().into()]);
+        payload.extend(longs(&[at(descriptors), at(device), at(driver), device.pieces[0].0]));
         payload
     }
 
     /// Starts a ring where it goes on.
     pub fn start_ring(&mut self, index: usize) {
-        let two = |number: u32| halves_of(&[index as u32, number]);
+        let two = |number: u32| words(&[index as u32, number]);
         let (size, base) = (self.rings[index].ring.shape.size, self.rings[index].ring.base());
         let addresses = self.addresses(index);
         let (link, numbers, it) = (&mut self.link, &mut self.numbers, &mut self.rings[index]);
@@ -274,19 +258,19 @@ impl Walk {
     }
 
     pub fn enable(&mut self, index: usize, is_enabled: bool) {
-        let payload = halves_of(&[index as u32, is_enabled.into()]);
+        let payload = words(&[index as u32, is_enabled.into()]);
         self.link.order(&mut self.numbers, SET_VRING_ENABLE, &payload, &[]);
         self.rings[index].is_enabled = is_enabled;
     }
 
     /// Stops a ring. It has to go on after what came back.
     pub fn stop_ring(&mut self, index: usize) {
-        let payload = halves_of(&[index as u32, 0]);
-        let reply = self.link.ask(&mut self.numbers, GET_VRING_BASE, &payload, &[]);
+        let payload = words(&[index as u32, 0]);
+        let reply = self.link.inquire(&mut self.numbers, GET_VRING_BASE, &payload, &[]);
         self.rings[index].is_started = false;
         self.harvest(index);
         let base = self.rings[index].ring.base();
-        assert_eq!(reply, halves_of(&[index as u32, base]), "where ring {index} goes on");
+        assert_eq!(reply, words(&[index as u32, base]), "where ring {index} goes on");
     }
 
     /// Whether the device serves a ring.
@@ -473,7 +457,7 @@ impl Walk {
             let all: Vec<_> = calls.chain(self.io.iter().map(|io| io.channel.as_raw_fd())).collect();
             wait(&all, time.min(self.nudge()));
             for &index in &out {
-                if drain(&self.rings[index].ring.call) > 0 {
+                if take(&self.rings[index].ring.call) > 0 {
                     self.disarm(index);
                 }
             }

@@ -17,7 +17,7 @@ struct faults {
 static struct faults *faults(void) {
     static struct faults *shared;
     if (!shared) {
-        int file = open(getenv("WALK_FAULTS"), O_RDWR | O_CLOEXEC);
+        int file = open(getenv("DISK_FAULTS"), O_RDWR | O_CLOEXEC);
         shared = mmap(0, sizeof *shared, PROT_READ | PROT_WRITE, MAP_SHARED, file, 0);
         close(file);
         if (shared == MAP_FAILED)

@@ -1,6 +1,6 @@
 //! A disk that fails, by a small library of C in front of the system's.
 
-use super::system::Map;
+use super::Map;
 use std::fs::File;
 use std::path::{Path, PathBuf};
 use std::process::Command;
@@ -17,13 +17,12 @@ impl Faults {
     /// Makes the library, if there is a compiler. The disk fails from a byte on.
     pub fn new(folder: &Path, bad_from: u64) -> Option<Faults> {
         let (library, file) = (folder.join("faults.so"), folder.join("faults"));
-        let source = Path::new(env!("CARGO_MANIFEST_DIR")).join("tests/walk_driver/faults.c");
+        let source = Path::new(env!("CARGO_MANIFEST_DIR")).join("tests/front_end/faults.c");
         let mut command = Command::new("cc");
         command
             .args(["-shared", "-fPIC", "-O1", "-o"])
             .arg(&library)
             .arg(source);
-        // Without one the walks have a disk that does not fail.
         let status = command.status().ok()?;
         assert!(status.success());
         let shared = File::options()
@@ -36,6 +35,11 @@ impl Faults {
         let map = Map::new(&shared.into(), 0, 4096);
         map.word(0).store(bad_from, SeqCst);
         Some(Faults { map, file, library })
+    }
+
+    /// Has a program that is started have this disk.
+    pub fn precede(&self, command: &mut Command) {
+        command.env("LD_PRELOAD", &self.library).env("DISK_FAULTS", &self.file);
     }
 
     /// How many syncs were asked for.
