@@ -1,2 +1,3 @@
 pub mod AccessLemmas
+pub mod HarvestLemmas
 pub mod TargetLemmas

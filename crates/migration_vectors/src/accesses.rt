@@ -66,7 +66,10 @@ fn write_second<B: ExactBitmap>(host: &mut HostMemory<B>, block: BlockId, byte: 
     let Ok(part) = window.subslice(1, 1) else {
         return;
     };
-    if part.len() != 1 || !host.holds(&part) {
+    if part.len() != 1 {
+        return;
+    }
+    if !host.holds(&part) {
         return;
     }
     host.write(&part, &[byte]);

@@ -1,4 +1,4 @@
-use Rattle.std.proofs.Common.{[], ◌∷◌, List, refl, subst, arith}
+use Rattle.std.proofs.Common.{[], ◌∷◌, refl, subst, arith}
 use Rattle.std.proofs.lemmas.List.Elements.{All-cons, All-nil}
 use Rattle.vm_memory_guest.specs.Window.{Window, Writes, block_window}
 use Rattle.live_migration.specs.Writing.{MarksItsBlock}

@@ -1,6 +1,6 @@
-use Rattle.std.proofs.Common.{[], ◌∷◌, ◌++◌, List, ℕ, Option, refl}
+use Rattle.std.proofs.Common.{[], ◌∷◌, ◌++◌, refl}
 use Rattle.live_migration.specs.Calls as call
-use Rattle.live_migration.specs.Calls.{Call, DoAll, Moment}
+use Rattle.live_migration.specs.Calls.{DoAll, Moment}
 use Rattle.migration_vectors.proofs.steps.send_round.Goals as goal
 
 pub returns : goal.returns

@@ -1,4 +1,4 @@
-use Rattle.std.proofs.Common.{[], ◌∷◌, ◌++◌, List, ℕ, true, Option, Some, refl, subst}
+use Rattle.std.proofs.Common.{[], ◌∷◌, ◌++◌, List, ℕ, true, Option, refl, subst}
 use Rattle.live_migration.specs.Calls as call
 use Rattle.live_migration.specs.Calls.{HasBegun, Moment}
 use Rattle.live_migration.specs.Leave.{BeginsToSend}

@@ -1,4 +1,4 @@
-use Rattle.std.proofs.Common.{List, [], ℕ, Option, Some, sym, subst, ◌∙◌}
+use Rattle.std.proofs.Common.{List, ℕ, Option, sym, subst, ◌∙◌}
 use Rattle.live_migration.specs.Receiving.{ReceivesAll}
 use Rattle.migration_vectors.proofs.whole.receive_whole.Goals as goal
 
