@@ -7,8 +7,8 @@ use Rattle.std.proofs.lemmas.Option.{get_or_from_slice_get, slice_get-map, slice
 use Rattle.vm_memory_guest.specs.Host.{Host, block_at}
 use Rattle.live_migration.specs.Bare.{AreBare}
 use Rattle.live_migration.specs.Frame.{ZeroPage}
-use Rattle.live_migration.specs.Image.{are_zero, placed}
-use Rattle.live_migration.specs.Placing.{Applies, HasPlaced}
+use Rattle.live_migration.specs.Image.{are_zero, page_bytes, placed}
+use Rattle.live_migration.specs.Placing.{Applies, HasPlaced, TellsNothing}
 use Rattle.live_migration.specs.Receiving.{zeroed}
 use Rattle.live_migration.specs.declared.header.BlockEntry.{BlockEntry}
 use Rattle.live_migration.proofs.ImageLemmas.{get_or-placed, length-placed, is_before, is_behind, is_inside}
@@ -89,6 +89,27 @@ module _ {B : Type 0} (base block at : ℕ) (old new : Host B) where
 all_zero : (bytes : List ℕ) → ((k : ℕ) → get_or bytes k 0 ≡ 0) → are_zero bytes ≡ true
 all_zero [] h = refl
 all_zero (b ∷ bs) h = and_from _ _ (eq-eqb b 0 (h 0)) (all_zero bs (λ k. h (suc k)))
+
+-- a page of zeros where a block has only zeros tells nothing
+pub bare_tells : {B : Type 0} (base block page : ℕ) (entries : List BlockEntry) (entry : BlockEntry)
+    (offsets : List ℕ) (host : Host B) → AreBare base offsets host → slice_get entries block ≡ Some entry
+    → block < length offsets → get_or offsets block 0 ≤ page * entry.page_size
+    → TellsNothing base entries (ZeroPage block page) host
+bare_tells base block page entries entry offsets host bare there within from =
+    (entry, there, all_zero (page_bytes entry.page_size page (block_at host.blocks (base + block))) byte)
+  where
+    byte : (k : ℕ) → get_or (page_bytes entry.page_size page (block_at host.blocks (base + block))) k 0 ≡ 0
+    byte k =
+        let image = block_at host.blocks (base + block) in
+        let start = page * entry.page_size in
+        elim (cases_lt k entry.page_size) [
+          | inl below ↦
+              get_or-take entry.page_size (drop start image) k 0 below ∙ get_or-drop start image k 0
+              ∙ bare block (start + k) within (omega arith)
+          | inr past ↦
+              get_or_past (take entry.page_size (drop start image)) k 0
+              (omega (arith, length-take entry.page_size (drop start image)))
+        ]
 
 -- a page of zeros where a block has only zeros changes nothing
 pub bare_applies : {B : Type 0} (base block page : ℕ) (entries : List BlockEntry) (entry : BlockEntry)

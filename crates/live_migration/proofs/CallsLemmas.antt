@@ -25,7 +25,7 @@ use Rattle.live_migration.specs.declared.digest.StreamHasher.{StreamHasher}
 use Rattle.live_migration.specs.declared.sender.pages.Target.{Target}
 use Rattle.live_migration.specs.declared.sender.rounds.Rounds.{Rounds}
 use Rattle.live_migration.specs.declared.sender.stream.Sender.{Sender}
-use Rattle.live_migration.proofs.FollowingLemmas.{copy_follows, harvest_follows, round_follows, send_follows}
+use Rattle.live_migration.proofs.FollowingLemmas.{copy_follows, harvest_follows, refused_follows, round_follows, send_follows}
 use Rattle.live_migration.proofs.ImageLemmas.{arrived-append}
 use Rattle.live_migration.proofs.RoundsLemmas as kept
 use Rattle.live_migration.proofs.RunLemmas.{fits-append, singles_arrive}
@@ -160,6 +160,26 @@ module _ {B : Type 0} (pages_of : B → PageSet) (digests : Bool) (ts : List Tar
           targets = ap (λ (r : Rounds). r.targets.items) d.rounds ∙ h.targets;
           follows = subst (λ (w : Host B). Follows pages_of new.sender.rounds w s) (sym d.host)
               (subst (λ (r : Rounds). Follows pages_of r old.host s) (sym d.rounds) h.follows);
+          followed = h.followed;
+          stream = d.stream ∙ h.stream;
+          hashed = hashed_as d.hasher;
+          fits = h.fits;
+          images = h.images;
+        };
+      }
+
+      go_refuse : call.RefusesCall old new → Goes (Unit {0}) s new
+      unfolding story AllMay AllStill
+      go_refuse d = record {
+        events = [];
+        messages = ms;
+        may = tt;
+        still = λ quiet. tt;
+        sent = record {
+          header = h.header;
+          targets = ap (λ (v : Vec Target). v.items) d.stays.kept.targets ∙ h.targets;
+          follows = subst (λ (w : Host B). Follows pages_of new.sender.rounds w s) (sym d.host)
+              (refused_follows pages_of old.sender.rounds new.sender.rounds old.host s h.follows d.stays);
           followed = h.followed;
           stream = d.stream ∙ h.stream;
           hashed = hashed_as d.hasher;
@@ -316,6 +336,7 @@ module _ {B : Type 0} (pages_of : B → PageSet) (digests : Bool) (ts : List Tar
     goes_on : (c : Call) (old new : Moment B) (s : Ends) (ms : List Message) → HasSent old s ms
         → Does pages_of c old new → Goes (IsQuiet c) s new
     goes_on call.WriteGuest old new s ms h d = go_write old new s ms h d
+    goes_on call.Refuse old new s ms h d = go_refuse old new s ms h d
     goes_on call.Ready old new s ms h d = go_ready old new s ms h d
     goes_on call.Harvest old new s ms h d = go_harvest old new s ms h d
     goes_on (call.Copy count) old new s ms h d = go_copy old new s ms h count d
@@ -347,10 +368,10 @@ module _ {B : Type 0} (pages_of : B → PageSet) (digests : Bool) (ts : List Tar
           sent = subst (λ (z : Ends). HasSent new z r.messages) (sym (story-append g.events r.events s)) r.sent;
         }
 
--- one call more
-pub one_call_more : {B : Type 0} (pages_of : B → PageSet) (cs : List Call) (c : Call) (first mid last : Moment B)
-    → DoAll pages_of cs first mid → Does pages_of c mid last → DoAll pages_of (cs ++ c ∷ []) first last
-one_call_more pages_of [] c first mid last d one =
-    (last, subst (λ (m : Moment _). Does pages_of c m last) d one, refl)
-one_call_more pages_of (x ∷ xs) c first mid last d one =
-    (d.0, d.1, one_call_more pages_of xs c d.0 mid last d.2 one)
+-- more calls after others
+pub calls-append : {B : Type 0} (pages_of : B → PageSet) (cs ds : List Call) (first mid last : Moment B)
+    → DoAll pages_of cs first mid → DoAll pages_of ds mid last → DoAll pages_of (cs ++ ds) first last
+calls-append {B} pages_of [] ds first mid last done more =
+    subst (λ (m : Moment B). DoAll pages_of ds m last) done more
+calls-append pages_of (x ∷ xs) ds first mid last done more =
+    (done.0, done.1, calls-append pages_of xs ds done.0 mid last done.2 more)

@@ -29,7 +29,7 @@ slice_get-set_same [] i x y e = absurd cc
 slice_get-set_same (z ∷ zs) zero x y e = refl
 slice_get-set_same (z ∷ zs) (suc i) x y e = slice_get-set_same zs i x y e
 
-slice_get-set_other : {X : Type 0} (xs : List X) (i j : ℕ) (y : X) → (j ≡ i → ⊥)
+pub slice_get-set_other : {X : Type 0} (xs : List X) (i j : ℕ) (y : X) → (j ≡ i → ⊥)
     → slice_get (set xs i y) j ≡ slice_get xs j
 slice_get-set_other [] i j y ne = refl
 slice_get-set_other (z ∷ zs) zero zero y ne = absurd (ne refl)

@@ -442,9 +442,3 @@ entry_behind front out new es i d l e f =
     f ∙ ap (λ (x : List ℕ). x ++ entry_bytes (get_or es i d)) e
     ∙ flat_map_more entry_bytes front (take i es) (get_or es i d)
     ∙ ap (λ (x : List BlockEntry). front ++ flat_map entry_bytes x) (sym (take_more es i d l))
-
-abbrev read : Bool × List BlockEntry → Result (Bool × List BlockEntry) Refusal
-read h = Ok h
-
-pub same_entries : (d e : Bool) (es fs : List BlockEntry) → read (d, es) ≡ read (e, fs) → (d ≡ e) × (es ≡ fs)
-same_entries d e es fs h = same_pairs d e es fs (ok_is (d, es) (e, fs) h)

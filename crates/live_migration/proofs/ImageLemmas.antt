@@ -6,9 +6,6 @@ use Rattle.std.proofs.lemmas.List.{length-map, length-take, length-replicate, ge
 use Rattle.std.proofs.lemmas.List.FromFn.{length-range_with_len, get_or-range_with_len}
 use Rattle.std.proofs.lemmas.List.Folds.{list_all_at}
 use Rattle.std.proofs.lemmas.Nat.{div_below, le-div, mul-le}
-use Rattle.std.proofs.lemmas.List.{ext_get_or}
-use Rattle.vm_memory_guest.proofs.PatchLemmas.{get_or-patched, length-patched}
-use Rattle.vm_memory_guest.specs.Patch.{patched}
 use Rattle.std.specs.Int.{div_ceil}
 use Rattle.std.specs.List.{list_all, list_any, flat_map, range_with_len}
 use Rattle.vm_memory_base.specs.Address.{is_within, numbers}
@@ -308,13 +305,3 @@ pages_arrive size block k some bytes within (p ∷ ps) image same =
     ∙ ap (λ (y : ℕ). cond (list_any (λ (q : ℕ). k / size == q) ps) (get_or bytes k 0) y)
     (page_arrives size block p k some bytes within image same)
     ∙ either (k / size == p) (list_any (λ (q : ℕ). k / size == q) ps) (get_or bytes k 0) (get_or image k 0)
-
--- pages that are copied patch an image
-pub pages_patch : (size block : ℕ) (bytes ps image : List ℕ) → 0 < size → length image ≡ length bytes
-    → arrived size block (flat_map (copied size block bytes) ps) image ≡ patched size ps bytes image
-pages_patch size block bytes ps image some same =
-    let len = length-arrived size block (flat_map (copied size block bytes) ps) image in
-    ext_get_or 0 (arrived size block (flat_map (copied size block bytes) ps) image) (patched size ps bytes image)
-    (len ∙ sym (length-patched size ps bytes image))
-    (λ k within. pages_arrive size block k some bytes (omega (arith, len)) ps image same
-    ∙ sym (get_or-patched size ps bytes image k (omega (arith, len))))

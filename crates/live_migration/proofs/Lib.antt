@@ -8,6 +8,7 @@ pub mod FrameLemmas
 pub mod HeaderLemmas
 pub mod HeaderLoop
 pub mod ImageLemmas
+pub mod MakingLemmas
 pub mod MarkingLemmas
 pub mod OneWayLemmas
 pub mod PlacingLemmas

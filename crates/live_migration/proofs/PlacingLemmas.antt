@@ -1,7 +1,7 @@
 -- What a write of a window leaves of the blocks of a host.
-use Rattle.std.proofs.Common.{◌≡◌, ℕ, zero, suc, ◌+◌, ◌-◌, ◌*◌, ◌<◌, ◌≤◌, Bool, true, false, cond, List, [], ◌∷◌, map, length, get_or, set, take, drop, replicate, min, Some, refl, sym, ap, ◌∙◌, inl, inr, arith}
+use Rattle.std.proofs.Common.{◌≡◌, ℕ, zero, suc, ◌+◌, ◌-◌, ◌*◌, ◌<◌, ◌≤◌, Bool, true, false, cond, List, [], ◌∷◌, map, length, get_or, set, take, drop, replicate, min, Some, refl, sym, ap, subst, ◌∙◌, inl, inr, arith}
 use Rattle.std.specs.Prelude.{MatchBool, nat_lt, slice_get}
-use Rattle.std.proofs.lemmas.Bool.{cases_lt, cases_eq, cond-true, cond-false, eq-eqb, ne_eqb}
+use Rattle.std.proofs.lemmas.Bool.{cases_lt, cases_eq, cond-true, cond-false, eq-eqb, lt-ltb, ne_eqb}
 use Rattle.std.proofs.lemmas.List.{append-nil, ext_get_or, length-set, length-map, length-replicate, get_or-map, get_or-set_same, get_or-set_other, get_or-replicate, get_or_past}
 use Rattle.std.proofs.lemmas.Option.{same_Some, slice_get_within}
 use Rattle.vm_memory_base.specs.Address.{is_within}
@@ -9,7 +9,7 @@ use Rattle.vm_memory_base.specs.declared.bitmap.BitmapId.{BitmapId}
 use Rattle.vm_memory_base.specs.declared.bitmap.BitmapId.TheVariants.{Block, Space}
 use Rattle.vm_memory_guest.specs.Host.{Host, Cell, Shape, IsHeld, block_at, bytes_at, cells_from, shape_of, with_byte, written}
 use Rattle.vm_memory_guest.specs.Host as names
-use Rattle.vm_memory_guest.specs.Window.{Marks, Writes, block_window, cells, cells_of}
+use Rattle.vm_memory_guest.specs.Window.{Marks, MarksOne, Writes, block_window, cells, cells_of}
 use Rattle.live_migration.specs.Frame.{Message, Pages, ZeroPage}
 use Rattle.live_migration.specs.Image.{are_zero, page_bytes, placed, received}
 use Rattle.live_migration.specs.Placing.{HasPlaced, Applies, TellsNothing}
@@ -134,6 +134,34 @@ module _ {B : Type 0} (marks : B → ℕ → ℕ → B → Type 0) where
   marked_blocks true id offset len old new m = marks-blocks id offset len old new m
   marked_blocks false id offset len old new m = ap (λ (h : Host B). h.blocks) m
 
+  marked_spaces : (b : Bool) (block offset len : ℕ) (old new : Host B)
+      → MatchBool b (Marks marks (Block block) offset len old new) (new ≡ old) → new.spaces ≡ old.spaces
+  marked_spaces true block offset len old new m = ap (λ (h : Host B). h.spaces) m.2
+  marked_spaces false block offset len old new m = ap (λ (h : Host B). h.spaces) m
+
+  marked_tables : (b : Bool) (block offset len : ℕ) (old new : Host B)
+      → MatchBool b (Marks marks (Block block) offset len old new) (new ≡ old) → new.tables ≡ old.tables
+  marked_tables true block offset len old new m = ap (λ (h : Host B). h.tables) m.2
+  marked_tables false block offset len old new m = ap (λ (h : Host B). h.tables) m
+
+  marked_one : (b : Bool) (block offset len : ℕ) (old new : Host B) → b ≡ true
+      → MatchBool b (Marks marks (Block block) offset len old new) (new ≡ old)
+      → MarksOne marks block offset len old.bitmaps new.bitmaps
+  marked_one true block offset len old new is m =
+      subst (λ (bs : List B). MarksOne marks block offset len old.bitmaps bs)
+      (sym (ap (λ (h : Host B). h.bitmaps) m.2)) m.1
+  marked_one false block offset len old new is m = absurd (cc)
+
+  -- the bytes of a window that has some are marked
+  pub window_marked : (b off : ℕ) (bytes : List ℕ) (old new : Host B)
+      → Writes marks (block_window b off (length bytes) ∷ []) bytes old new → 0 < length bytes
+      → MarksOne marks b off (length bytes) old.bitmaps new.bitmaps
+  window_marked b off bytes old new w some =
+      let mid = record old { blocks = written (cells (block_window b off (length bytes) ∷ [])) bytes old.blocks } in
+      subst (λ (bs : List B). MarksOne marks b off (length bytes) old.bitmaps bs)
+      (sym (ap (λ (h : Host B). h.bitmaps) w.2))
+      (marked_one (nat_lt 0 (length bytes)) b off (length bytes) mid w.0 (lt-ltb 0 (length bytes) some) w.1)
+
   pub window_written : (b off : ℕ) (bytes : List ℕ) (old new : Host B)
       → Writes marks (block_window b off (length bytes) ∷ []) bytes old new
       → new.blocks ≡ written (cells_from b off (length bytes)) bytes old.blocks
@@ -148,6 +176,7 @@ module _ {B : Type 0} (marks : B → ℕ → ℕ → B → Type 0) where
       → Writes marks (block_window b off (length bytes) ∷ []) bytes old new → shape_of new ≡ shape_of old
       → HasPlaced old new b off bytes
   bytes_placed b off bytes old new held w same =
+      let mid = record old { blocks = written (cells (block_window b off (length bytes) ∷ [])) bytes old.blocks } in
       let blocks = window_written b off bytes old new w in
       let l : b < length old.blocks = omega (arith, held.0, length-map old.blocks (λ (x : List ℕ). length x)) in
       let at : get_or (map length old.blocks) b 0 ≡ length (block_at old.blocks b) =
@@ -158,6 +187,10 @@ module _ {B : Type 0} (marks : B → ℕ → ℕ → B → Type 0) where
         others = λ c ne. ap (λ (bs : List (List ℕ)). block_at bs c) blocks
             ∙ written_other b (length bytes) off bytes old.blocks c ne;
         shape = same;
+        spaces = ap (λ (h : Host B). h.spaces) w.2
+            ∙ marked_spaces (nat_lt 0 (length bytes)) b off (length bytes) mid w.0 w.1;
+        tables = ap (λ (h : Host B). h.tables) w.2
+            ∙ marked_tables (nat_lt 0 (length bytes)) b off (length bytes) mid w.0 w.1;
       }
 
 -- the bytes of a place that is held
@@ -179,6 +212,8 @@ zeros_there b off zeros host room none all = record {
   block_is = sym (zeros_stay off (length zeros) zeros (block_at host.blocks b) room none all);
   others = λ c ne. refl;
   shape = refl;
+  spaces = refl;
+  tables = refl;
 }
 
 -- ---- messages
@@ -211,6 +246,8 @@ module _ {B : Type 0} (base : ℕ) (entries : List BlockEntry) (old new : Host B
       | inr behind ↦ omega (arith, slice_get_within entries i entry there)
     ]);
     shape = has.shape;
+    spaces = has.spaces;
+    tables = has.tables;
     same = same;
   }
 

@@ -1,17 +1,19 @@
 -- Frames that are taken one after the other.
-use Rattle.std.proofs.Common.{◌≡◌, ℕ, ◌+◌, ◌<◌, ◌≤◌, ◌⊎◌, List, [], ◌∷◌, ◌++◌, length, take, Option, Some, None, Result, Ok, Err, OnErr, refl, sym, ap, subst, ◌∙◌, add-zero, arith}
+use Rattle.std.proofs.Common.{◌≡◌, ℕ, ◌+◌, ◌-◌, ◌*◌, ◌<◌, ◌≤◌, ◌⊎◌, min, inl, inr, List, [], ◌∷◌, ◌++◌, length, take, Option, Some, None, Result, Ok, Err, OnErr, refl, sym, ap, subst, ◌∙◌, add-zero, arith}
 use Rattle.std.proofs.KnownBytes.{Appends-nil, Appends-trans}
 use Rattle.std.proofs.Math.Seq.{take-append-add, take-length}
 use Rattle.std.specs.Io.KnownBytes.{Appends, Consumes}
 use Rattle.std.specs.List.{AllByRecursion}
 use Rattle.std.specs.Prelude.{flat_map, slice_get}
 use Rattle.std.proofs.lemmas.List.{append-nil, flat_map_more}
+use Rattle.std.proofs.lemmas.Option.{slice_get_within}
 use Rattle.vm_memory_guest.specs.Host.{Host, block_at}
+use Rattle.vm_memory_guest.specs.Window.{MarksOne}
 use Rattle.live_migration.specs.Frame.{Message, Pages, ZeroPage, RoundEnd, Section, Done, Go, IsMessage, spelling}
 use Rattle.live_migration.specs.Image.{arrived, received}
-use Rattle.live_migration.specs.Placing.{IsInside}
+use Rattle.live_migration.specs.Placing.{IsInside, MarksChanged, MarksPages, TellsNothing}
 use Rattle.live_migration.specs.Reading.{◌>>=◌}
-use Rattle.live_migration.specs.Receiving.{BreaksReceiving, KeepsBlocks, Receives, ReceivesAll, TakesFrame, section_in, sections_told}
+use Rattle.live_migration.specs.Receiving.{BreaksReceiving, KeepsBlocks, MarksAllPages, MayTellNothing, Receives, ReceivesAll, TakesFrame, section_in, sections_told}
 use Rattle.live_migration.specs.Replies.{replies_to, reply_after, reply_to}
 use Rattle.live_migration.specs.Stages.{in_round, stage_after, stage_after_all}
 use Rattle.live_migration.specs.declared.header.BlockEntry.{BlockEntry}
@@ -20,6 +22,7 @@ use Rattle.live_migration.specs.declared.receiver.Stage.TheVariants as stage
 use Rattle.live_migration.specs.declared.receiver.progress.Progress.{Progress}
 use Rattle.live_migration.specs.declared.refusal.Refusal.{Refusal}
 use Rattle.live_migration.proofs.CostLemmas.{sections_cost}
+use Rattle.live_migration.proofs.FollowingLemmas.{slice_get-set_other}
 use Rattle.live_migration.proofs.ImageLemmas.{arrived-append}
 use Rattle.live_migration.proofs.StreamLemmas.{consumes_consumes}
 
@@ -27,11 +30,22 @@ consumes_none : (a : Option (List ℕ)) → Consumes a a []
 consumes_none None = tt
 consumes_none (Some xs) = refl
 
+-- a mark of a block of these leaves the bitmaps of others
+marked_elsewhere : {B : Type 0} (marks : B → ℕ → ℕ → B → Type 0) (base : ℕ) (entries : List BlockEntry) (block : ℕ)
+    (entry : BlockEntry) (at len : ℕ) (old new : List B) → slice_get entries block ≡ Some entry
+    → MarksOne marks (base + block) at len old new → (c : ℕ) → (c < base) ⊎ (base + length entries ≤ c)
+    → slice_get new c ≡ slice_get old c
+marked_elsewhere {B} marks base entries block entry at len old new there m c outside =
+    ap (λ (bs : List B). slice_get bs c) m.is ∙ slice_get-set_other old (base + block) c m.after (λ here. elim outside [
+      | inl before ↦ omega arith
+      | inr behind ↦ omega (arith, slice_get_within entries block entry there)
+    ])
+
 -- nothing came yet
-pub none_received : {B : Type 0} (a : Option (List ℕ)) (base : ℕ) (entries : List BlockEntry) (host : Host B)
-    → ReceivesAll a a base entries host host
+pub none_received : {B : Type 0} (marks : B → ℕ → ℕ → B → Type 0) (a : Option (List ℕ)) (base : ℕ)
+    (entries : List BlockEntry) (host : Host B) → ReceivesAll marks a a base entries host host
 unfolding arrived
-none_received a base entries host = record {
+none_received marks a base entries host = record {
   messages = [];
   fit = tt;
   inside = tt;
@@ -39,7 +53,53 @@ none_received a base entries host = record {
   images = λ j e there. refl;
   others = λ c outside. refl;
   shape = refl;
+  spaces = refl;
+  tables = refl;
+  marked = refl;
+  bitmaps = λ c outside. refl;
 }
+
+-- ---- marks
+
+-- a message whose pages are of these blocks leaves the bitmaps of others
+other_bitmaps : {B : Type 0} (marks : B → ℕ → ℕ → B → Type 0) (base : ℕ) (entries : List BlockEntry) (m : Message)
+    (old new : List B) → MarksPages marks base entries m old new → (c : ℕ)
+    → (c < base) ⊎ (base + length entries ≤ c) → slice_get new c ≡ slice_get old c
+other_bitmaps marks base entries (Pages block first bytes) old new m c outside =
+    marked_elsewhere marks base entries block m.0 (first * m.0.page_size) (length bytes) old new m.1 m.2 c outside
+other_bitmaps marks base entries (ZeroPage block page) old new m c outside =
+    marked_elsewhere marks base entries block m.0 (page * m.0.page_size)
+    (min m.0.page_size (m.0.len - page * m.0.page_size)) old new m.1 m.2 c outside
+other_bitmaps marks base entries (RoundEnd round digest) old new m c outside = absurd m
+other_bitmaps marks base entries (Section name bytes) old new m c outside = absurd m
+other_bitmaps marks base entries Done old new m c outside = absurd m
+other_bitmaps marks base entries Go old new m c outside = absurd m
+
+-- what a message changed is marked, or it may tell nothing
+silent_or_marked : {B : Type 0} (marks : B → ℕ → ℕ → B → Type 0) (base : ℕ) (entries : List BlockEntry) (m : Message)
+    (old new : Host B) → (TellsNothing base entries m old → new ≡ old) → MarksChanged marks base entries m old new
+    → (MayTellNothing m × (new.bitmaps ≡ old.bitmaps)) ⊎ MarksPages marks base entries m old.bitmaps new.bitmaps
+silent_or_marked {B} marks base entries m old new same (inl none) =
+    inl (may m none, ap (λ (h : Host B). h.bitmaps) (same none))
+  where
+    may : (m : Message) → TellsNothing base entries m old → MayTellNothing m
+    may (Pages block first bytes) none = absurd none
+    may (ZeroPage block page) none = tt
+    may (RoundEnd round digest) none = tt
+    may (Section name bytes) none = tt
+    may Done none = tt
+    may Go none = tt
+silent_or_marked marks base entries m old new same (inr marked) = inr marked
+
+-- and so of one message more
+marks_more : {B : Type 0} (marks : B → ℕ → ℕ → B → Type 0) (base : ℕ) (entries : List BlockEntry) (ms : List Message)
+    (m : Message) (old mid new : List B) → MarksAllPages marks base entries ms old mid
+    → (MayTellNothing m × (new ≡ mid)) ⊎ MarksPages marks base entries m mid new
+    → MarksAllPages marks base entries (ms ++ m ∷ []) old new
+marks_more {B} marks base entries [] m old mid new all more =
+    (new, subst (λ (bs : List B). (MayTellNothing m × (new ≡ bs)) ⊎ MarksPages marks base entries m bs new) all more, refl)
+marks_more marks base entries (x ∷ xs) m old mid new all more =
+    (all.0, all.1, marks_more marks base entries xs m all.0 mid new all.2 more)
 
 all_more : (P : Message → Type 0) (ms : List Message) (m : Message) → AllByRecursion P ms → P m
     → AllByRecursion P (ms ++ m ∷ [])
@@ -47,12 +107,19 @@ all_more P [] m all is = (is, tt)
 all_more P (x ∷ xs) m all is = (all.0, all_more P xs m all.1 is)
 
 -- one frame more
-pub received_more : {B : Type 0} (a b c : Option (List ℕ)) (base : ℕ) (entries : List BlockEntry) (old new : Progress)
-    (host mid next : Host B) → old.base ≡ base → old.entries.items ≡ entries
-    → ReceivesAll a b base entries host mid → TakesFrame b c old new mid next
-    → ReceivesAll a c base entries host next
+pub received_more : {B : Type 0} (marks : B → ℕ → ℕ → B → Type 0) (a b c : Option (List ℕ)) (base : ℕ)
+    (entries : List BlockEntry) (old new : Progress) (host mid next : Host B) → old.base ≡ base
+    → old.entries.items ≡ entries → ReceivesAll marks a b base entries host mid → TakesFrame marks b c old new mid next
+    → ReceivesAll marks a c base entries host next
 unfolding arrived
-received_more a b c base entries old new host mid next at are r t =
+received_more {B} marks a b c base entries old new host mid next at are r t =
+    let one : (MayTellNothing t.message × (next.bitmaps ≡ mid.bitmaps))
+    ⊎ MarksPages marks base entries t.message mid.bitmaps next.bitmaps =
+    subst (λ (es : List BlockEntry). (MayTellNothing t.message × (next.bitmaps ≡ mid.bitmaps))
+    ⊎ MarksPages marks base es t.message mid.bitmaps next.bitmaps) are
+    (subst (λ (k : ℕ). (MayTellNothing t.message × (next.bitmaps ≡ mid.bitmaps))
+    ⊎ MarksPages marks k old.entries.items t.message mid.bitmaps next.bitmaps) at
+    (silent_or_marked marks old.base old.entries.items t.message mid next t.applied.same t.marked)) in
     let ms = r.messages in
     let m = t.message in
     record {
@@ -74,6 +141,14 @@ received_more a b c base entries old new host mid next at are r t =
           (subst (λ (es : List BlockEntry). (c' < base) ⊎ (base + length es ≤ c')) (sym are) outside))
           ∙ r.others c' outside;
       shape = t.applied.shape ∙ r.shape;
+      spaces = t.applied.spaces ∙ r.spaces;
+      tables = t.applied.tables ∙ r.tables;
+      marked = marks_more marks base entries ms m host.bitmaps mid.bitmaps next.bitmaps r.marked one;
+      bitmaps = λ c' outside. elim one [
+        | inl silent ↦ ap (λ (bs : List B). slice_get bs c') silent.1 ∙ r.bitmaps c' outside
+        | inr marked ↦
+            other_bitmaps marks base entries m mid.bitmaps next.bitmaps marked c' outside ∙ r.bitmaps c' outside
+      ];
     }
 
 -- ---- what stays of a receiver, the sections that came, and the replies
@@ -127,10 +202,11 @@ pub if_refused : {T E P : Type 0} (r : Result T E) → P → OnErr r P
 if_refused (Ok x) p = tt
 if_refused (Err e) p = p
 
-pub none_kept : {B : Type 0} (a s : Option (List ℕ)) (p : Progress) (host : Host B) → Receives a p host host s s a p
+pub none_kept : {B : Type 0} (marks : B → ℕ → ℕ → B → Type 0) (a s : Option (List ℕ)) (p : Progress) (host : Host B)
+    → Receives marks a p host host s s a p
 unfolding none_received stage_after_all
-none_kept a s p host = (
-  none_received a p.base p.entries.items host,
+none_kept marks a s p host = (
+  none_received marks a p.base p.entries.items host,
   record {
     base = refl;
     entries = refl;
@@ -142,9 +218,9 @@ none_kept a s p host = (
 )
 
 -- no frame more
-pub breaks_here : {B : Type 0} (a b s t : Option (List ℕ)) (first old : Progress) (host next : Host B)
-    → Receives a first host next s t b old → BreaksReceiving a first host next s t
-breaks_here a b s t first old host next k =
+pub breaks_here : {B : Type 0} (marks : B → ℕ → ℕ → B → Type 0) (a b s t : Option (List ℕ)) (first old : Progress)
+    (host next : Host B) → Receives marks a first host next s t b old → BreaksReceiving marks a first host next s t
+breaks_here marks a b s t first old host next k =
     let replies = replies_to k.0.messages in
     record {
       after = b;
@@ -155,10 +231,11 @@ breaks_here a b s t first old host next k =
       replied = subst (λ (xs : List ℕ). Appends s t xs) (sym (take-length replies)) k.2;
     }
 
-module _ {B : Type 0} (a b c s t u : Option (List ℕ)) (first old new : Progress) (host mid next : Host B)
-    (k : Receives a first host mid s t b old) (f : TakesFrame b c old new mid next) where
-  came : ReceivesAll a c first.base first.entries.items host next
-  came = received_more a b c first.base first.entries.items old new host mid next k.1.base k.1.entries k.0 f
+module _ {B : Type 0} (marks : B → ℕ → ℕ → B → Type 0) (a b c s t u : Option (List ℕ)) (first old new : Progress)
+    (host mid next : Host B) (k : Receives marks a first host mid s t b old)
+    (f : TakesFrame marks b c old new mid next) where
+  came : ReceivesAll marks a c first.base first.entries.items host next
+  came = received_more marks a b c first.base first.entries.items old new host mid next k.1.base k.1.entries k.0 f
 
   kept : KeepsBlocks came.messages first new
   unfolding received_more came
@@ -182,7 +259,7 @@ module _ {B : Type 0} (a b c s t u : Option (List ℕ)) (first old new : Progres
       ∙ flat_map_more reply_to [] k.0.messages f.message
 
   -- one frame more, with its reply
-  pub kept_more : Appends t u (reply_after new.stage) → Receives a first host next s u c new
+  pub kept_more : Appends t u (reply_after new.stage) → Receives marks a first host next s u c new
   kept_more now = (
     came,
     kept,
@@ -192,7 +269,7 @@ module _ {B : Type 0} (a b c s t u : Option (List ℕ)) (first old new : Progres
 
   -- one frame more, with a beginning of its reply
   pub breaks_after : (count : ℕ) → Appends t u (take count (reply_after new.stage))
-      → BreaksReceiving a first host next s u
+      → BreaksReceiving marks a first host next s u
   breaks_after count now = record {
     after = c;
     reached = new;

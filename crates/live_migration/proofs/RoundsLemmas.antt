@@ -339,18 +339,6 @@ still_story_clears [] s still cleared = cleared
 still_story_clears (e ∷ es) s still cleared =
     still_story_clears es (after e s) still.1 (still_clears e s still.0 cleared)
 
-still_may : (e : Event) (s : Ends) → IsStill e → May e s
-still_may (Write block x) s still = absurd still
-still_may Harvest s still = tt
-still_may (Copy n) s still = tt
-still_may Send s still = tt
-still_may EndRound s still = tt
-
-pub all_still_may : (es : List Event) (s : Ends) → AllStill es → AllMay es s
-unfolding AllStill AllMay
-all_still_may [] s still = tt
-all_still_may (e ∷ es) s still = (still_may e s still.0, all_still_may es (after e s) still.1)
-
 pub through_equal : (s : Ends) (block : ℕ) → Follows s block → IsCleared s → IsThrough s → block < s.count
     → s.images block ≡ (s.sources block).bytes
 unfolding arrived

@@ -115,9 +115,10 @@ read_whole (Some xs) None x header frames e p q = absurd p
 read_whole (Some xs) (Some ys) x header frames e p q =
     sym (same_Some xs x e) ∙ p ∙ ap (λ (z : List ℕ). header ++ z) (q ∙ append-nil frames)
 
-module _ {B C : Type 0} (pages_of : B → PageSet) (digests : Bool) (ts : List Target) (m : Moment B) (s : Ends)
-    (ms : List Message) (h : HasSent pages_of digests ts m s ms) (sent : Option (List ℕ)) (p : Progress) (next : Host C)
-    (gone : Appends m.stream sent (spelling message.Go)) (r : ReadsAll sent p next)
+module _ {B C : Type 0} (made : ℕ → C → Type 0) (marks : C → ℕ → ℕ → C → Type 0) (pages_of : B → PageSet)
+    (digests : Bool) (ts : List Target) (m : Moment B) (s : Ends) (ms : List Message)
+    (h : HasSent pages_of digests ts m s ms) (sent : Option (List ℕ)) (p : Progress) (next : Host C)
+    (gone : Appends m.stream sent (spelling message.Go)) (r : ReadsAll made marks sent p next)
   where
     -- each block is the image that the rounds say
     pub has_image : (j : ℕ) (t : Target) → slice_get ts j ≡ Some t → block_at next.blocks (p.base + j) ≡ s.images j
@@ -137,7 +138,8 @@ module _ {B C : Type 0} (pages_of : B → PageSet) (digests : Bool) (ts : List T
         ∙ ap (option_map (λ (x : Target). x.entry)) at in
         r.frames.images j t.entry there
         ∙ ap (arrived t.entry.page_size j r.frames.messages)
-        (made_at r.host.blocks r.begun.blocks p.entries.items p.base j t.entry r.header.blocks r.header.base there)
+        (made_at r.host.blocks r.begun.blocks p.entries.items p.base j t.entry
+        (ap (λ (x : Host C). x.blocks) r.header.blocks.is) r.header.base there)
         ∙ ap (λ (xs : List Message). arrived t.entry.page_size j xs (replicate t.entry.len 0)) (sym same)
         ∙ bare_arrives t.entry.page_size j ms message.Go (replicate t.entry.len 0) (λ x. refl)
         ∙ sym (h.images j t at)

@@ -1,11 +1,11 @@
 -- Bytes that are zero.
-use Rattle.std.proofs.Common.{◌≡◌, ℕ, zero, suc, ◌+◌, ◌-◌, ◌*◌, ◌<◌, ◌≤◌, ◌&&◌, Bool, true, false, eqb, List, [], ◌∷◌, length, get_or, take, drop, replicate, refl, sym, ap, ◌∙◌, inl, inr, arith}
+use Rattle.std.proofs.Common.{◌≡◌, ℕ, zero, suc, ◌+◌, ◌-◌, ◌*◌, ◌<◌, ◌≤◌, ◌⊎◌, ◌&&◌, min, Result, Ok, Err, OnOk, Bool, true, false, eqb, List, [], ◌∷◌, length, get_or, take, drop, replicate, refl, sym, ap, ◌∙◌, inl, inr, arith}
 use Rattle.std.specs.List.{list_all}
 use Rattle.std.specs.Simd.{first_chunks}
 use Rattle.std.proofs.lemmas.Bool.{cases_lt, cond-true, cond-false, eqb-true, and_parts}
-use Rattle.std.proofs.lemmas.List.{drop-drop, ext_get_or, get_or-drop, get_or-take, length-drop, length-take, take-append-drop}
+use Rattle.std.proofs.lemmas.List.{drop-drop, ext_get_or, get_or-drop, get_or-take, length-drop, length-take, take-append-drop, take_all}
 use Rattle.std.proofs.lemmas.List.Folds.{list_all-append}
-use Rattle.live_migration.specs.Image.{are_zero, placed}
+use Rattle.live_migration.specs.Image.{are_zero, page_bytes, placed}
 use Rattle.live_migration.proofs.ImageLemmas.{get_or-placed, length-placed, is_before, is_behind, is_inside}
 
 pub zeros_are : (bs : List ℕ) → are_zero bs ≡ true → bs ≡ replicate (length bs) 0
@@ -30,6 +30,30 @@ chunks_zero n (suc k) xs =
     and_three : (a b c : Bool) → (a && (b && c)) ≡ ((a && b) && c)
     and_three true b c = refl
     and_three false b c = refl
+
+-- the bytes of a page, up to the end of a block
+pub cut_page : (size page n : ℕ) (bytes : List ℕ) → n ≡ min size (length bytes - page * size)
+    → take n (drop (page * size) bytes) ≡ page_bytes size page bytes
+cut_page size page n bytes cut = elim (cases_lt size (length bytes - page * size)) [
+  | inl short ↦ ap (λ (m : ℕ). take m (drop (page * size) bytes)) (let same : n ≡ size = omega arith in same)
+  | inr long ↦
+      take_all n (drop (page * size) bytes) (omega (arith, length-drop (page * size) bytes))
+      ∙ sym (take_all size (drop (page * size) bytes) (omega (arith, length-drop (page * size) bytes)))
+]
+
+-- what is marked if bytes are, or they are zero
+pub marked_or_zero : {T E : Type 0} (P Q : Type 0) (r : Result T E) (bytes : List ℕ) → OnOk r (P → Q)
+    → (are_zero bytes ≡ false → P) → OnOk r ((are_zero bytes ≡ true) ⊎ Q)
+marked_or_zero P Q (Err e) bytes q p = tt
+marked_or_zero P Q (Ok x) bytes q p = elim (zero_or_not (are_zero bytes)) [ inl z ↦ inl z | inr w ↦ inr (q (p w)) ]
+  where
+    zero_or_not : (b : Bool) → (b ≡ true) ⊎ (b ≡ false)
+    zero_or_not true = inl refl
+    zero_or_not false = inr refl
+
+pub some_written : (n : ℕ) (bytes : List ℕ) → are_zero (take n bytes) ≡ false → 0 < n
+some_written zero bytes e = absurd (cc)
+some_written (suc n) bytes e = omega arith
 
 -- ---- zeros that are there
 

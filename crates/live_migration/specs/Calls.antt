@@ -1,4 +1,4 @@
--- The calls of a sender that succeed, one after the other, and writes of its guest between them.
+-- The calls of a sender, one after the other, and writes of its guest between them.
 use Rattle.std.specs.Prelude.{◌≡◌, ℕ, ◌+◌, Bool, List, [], ◌∷◌, length, All, Option, Some}
 use Rattle.std.specs.List.{AllByRecursion}
 use Rattle.vm_memory_base.specs.Pages.{PageSet}
@@ -7,7 +7,7 @@ use Rattle.vm_memory_guest.specs.Host.{Host}
 use Rattle.vm_memory_guest.specs.Lent.{MarksChanges}
 use Rattle.vm_memory_guest.specs.Window.{Window}
 use Rattle.live_migration.specs.Digests.{HasNoted, digest_of}
-use Rattle.live_migration.specs.Following.{KeepsRounds}
+use Rattle.live_migration.specs.Following.{KeepsRounds, StaysAsItWas}
 use Rattle.live_migration.specs.Frame as message
 use Rattle.live_migration.specs.Frame.{IsMessage, Message, RoundEnd, spelling}
 use Rattle.live_migration.specs.Leave.{BeginsToSend, Sends}
@@ -18,9 +18,10 @@ use Rattle.live_migration.specs.Writing.{MarksItsBlock}
 use Rattle.live_migration.specs.declared.receiver.progress.Progress.{Progress}
 use Rattle.live_migration.specs.declared.sender.stream.Sender.{Sender}
 
--- a call of a sender, or writes of its guest
+-- a call of a sender, which may be refused, or writes of its guest
 pub data Call : Type 0 where
   WriteGuest : Call
+  Refuse : Call
   Ready : Call
   Harvest : Call
   Copy : (count : ℕ) → Call
@@ -55,6 +56,13 @@ module _ {B : Type 0} (pages_of : B → PageSet) (old new : Moment B) where
     pub stream : new.stream ≡ old.stream
 
 module _ {B : Type 0} (old new : Moment B) where
+  -- a harvest or a copy was refused, or nothing was written
+  pub record RefusesCall : Type 0 where
+    pub stays : StaysAsItWas old.sender.rounds new.sender.rounds
+    pub hasher : new.sender.hasher ≡ old.sender.hasher
+    pub host : new.host ≡ old.host
+    pub stream : new.stream ≡ old.stream
+
   -- the receiver's word came that it is ready
   pub record HearsReady : Type 0 where
     pub rounds : new.sender.rounds ≡ old.sender.rounds
@@ -96,9 +104,10 @@ module _ {B : Type 0} (old new : Moment B) where
     pub host : new.host ≡ old.host
 
 module _ {B : Type 0} (pages_of : B → PageSet) where
-  -- what each call says of itself if it succeeds
+  -- what each call says of itself
   abbrev pub Does : Call → Moment B → Moment B → Type 0
   Does WriteGuest old new = WritesGuest pages_of old new
+  Does Refuse old new = RefusesCall old new
   Does Ready old new = HearsReady old new
   Does Harvest old new = HarvestsBlock pages_of old new
   Does (Copy count) old new = CopiesBatch old new count
@@ -133,10 +142,11 @@ module _ {B : Type 0} (pages_of : B → PageSet) where
     pub quiet : AllByRecursion IsQuiet round × AllByRecursion IsQuiet behind
 
 -- a receiver read the whole of a stream, up to leave to run the guest
-pub record ReadsAll {C : Type 0} (stream : Option (List ℕ)) (p : Progress) (next : Host C) : Type 0 where
+pub record ReadsAll {C : Type 0} (made : ℕ → C → Type 0) (marks : C → ℕ → ℕ → C → Type 0) (stream : Option (List ℕ))
+    (p : Progress) (next : Host C) : Type 0 where
   pub limit : ℕ
   pub host : Host C
   pub begun : Host C
   pub rest : Option (List ℕ)
-  pub header : Begins limit stream rest p host begun
-  pub frames : ReceivesAll rest (Some []) p.base p.entries.items begun next
+  pub header : Begins made limit stream rest p host begun
+  pub frames : ReceivesAll marks rest (Some []) p.base p.entries.items begun next

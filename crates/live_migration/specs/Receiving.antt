@@ -4,10 +4,10 @@ use Rattle.std.specs.List.{AllByRecursion}
 use Rattle.std.specs.Io.KnownBytes.{Appends, Consumes}
 use Rattle.vm_memory_guest.specs.Host.{Host, block_at, shape_of}
 use Rattle.live_migration.specs.Digests.{HasNoted, digest_of}
-use Rattle.live_migration.specs.Frame.{Message, RoundEnd, Section, IsMessage, spelling}
+use Rattle.live_migration.specs.Frame.{Message, Pages, RoundEnd, Section, IsMessage, spelling}
 use Rattle.live_migration.specs.Header.{IsHeader, header_bytes}
 use Rattle.live_migration.specs.Image.{arrived}
-use Rattle.live_migration.specs.Placing.{Applies, IsInside}
+use Rattle.live_migration.specs.Placing.{Applies, IsInside, MarksChanged, MarksPages}
 use Rattle.live_migration.specs.Replies.{replies_to}
 use Rattle.live_migration.specs.Stages.{stage_after, stage_after_all}
 use Rattle.live_migration.specs.declared.header.BlockEntry.{BlockEntry}
@@ -44,6 +44,21 @@ section_in m = []
 abbrev pub cost_of : List ℕ × List ℕ → ℕ
 cost_of s = 256 + (length s.0 + length s.1)
 
+-- each of these bitmaps was made for the length of its block
+abbrev pub AreMadeFor : {B : Type 0} → (ℕ → B → Type 0) → List BlockEntry → List B → Type 0
+AreMadeFor made [] [] = Unit {0}
+AreMadeFor made [] (b ∷ bs) = ⊥
+AreMadeFor made (e ∷ es) [] = ⊥
+AreMadeFor made (e ∷ es) (b ∷ bs) = made e.len b × AreMadeFor made es bs
+
+-- Blocks of zeros came after those that a host had, each with a bitmap that was made for its length. Nothing else
+-- changed
+pub record MakesBlocks {B : Type 0} (made : ℕ → B → Type 0) (entries : List BlockEntry) (old new : Host B) : Type 0
+  where
+    pub bitmaps : List B
+    pub made_for : AreMadeFor made entries bitmaps
+    pub is : new ≡ record old { blocks = old.blocks ++ zeroed entries; bitmaps = old.bitmaps ++ bitmaps }
+
 -- what blocks cost of the limit: their bytes
 abbrev pub memory_of : List BlockEntry → ℕ
 memory_of entries = sum_by (λ e. e.len) entries
@@ -57,13 +72,15 @@ pub record IsSectionKept (old new : Progress) : Type 0 where
   pub hasher : new.hasher ≡ old.hasher
 
 -- a frame was read and done
-pub record TakesFrame {B : Type 0} (before after : Option (List ℕ)) (old new : Progress) (host next : Host B) : Type 0
+pub record TakesFrame {B : Type 0} (marks : B → ℕ → ℕ → B → Type 0) (before after : Option (List ℕ))
+    (old new : Progress) (host next : Host B) : Type 0
   where
     pub message : Message
     pub fits : IsMessage message
     pub consumed : Consumes before after (spelling message)
     pub inside : IsInside old.entries.items message
     pub applied : Applies old.base old.entries.items message host next
+    pub marked : MarksChanged marks old.base old.entries.items message host next
     pub stage : stage_after old.stage message ≡ Ok new.stage
     pub base : new.base ≡ old.base
     pub entries : new.entries.items ≡ old.entries.items
@@ -76,13 +93,13 @@ pub record TakesFrame {B : Type 0} (before after : Option (List ℕ)) (old new :
         → HasNoted digests new.hasher (sent ++ spelling message)
 
 -- a header was read, and its blocks were made. What they do not cost of the limit is left for sections
-pub record Begins {B : Type 0} (limit : ℕ) (before after : Option (List ℕ)) (new : Progress) (host next : Host B)
-    : Type 0
+pub record Begins {B : Type 0} (made : ℕ → B → Type 0) (limit : ℕ) (before after : Option (List ℕ)) (new : Progress)
+    (host next : Host B) : Type 0
   where
     pub digests : Bool
     pub header : IsHeader limit new.entries.items
     pub consumed : Consumes before after (header_bytes digests new.entries.items)
-    pub blocks : next.blocks ≡ host.blocks ++ zeroed new.entries.items
+    pub blocks : MakesBlocks made new.entries.items host next
     pub base : 0 < length new.entries.items → new.base ≡ length host.blocks
     pub stage : new.stage ≡ stage.Round
     pub round : new.round ≡ 0
@@ -90,20 +107,33 @@ pub record Begins {B : Type 0} (limit : ℕ) (before after : Option (List ℕ)) 
     pub hashed : HasNoted digests new.hasher (header_bytes digests new.entries.items)
 
 -- an allocation failed after a header was read, when some of its blocks had been made
-pub record BreaksMaking (limit : ℕ) (before after : Option (List ℕ)) (error : Refusal) (old new : List (List ℕ)) : Type 0
+pub record BreaksMaking {B : Type 0} (made : ℕ → B → Type 0) (limit : ℕ) (before after : Option (List ℕ))
+    (error : Refusal) (old new : Host B) : Type 0
   where
     pub digests : Bool
     pub entries : List BlockEntry
     pub header : IsHeader limit entries
     pub consumed : Consumes before after (header_bytes digests entries)
     pub count : ℕ
-    pub made : new ≡ old ++ zeroed (take count entries)
+    pub blocks : MakesBlocks made (take count entries) old new
     pub memory : error ≡ refusal.Memory
 
--- Messages came, one after the other, with pages inside their blocks: each block is the image that they leave, no other
--- block changed, and no block its length
-pub record ReceivesAll {B : Type 0} (before after : Option (List ℕ)) (base : ℕ) (entries : List BlockEntry)
-    (host next : Host B) : Type 0 where
+-- a message that may tell nothing: pages with bytes always tell something
+abbrev pub MayTellNothing : Message → Type 0
+MayTellNothing (Pages block first bytes) = ⊥
+MayTellNothing m = Unit {0}
+
+-- the pages of messages were marked, one message after the other, except where a message told nothing
+abbrev pub MarksAllPages : {B : Type 0} → (B → ℕ → ℕ → B → Type 0) → ℕ → List BlockEntry → List Message → List B
+    → List B → Type 0
+MarksAllPages marks base entries [] old new = new ≡ old
+MarksAllPages {B} marks base entries (m ∷ ms) old new = (mid : List B)
+    × ((MayTellNothing m × (mid ≡ old)) ⊎ MarksPages marks base entries m old mid) × MarksAllPages marks base entries ms mid new
+
+-- Messages came, one after the other, with pages inside their blocks: each block is the image that they leave, and its
+-- pages that came are marked. No other block and no other bitmap changed, no block its length, no space and no table
+pub record ReceivesAll {B : Type 0} (marks : B → ℕ → ℕ → B → Type 0) (before after : Option (List ℕ)) (base : ℕ)
+    (entries : List BlockEntry) (host next : Host B) : Type 0 where
   pub messages : List Message
   pub fit : AllByRecursion IsMessage messages
   pub inside : AllByRecursion (IsInside entries) messages
@@ -112,6 +142,11 @@ pub record ReceivesAll {B : Type 0} (before after : Option (List ℕ)) (base : �
       → block_at next.blocks (base + j) ≡ arrived e.page_size j messages (block_at host.blocks (base + j))
   pub others : (c : ℕ) → (c < base) ⊎ (base + length entries ≤ c) → block_at next.blocks c ≡ block_at host.blocks c
   pub shape : shape_of next ≡ shape_of host
+  pub spaces : next.spaces ≡ host.spaces
+  pub tables : next.tables ≡ host.tables
+  pub marked : MarksAllPages marks base entries messages host.bitmaps next.bitmaps
+  pub bitmaps : (c : ℕ) → (c < base) ⊎ (base + length entries ≤ c)
+      → slice_get next.bitmaps c ≡ slice_get host.bitmaps c
 
 -- the blocks of a receiver stay the same, these messages came in their order, and their sections, each at its cost
 pub record KeepsBlocks (messages : List Message) (old new : Progress) : Type 0 where
@@ -121,20 +156,22 @@ pub record KeepsBlocks (messages : List Message) (old new : Progress) : Type 0 w
   pub sections : sections_told new ≡ sections_told old ++ flat_map section_in messages
   pub left : new.left + sum_by cost_of (flat_map section_in messages) ≡ old.left
 
-module _ {B : Type 0} (before : Option (List ℕ)) (old : Progress) (host next : Host B) (sent now : Option (List ℕ)) where
-  -- messages came up to the end, and the replies that they call for were sent
-  abbrev pub Receives : Option (List ℕ) → Progress → Type 0
-  Receives after new = (r : ReceivesAll before after old.base old.entries.items host next)
-      × KeepsBlocks r.messages old new × Appends sent now (replies_to r.messages)
+module _ {B : Type 0} (marks : B → ℕ → ℕ → B → Type 0) (before : Option (List ℕ)) (old : Progress) (host next : Host B)
+    (sent now : Option (List ℕ))
+  where
+    -- messages came up to the end, and the replies that they call for were sent
+    abbrev pub Receives : Option (List ℕ) → Progress → Type 0
+    Receives after new = (r : ReceivesAll marks before after old.base old.entries.items host next)
+        × KeepsBlocks r.messages old new × Appends sent now (replies_to r.messages)
 
-  -- messages came up to one that was refused, and of the replies that they call for a beginning was sent
-  pub record BreaksReceiving : Type 0 where
-    pub after : Option (List ℕ)
-    pub reached : Progress
-    pub came : ReceivesAll before after old.base old.entries.items host next
-    pub kept : KeepsBlocks came.messages old reached
-    pub count : ℕ
-    pub replied : Appends sent now (take count (replies_to came.messages))
+    -- messages came up to one that was refused, and of the replies that they call for a beginning was sent
+    pub record BreaksReceiving : Type 0 where
+      pub after : Option (List ℕ)
+      pub reached : Progress
+      pub came : ReceivesAll marks before after old.base old.entries.items host next
+      pub kept : KeepsBlocks came.messages old reached
+      pub count : ℕ
+      pub replied : Appends sent now (take count (replies_to came.messages))
 
 -- what a receiver gives out
 pub record GivesOut (old : Progress) (new : Guest) : Type 0 where

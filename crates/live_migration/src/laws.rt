@@ -2,22 +2,17 @@
 ghost use Rattle.std.specs.Prelude.{◌≡◌, ◌+◌, ◌*◌, ◌^◌, ◌<◌, ◌≤◌, ◌⊎◌, ℕ, Bool, List, [], ◌∷◌, ◌++◌, Option, Some, All, Contains, true, length, flat_map, slice_get};
 ghost use Rattle.std.specs.Io.KnownBytes.{Appends};
 ghost use Rattle.std.specs.List.{AllByRecursion};
-ghost use Rattle.live_migration.specs.Calls.{Call, DoAll, Does, EndsPaused, HasBegun, Moment, ReadsAll};
+ghost use Rattle.live_migration.specs.Calls.{Call, DoAll, EndsPaused, HasBegun, Moment, ReadsAll};
 ghost use Rattle.live_migration.specs.Frame.{Go, IsMessage, Message, spelling};
 ghost use Rattle.live_migration.specs.Header.{IsHeader, header_bytes};
-ghost use Rattle.live_migration.specs.Image.{arrived, copied};
 ghost use Rattle.live_migration.specs.declared.header.BlockEntry.{BlockEntry};
-ghost use Rattle.live_migration.specs.Following.{Follows, IsSource, KeepsRounds, StaysAsItWas};
-ghost use Rattle.live_migration.specs.Leave.{IsFirst};
-ghost use Rattle.live_migration.specs.Targets.{AreTargets};
+ghost use Rattle.live_migration.specs.Following.{Follows};
 ghost use Rattle.live_migration.specs.declared.sender.pages.Target.{Target};
-ghost use Rattle.live_migration.specs.declared.sender.stream.Sender.{Sender};
 ghost use Rattle.live_migration.specs.Receiving.{ReceivesAll, TakesFrame};
-ghost use Rattle.live_migration.specs.Sending.{AreMarkedAgain, CopiesPages, HarvestsNext, IsAsItWas, IsIdle};
+ghost use Rattle.live_migration.specs.Sending.{AreMarkedAgain, IsAsItWas};
 ghost use Rattle.live_migration.specs.Words.{noted, pages_set};
-ghost use Rattle.live_migration.specs.Writing.{MarksItsBlock, all_written};
+ghost use Rattle.live_migration.specs.Writing.{MarksItsBlock};
 ghost use Rattle.live_migration.specs.declared.receiver.progress.Progress.{Progress};
-ghost use Rattle.live_migration.specs.declared.sender.rounds.Rounds.{Rounds};
 ghost use Rattle.vm_memory_base.specs.Markers.{known_by};
 ghost use Rattle.vm_memory_base.specs.Notes.{IsNoted};
 ghost use Rattle.vm_memory_base.specs.Table.{Table};
@@ -35,8 +30,7 @@ ghost use Rattle.vm_memory_guest.specs.Region.{IsRegion};
 ghost use Rattle.vm_memory_guest.specs.Typed.{given, place_of};
 ghost use Rattle.vm_memory_guest.specs.Walk.{reached};
 ghost use Rattle.vm_memory_guest.specs.Window.{Window, Writes, block_window, part};
-ghost use Rattle.vm_memory_guest.specs.Patch.{patched};
-ghost use Rattle.live_migration.specs.Rounds.{Ends, Event, Harvest, Copy, Send, EndRound, Source, after, AllMay, AllStill, IsBeginning, IsKept, IsThrough, story};
+ghost use Rattle.live_migration.specs.Rounds.{Ends, Event, AllMay, IsBeginning, IsKept, story};
 
 use vm_memory_base::laws::pages::{
     dirty_pages_are_listed, mark_is_by_bytes, mark_keeps_shape, marked_bytes_are_dirty,
@@ -53,54 +47,13 @@ pub fn no_page_is_lost()
     dirty_pages_are_listed();
 }
 
-/// A round during which no block is written leaves each block equal at both ends: the last round of a
-/// machine that does not run.
-pub fn still_rounds_end_equal()
-    ensures { (events last : List Event) (s : Ends) → IsBeginning s → AllMay events s
-        → (story events s).turn ≡ 0 → AllStill last
-        → let t = story last (story events s) in IsThrough t
-        → (block : ℕ) → block < t.count → t.images block ≡ (t.sources block).bytes }
-{
-    dirty_pages_are_listed();
-}
-
 /// A stream means one thing: the frames of a stream are decided by its bytes, and so are the options and the blocks of a
-/// header.
+/// header, and what comes after it.
 pub fn streams_mean_one_thing()
     ensures frames { (ms ns : List Message) → AllByRecursion IsMessage ms → AllByRecursion IsMessage ns
         → flat_map spelling ms ≡ flat_map spelling ns → ms ≡ ns }
-    ensures header { (limit : ℕ) (d e : Bool) (es fs : List BlockEntry) → IsHeader limit es → IsHeader limit fs
-        → header_bytes d es ≡ header_bytes e fs → (d ≡ e) × (es ≡ fs) }
-{}
-
-/// What is sent for pages of a block patches its image with these pages, as `Machine::sync` does: a page
-/// of zeros, and the last one, which may be cut, too.
-pub fn copied_pages_patch_an_image()
-    ensures { (size block : ℕ) (bytes pages image : List ℕ) → 0 < size → length image ≡ length bytes
-        → arrived size block (flat_map (copied size block bytes) pages) image ≡ patched size pages bytes image }
-{}
-
-/// A sender that has just begun is in a state before the first round. One that is in a state of the rounds
-/// is in the next state after a harvest, a copy, a send or the end of a round, and in the same state
-/// after a call that was refused. So its calls are the events of the theorems above.
-pub fn senders_do_as_the_rounds_say<B: ExactBitmap>()
-    ensures begin { (sender : Sender) (host : Host B) (s : Ends) → IsFirst sender
-        → AreTargets B.pages host sender.rounds.targets.items → IsBeginning s → s.last ≡ sender.rounds.last
-        → s.count ≡ length sender.rounds.targets.items
-        → ((j : ℕ) (t : Target) → slice_get sender.rounds.targets.items j ≡ Some t
-        → IsSource B.pages t host (s.sources j)) → Follows B.pages sender.rounds host s }
-    ensures harvest { (old new : Rounds) (host next : Host B) (s : Ends) → Follows B.pages old host s
-        → HarvestsNext B.pages old new host next → Follows B.pages new next (after Harvest s) }
-    ensures copy { (n : ℕ) (old new : Rounds) (host : Host B) (s : Ends) → Follows B.pages old host s
-        → CopiesPages n old new host → Follows B.pages new host (after (Copy n) s) }
-    ensures send { (old new : Rounds) (host : Host B) (s : Ends) → Follows B.pages old host s → KeepsRounds old new
-        → new.turn ≡ old.turn → new.round ≡ old.round → new.batch.items ≡ []
-        → Follows B.pages new host (after Send s) }
-    ensures round { (old new : Rounds) (host : Host B) (s : Ends) → Follows B.pages old host s → KeepsRounds old new
-        → IsIdle old → old.turn ≡ length old.targets.items → new.turn ≡ 0 → new.round ≡ old.round + 1
-        → new.batch ≡ old.batch → Follows B.pages new host (after EndRound s) }
-    ensures refused { (old new : Rounds) (host : Host B) (s : Ends) → Follows B.pages old host s → StaysAsItWas old new
-        → Follows B.pages new host s }
+    ensures header { (limit most : ℕ) (d e : Bool) (es fs : List BlockEntry) (x y : List ℕ) → IsHeader limit es
+        → IsHeader most fs → header_bytes d es ++ x ≡ header_bytes e fs ++ y → (d ≡ e) × (es ≡ fs) × (x ≡ y) }
 {}
 
 /// A write of a host with exact bitmaps marks what it changes: what `Bytes::write` and its kin write, and what a window
@@ -125,17 +78,8 @@ pub fn writes_mark_what_they_change<B: ExactBitmap>()
     marked_bytes_are_dirty();
 }
 
-/// Writes that mark what they change, in windows that mark their own block, are events of the rounds that may come. So
-/// `no_page_is_lost` holds of what a guest and its devices write.
-pub fn marked_writes_may_come<B: ExactBitmap>()
-    ensures { (ws : List Window) (r : Rounds) (old new : Host B) (s : Ends) → Follows B.pages r old s
-        → All MarksItsBlock ws → MarksChanges ws (with_pages B.pages old) (with_pages B.pages new)
-        → (sources : ℕ → Source) × AllMay (all_written sources s.count) s
-        × Follows B.pages r new (story (all_written sources s.count) s) }
-{}
-
 /// What a sender sends, its receiver has. A sender begins on an empty stream. Then come any calls that
-/// succeed, and any writes that mark what they change. There are events that may come by which the sender does as the
+/// succeed, or are refused and leave the stream, and any writes that mark what they change. There are events that may come by which the sender does as the
 /// rounds say, and once go is sent, a receiver that reads the whole stream has of each block the image of the rounds.
 /// If the guest was paused for a last round, both ends have the same blocks.
 pub fn receivers_have_what_was_sent<B: ExactBitmap, C: Bitmap>()
@@ -144,29 +88,32 @@ pub fn receivers_have_what_was_sent<B: ExactBitmap, C: Bitmap>()
         → (s : Ends) × (events : List Event) × IsBeginning s × AllMay events s
         × Follows B.pages last.sender.rounds last.host (story events s)
         × ((sent : Option (List ℕ)) (p : Progress) (next : Host C) → Appends last.stream sent (spelling Go)
-        → ReadsAll sent p next
+        → ReadsAll C.made C.marks sent p next
         → (j : ℕ) (t : Target) → slice_get last.sender.rounds.targets.items j ≡ Some t
         → block_at next.blocks (p.base + j) ≡ (story events s).images j) }
     ensures equal { (first last : Moment B) (sent : Option (List ℕ)) (p : Progress) (next : Host C)
         → HasBegun B.pages first → EndsPaused B.pages first last → Appends last.stream sent (spelling Go)
-        → ReadsAll sent p next
+        → ReadsAll C.made C.marks sent p next
         → (j : ℕ) (t : Target) → slice_get last.sender.rounds.targets.items j ≡ Some t
         → block_at next.blocks (p.base + j) ≡ block_at last.host.blocks t.block.0 }
 {
     dirty_pages_are_listed();
 }
 
-/// How calls of a sender are put together for the theorem above, and frames that a receiver takes one by one: nothing
-/// at first, and then one more.
-pub fn calls_and_frames_add_up<B: ExactBitmap, C: Bitmap>()
-    ensures calls { (calls : List Call) (call : Call) (first mid last : Moment B) → DoAll B.pages calls first mid
-        → Does B.pages call mid last → DoAll B.pages (calls ++ call ∷ []) first last }
+/// How calls of a sender are put together for the theorem above.
+pub fn calls_add_up<B: ExactBitmap>()
+    ensures { (calls more : List Call) (first mid last : Moment B) → DoAll B.pages calls first mid
+        → DoAll B.pages more mid last → DoAll B.pages (calls ++ more) first last }
+{}
+
+/// How frames that a receiver takes one by one are put together: nothing at first, and then one more.
+pub fn frames_add_up<C: Bitmap>()
     ensures none { (stream : Option (List ℕ)) (base : ℕ) (entries : List BlockEntry) (host : Host C)
-        → ReceivesAll stream stream base entries host host }
+        → ReceivesAll C.marks stream stream base entries host host }
     ensures more { (before mid after : Option (List ℕ)) (base : ℕ) (entries : List BlockEntry) (old new : Progress)
         (host there next : Host C) → old.base ≡ base → old.entries.items ≡ entries
-        → ReceivesAll before mid base entries host there → TakesFrame mid after old new there next
-        → ReceivesAll before after base entries host next }
+        → ReceivesAll C.marks before mid base entries host there → TakesFrame C.marks mid after old new there next
+        → ReceivesAll C.marks before after base entries host next }
 {}
 
 /// What `abort` leaves: each byte of each block whose pages were harvested is dirty, if the host still has the block

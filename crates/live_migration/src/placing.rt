@@ -2,10 +2,11 @@
 ghost use Rattle.std.specs.Prelude.{◌≡◌, ◌+◌, ◌-◌, ◌*◌, ◌<◌, ◌≤◌, ◌⊎◌, ◌%◌, ℕ, [], ◌∷◌, length, take, drop, replicate, min, true, IsTrue, ◌↔◌, Some, IfSome, IfNone, IfOk, OnOk, OnErr, slice_get, slice_index};
 ghost use Rattle.live_migration.specs.Bare.{AreBare};
 ghost use Rattle.live_migration.specs.Image.{are_zero, page_bytes, placed};
-ghost use Rattle.live_migration.specs.Placing.{Applies, HasPlaced, IsInside, LieIn};
+ghost use Rattle.live_migration.specs.Placing.{Applies, HasPlaced, IsInside, LieIn, MarksChanged};
 ghost use Rattle.live_migration.specs.Frame.{message_of};
 ghost use Rattle.vm_memory_guest.specs.Host as names;
 ghost use Rattle.vm_memory_guest.specs.Host.{Holds, block_at, shape_of};
+ghost use Rattle.vm_memory_guest.specs.Window.{MarksOne};
 
 use crate::frame::Frame;
 use crate::header::BlockEntry;
@@ -34,6 +35,8 @@ pub(crate) fn put_bytes<B: Bitmap>(
     bytes: &[u8],
 ) -> Result<(), Refusal>
     ensures ok { OnOk result (HasPlaced host.old host.new block.0 start bytes.now) }
+    ensures marked { OnOk result (0 < length bytes.now
+        → MarksOne B.marks block.0 start (length bytes.now) host.old.bitmaps host.new.bitmaps) }
     ensures err { OnErr result (host.new ≡ host.old) }
 {
     if !host.shape().has_place(block, start, bytes.len()) {
@@ -53,6 +56,8 @@ fn put_pages<B: Bitmap>(
     bytes: &[u8],
 ) -> Result<u64, Refusal>
     ensures ok { OnOk result (HasPlaced host.old host.new block.0 (first * entry.now.page_size) bytes.now) }
+    ensures marked { OnOk result (MarksOne B.marks block.0 (first * entry.now.page_size) (length bytes.now)
+        host.old.bitmaps host.new.bitmaps) }
     ensures end { IfOk result (λ end. end ≡ first * entry.now.page_size + length bytes.now) }
     ensures inside { OnOk result (LieIn entry.now first (length bytes.now)) }
     ensures err { OnErr result (host.new ≡ host.old) }
@@ -97,6 +102,9 @@ fn put_new_zeros<B: Bitmap>(
 ) -> Result<(), Refusal>
     requires { zeros.now ≡ replicate (length zeros.now) 0 }
     ensures ok { OnOk result (HasPlaced host.old host.new block.0 start zeros.now) }
+    ensures marked { OnOk result (
+        (are_zero (take (length zeros.now) (drop start (block_at host.old.blocks block.0))) ≡ true)
+        ⊎ MarksOne B.marks block.0 start (length zeros.now) host.old.bitmaps host.new.bitmaps) }
     ensures same { are_zero (take (length zeros.now) (drop start (block_at host.old.blocks block.0))) ≡ true
         → host.new ≡ host.old }
     ensures err { OnErr result (host.new ≡ host.old) }
@@ -122,6 +130,10 @@ fn put_zeros<B: Bitmap>(
     ensures ok { OnOk result (HasPlaced host.old host.new block.0 (page * entry.now.page_size)
         (replicate (min entry.now.page_size (entry.now.len - page * entry.now.page_size)) 0)) }
     ensures inside { OnOk result (page * entry.now.page_size < entry.now.len) }
+    ensures marked { OnOk result (length (block_at host.old.blocks block.0) ≡ entry.now.len
+        → (are_zero (page_bytes entry.now.page_size page (block_at host.old.blocks block.0)) ≡ true)
+        ⊎ MarksOne B.marks block.0 (page * entry.now.page_size)
+        (min entry.now.page_size (entry.now.len - page * entry.now.page_size)) host.old.bitmaps host.new.bitmaps) }
     ensures same { length (block_at host.old.blocks block.0) ≡ entry.now.len
         → are_zero (page_bytes entry.now.page_size page (block_at host.old.blocks block.0)) ≡ true
         → host.new ≡ host.old }
@@ -198,6 +210,7 @@ pub(crate) fn apply<B: Bitmap>(
     requires bare { AreBare base bare.old host.old }
     requires bare_blocks { length bare.old ≤ length entries.now }
     ensures ok { OnOk result (Applies base entries.now (message_of frame.now) host.old host.new) }
+    ensures marked { OnOk result (MarksChanged B.marks base entries.now (message_of frame.now) host.old host.new) }
     ensures inside { OnOk result (IsInside entries.now (message_of frame.now)) }
     ensures bare { AreBare base bare.new host.new }
     ensures err { OnErr result (host.new ≡ host.old) }

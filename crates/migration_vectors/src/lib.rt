@@ -2,11 +2,19 @@
 #![tactic(auto)]
 
 #[cfg(test)]
+mod aborts;
+#[cfg(test)]
+mod accesses;
+#[cfg(test)]
 mod bounds;
 #[cfg(test)]
 mod cuts;
 #[cfg(test)]
+mod frames;
+#[cfg(test)]
 mod guests;
+#[cfg(test)]
+mod harvests;
 #[cfg(test)]
 mod lengths;
 #[cfg(test)]
@@ -19,6 +27,8 @@ mod refusals;
 mod replies;
 #[cfg(test)]
 mod sections;
+#[cfg(test)]
+mod steps;
 #[cfg(test)]
 mod streams;
 #[cfg(test)]

@@ -4,7 +4,7 @@ ghost use Rattle.std.specs.Io.KnownBytes.{Consumes};
 ghost use Rattle.live_migration.specs.Digests.{HasNoted};
 ghost use Rattle.live_migration.specs.declared.receiver.Stage.TheVariants as stages;
 ghost use Rattle.live_migration.specs.declared.refusal.Refusal.TheVariants as refusals;
-ghost use Rattle.live_migration.specs.Receiving.{Begins, BreaksMaking, memory_of, zeroed};
+ghost use Rattle.live_migration.specs.Receiving.{Begins, BreaksMaking, MakesBlocks, memory_of};
 
 use super::{Progress, Receiver, Stage};
 use crate::digest::StreamHasher;
@@ -38,10 +38,10 @@ fn make_blocks<B: NewBitmap + Drop>(
     host: &mut HostMemory<B>,
     entries: &[BlockEntry],
 ) -> Result<usize, Refusal>
-    ensures ok { OnOk result (host.new.blocks ≡ host.old.blocks ++ zeroed entries.now) }
+    ensures ok { OnOk result (MakesBlocks B.made entries.now host.old host.new) }
     ensures base { IfOk result (λ base. 0 < length entries.now → base ≡ length host.old.blocks) }
     ensures err { IfErr result (λ error. (error ≡ refusals.Memory)
-        × (count : ℕ) × (host.new.blocks ≡ host.old.blocks ++ zeroed (take count entries.now))) }
+        × (count : ℕ) × MakesBlocks B.made (take count entries.now) host.old host.new) }
 {
     let mut base = 0;
     for (i, entry) in entries.iter().enumerate() {
@@ -128,7 +128,7 @@ impl Receiver {
     /// Reads the header and makes its blocks in a host, of zeros, after those that the host has. The blocks and the
     /// stream's sections may cost `limit` bytes in all; each section costs `SECTION_COST` besides its name and
     /// bytes: `TooMuchMemory` if the blocks cost more. Nothing is made before the header is accepted. If an allocation
-    /// fails after that, blocks that were made stay, and no other block changes.
+    /// fails after that, blocks that were made stay, and nothing else changes.
     ///
     /// Leaves open: any error at any time, with the host as before; or `Memory` after some blocks of an accepted header
     /// were made.
@@ -139,10 +139,10 @@ impl Receiver {
         host: &mut HostMemory<B>,
         limit: u64,
     ) -> Result<Receiver, Refusal>
-        ensures begun { IfOk result (λ r. Begins limit (R.remaining reader.old) (R.remaining reader.new) r.seen host.old
-            host.new) }
-        ensures refused { IfErr result (λ error. (host.new ≡ host.old) ⊎ BreaksMaking limit (R.remaining reader.old)
-            (R.remaining reader.new) error host.old.blocks host.new.blocks) }
+        ensures begun { IfOk result (λ r. Begins B.made limit (R.remaining reader.old) (R.remaining reader.new) r.seen
+            host.old host.new) }
+        ensures refused { IfErr result (λ error. (host.new ≡ host.old) ⊎ BreaksMaking B.made limit (R.remaining reader.old)
+            (R.remaining reader.new) error host.old host.new) }
     {
         let bytes = read_header(alloc, reader)?;
         let header = decode_header(alloc, limit, bytes.as_slice())?;

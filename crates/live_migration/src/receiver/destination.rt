@@ -52,10 +52,10 @@ impl<B> Destination<B> {
     ) -> Result<Destination<B>, (Refusal, HostMemory<B>)>
     where
         B: NewBitmap + Drop,
-        ensures begun { IfOk result (λ d. Begins limit (R.remaining reader.old) (R.remaining reader.new) d.receiver.seen
-            host d.host) }
-        ensures refused { IfErr result (λ e. (e.1 ≡ host) ⊎ BreaksMaking limit (R.remaining reader.old)
-            (R.remaining reader.new) e.0 host.blocks e.1.blocks) }
+        ensures begun { IfOk result (λ d. Begins B.made limit (R.remaining reader.old) (R.remaining reader.new)
+            d.receiver.seen host d.host) }
+        ensures refused { IfErr result (λ e. (e.1 ≡ host) ⊎ BreaksMaking B.made limit (R.remaining reader.old)
+            (R.remaining reader.new) e.0 host e.1) }
     {
         let mut host = host;
         match Receiver::begin(alloc, reader, &mut host, limit) {
@@ -76,7 +76,7 @@ impl<B> Destination<B> {
     where
         B: Bitmap,
         ensures taken { IfOk result (λ stage. (stage ≡ self.new.receiver.seen.stage)
-            × TakesFrame (R.remaining reader.old) (R.remaining reader.new) self.old.receiver.seen
+            × TakesFrame B.marks (R.remaining reader.old) (R.remaining reader.new) self.old.receiver.seen
             self.new.receiver.seen self.old.host self.new.host) }
         ensures refused { OnErr result ((self.new.host ≡ self.old.host)
             × (self.new.receiver.seen.stage ≡ stages.Failed)) }

@@ -66,12 +66,12 @@ impl Receiver {
         writer: &mut W,
         host: &mut HostMemory<B>,
     ) -> Result<(), Refusal>
-        ensures received { OnOk result (ReceivesAll (R.remaining reader.old) (R.remaining reader.new) self.old.seen.base
-            self.old.seen.entries.items host.old host.new) }
-        ensures kept { OnOk result (Receives (R.remaining reader.old) self.old.seen host.old host.new
+        ensures received { OnOk result (ReceivesAll B.marks (R.remaining reader.old) (R.remaining reader.new)
+            self.old.seen.base self.old.seen.entries.items host.old host.new) }
+        ensures kept { OnOk result (Receives B.marks (R.remaining reader.old) self.old.seen host.old host.new
             (W.contents writer.old) (W.contents writer.new) (R.remaining reader.new) self.new.seen) }
         ensures gone { OnOk result (self.new.seen.stage ≡ stage.Gone) }
-        ensures refused { OnErr result (BreaksReceiving (R.remaining reader.old) self.old.seen host.old host.new
+        ensures refused { OnErr result (BreaksReceiving B.marks (R.remaining reader.old) self.old.seen host.old host.new
             (W.contents writer.old) (W.contents writer.new)) }
     {
         for _ in 0..u64::MAX {

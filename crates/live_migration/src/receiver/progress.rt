@@ -55,7 +55,7 @@ impl Progress {
     ghost use Rattle.vm_memory_guest.specs.Host.{Host};
     ghost use Rattle.live_migration.specs.Frame.{Message, RoundEnd, message_of, head};
     ghost use Rattle.live_migration.specs.Bare.{AreBare};
-    ghost use Rattle.live_migration.specs.Placing.{Applies, IsInside};
+    ghost use Rattle.live_migration.specs.Placing.{Applies, IsInside, MarksChanged};
     ghost use Rattle.live_migration.specs.Receiving.{IsRightEnd, IsSectionKept, cost_of, round_after, section_in, sections_told};
     ghost use Rattle.live_migration.specs.Stages.{stage_after};
     ghost use Rattle.live_migration.specs.declared.refusal.Refusal.TheVariants as refusals;
@@ -116,6 +116,8 @@ impl Progress {
         ensures inside { OnOk result (IsInside self.old.entries.items (message_of frame.now)) }
         ensures applied { OnOk result (Applies self.old.base self.old.entries.items (message_of frame.now) host.old
             host.new) }
+        ensures marked { OnOk result (MarksChanged B.marks self.old.base self.old.entries.items (message_of frame.now)
+            host.old host.new) }
         ensures stage { OnOk result (stage_after self.old.stage (message_of frame.now) ≡ Ok self.new.stage) }
         ensures round { OnOk result (self.new.round ≡ round_after self.old.round (message_of frame.now)) }
         ensures right { OnOk result ((digests : Bool) (sent : List ℕ) → HasNoted digests self.old.hasher sent
@@ -175,8 +177,8 @@ impl Receiver {
         requires bare { AreBare self.old.seen.base bare.old host.old }
         requires bare_blocks { length bare.old ≤ length self.old.seen.entries.items }
         ensures taken { IfOk result (λ stage. (stage ≡ self.new.seen.stage)
-            × TakesFrame (R.remaining reader.old) (R.remaining reader.new) self.old.seen self.new.seen host.old
-            host.new) }
+            × TakesFrame B.marks (R.remaining reader.old) (R.remaining reader.new) self.old.seen self.new.seen
+            host.old host.new) }
         ensures bare { AreBare self.old.seen.base bare.new host.new }
         ensures base { self.new.seen.base ≡ self.old.seen.base }
         ensures entries { self.new.seen.entries.items ≡ self.old.seen.entries.items }
@@ -197,8 +199,8 @@ impl Receiver {
         host: &mut HostMemory<B>,
     ) -> Result<Stage, Refusal>
         ensures taken { IfOk result (λ stage. (stage ≡ self.new.seen.stage)
-            × TakesFrame (R.remaining reader.old) (R.remaining reader.new) self.old.seen self.new.seen host.old
-            host.new) }
+            × TakesFrame B.marks (R.remaining reader.old) (R.remaining reader.new) self.old.seen self.new.seen
+            host.old host.new) }
         ensures refused { OnErr result ((host.new ≡ host.old) × (self.new.seen.stage ≡ Stage.Failed)) }
     {
         self.take_from(reader, host, &mut [])
@@ -214,8 +216,8 @@ impl Receiver {
         requires bare { AreBare self.old.seen.base bare.old host.old }
         requires bare_blocks { length bare.old ≤ length self.old.seen.entries.items }
         ensures taken { IfOk result (λ stage. (stage ≡ self.new.seen.stage)
-            × TakesFrame (R.remaining reader.old) (R.remaining reader.new) self.old.seen self.new.seen host.old
-            host.new) }
+            × TakesFrame B.marks (R.remaining reader.old) (R.remaining reader.new) self.old.seen self.new.seen
+            host.old host.new) }
         ensures bare { AreBare self.new.seen.base bare.new host.new }
         ensures base { self.new.seen.base ≡ self.old.seen.base }
         ensures entries { self.new.seen.entries.items ≡ self.old.seen.entries.items }

@@ -19,7 +19,7 @@ returns-clause-rounds g c = λ calls first last begun done.
       first_begins pages first begun,
       r.may,
       r.sent.follows,
-      λ sent p next gone read j t at. has_image pages begun.digests ts last (story r.events s) r.messages r.sent sent p
+      λ sent p next gone read j t at. has_image g.C.Bitmap.made g.C.Bitmap.marks pages begun.digests ts last (story r.events s) r.messages r.sent sent p
           next gone read j t (ap (λ (xs : List Target). slice_get xs j) (sym r.sent.targets) ∙ at),
     )
 
@@ -31,5 +31,5 @@ returns-clause-equal g c = λ first last sent p next begun paused gone read j t 
     let here : slice_get ts j ≡ Some t = ap (λ (xs : List Target). slice_get xs j) (sym e.sent.targets) ∙ at in
     let f = e.sent.follows in
     let l : j < e.state.count = omega (arith, f.count, slice_get_within last.sender.rounds.targets.items j t at) in
-    has_image pages begun.digests ts last e.state e.messages e.sent sent p next gone read j t here
+    has_image g.C.Bitmap.made g.C.Bitmap.marks pages begun.digests ts last e.state e.messages e.sent sent p next gone read j t here
     ∙ e.equal j l ∙ (f.sources j t at).bytes

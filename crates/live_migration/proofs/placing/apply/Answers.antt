@@ -1,8 +1,9 @@
-use Rattle.std.proofs.Common.{◌≡◌, ◌-◌, ◌*◌, ◌+◌, ◌<◌, ◌≤◌, ℕ, true, ap, arith, get_or, length, min, refl, replicate, sym, subst, ◌∙◌}
+use Rattle.std.proofs.Common.{◌≡◌, ◌⊎◌, inl, inr, ◌-◌, ◌*◌, ◌+◌, ◌<◌, ◌≤◌, ℕ, true, ap, arith, get_or, length, min, refl, replicate, sym, subst, ◌∙◌}
 use Rattle.vm_memory_guest.specs.Host.{block_at}
+use Rattle.vm_memory_guest.specs.Window.{MarksOne}
 use Rattle.live_migration.specs.Image.{are_zero, page_bytes}
 use Rattle.live_migration.specs.Placing.{HasPlaced}
-use Rattle.live_migration.proofs.BareLemmas.{bare_applies, bare_behind, bare_zeros}
+use Rattle.live_migration.proofs.BareLemmas.{bare_applies, bare_behind, bare_tells, bare_zeros}
 use Rattle.live_migration.proofs.PlacingLemmas.{pages_apply, zeros_apply}
 use Rattle.live_migration.proofs.placing.apply.Goals as goal
 
@@ -77,3 +78,43 @@ returns-in_ok-put_zeros-in-ZeroPage-clause-bare g c =
     subst (λ (b : ℕ). HasPlaced old new b at (replicate n 0)) c.in_ok-id-in-ZeroPage.ensures.number
     c.in_ok-put_zeros-in-ZeroPage.ensures.ok in
     bare_zeros c.args.base block at old new n c.args.bare.now has c.requires.bare
+
+pub returns-in_ok-end-in-Pages-clause-marked : goal.returns-in_ok-end-in-Pages-clause-marked
+returns-in_ok-end-in-Pages-clause-marked g c =
+    let entry = c.in_ok-id-in-Pages.entry in
+    let at = c.in-Pages.first * entry.page_size in
+    let len = length c.in-Pages.bytes.now in
+    let old = c.args.host.now in
+    let new = c.put_pages.new.host in
+    let marks = g.B.Bitmap.marks in
+    rw c.in-Pages.is (inr (
+      entry,
+      c.in_ok-id-in-Pages.ensures.entry,
+      subst (λ (b : ℕ). MarksOne marks b at len old.bitmaps new.bitmaps) c.in_ok-id-in-Pages.ensures.number
+          c.in_ok-end-in-Pages.ensures.marked,
+    ))
+
+pub returns-then-is_bare-clause-marked : goal.returns-then-is_bare-clause-marked
+returns-then-is_bare-clause-marked g c =
+    rw c.in-ZeroPage.is (inl (bare_tells c.args.base c.in-ZeroPage.block c.in-ZeroPage.page c.args.entries.now
+    c.in_ok-id-in-ZeroPage.entry c.args.bare.now c.args.host.now c.requires.bare
+    c.in_ok-id-in-ZeroPage.ensures.entry (c.if-is_bare.ensures.block refl) (c.if-is_bare.ensures.zeros refl)))
+
+pub returns-in_ok-put_zeros-in-ZeroPage-clause-marked : goal.returns-in_ok-put_zeros-in-ZeroPage-clause-marked
+returns-in_ok-put_zeros-in-ZeroPage-clause-marked g c =
+    let entry = c.in_ok-id-in-ZeroPage.entry in
+    let page = c.in-ZeroPage.page in
+    let block = c.args.base + c.in-ZeroPage.block in
+    let old = c.args.host.now in
+    let new = c.put_zeros.new.host in
+    let n = min entry.page_size (entry.len - page * entry.page_size) in
+    let marks = g.B.Bitmap.marks in
+    let number = c.in_ok-id-in-ZeroPage.ensures.number in
+    let there = c.in_ok-id-in-ZeroPage.ensures.entry in
+    let both : (are_zero (page_bytes entry.page_size page (block_at old.blocks block)) ≡ true)
+    ⊎ MarksOne marks block (page * entry.page_size) n old.bitmaps new.bitmaps =
+    subst (λ (b : ℕ). (are_zero (page_bytes entry.page_size page (block_at old.blocks b)) ≡ true)
+    ⊎ MarksOne marks b (page * entry.page_size) n old.bitmaps new.bitmaps) number
+    (c.in_ok-put_zeros-in-ZeroPage.ensures.marked
+    (ap (λ (b : ℕ). length (block_at old.blocks b)) number ∙ c.in_ok-id-in-ZeroPage.ensures.len)) in
+    rw c.in-ZeroPage.is (elim both [ inl zero ↦ inl (entry, there, zero) | inr one ↦ inr (entry, there, one) ])

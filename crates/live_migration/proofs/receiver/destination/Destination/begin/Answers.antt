@@ -1,5 +1,6 @@
 use Rattle.std.proofs.Common.{◌≡◌, ◌⊎◌, ℕ, [], ap, arith, inl, inr, length, replicate, subst}
 use Rattle.std.proofs.lemmas.List.{length-replicate}
+use Rattle.vm_memory_guest.specs.Host.{Host}
 use Rattle.live_migration.proofs.BareLemmas.{bare_made}
 use Rattle.live_migration.proofs.receiver.destination.Destination.begin.Goals as goal
 
@@ -17,5 +18,6 @@ invariant_of-result g c =
         | inl zeros ↦ omega (arith, ap length zeros, length-replicate {A = ℕ} (length entries) 0)
         | inr none ↦ omega (arith, ap length none)
       ];
-      bare_is = bare_made seen.base entries offsets c.args.host.blocks c.begin.new.host begun.blocks begun.base are;
+      bare_is = bare_made seen.base entries offsets c.args.host.blocks c.begin.new.host
+          (ap (λ (h : Host g.row.B.Denot). h.blocks) begun.blocks.is) begun.base are;
     }

@@ -28,6 +28,7 @@ returns-clause-taken g c =
             c.in_ok-kind.ensures.consumed;
         inside = c.in_ok-accept.ensures.inside;
         applied = c.in_ok-accept.ensures.applied;
+        marked = c.in_ok-accept.ensures.marked;
         stage = c.in_ok-accept.ensures.stage ∙ ap (λ (p : Progress). Ok p.stage) (sym same);
         base = ap (λ (p : Progress). p.base) same ∙ kept.base;
         entries = ap (λ (p : Progress). p.entries.items) same ∙ kept.entries;

@@ -1,0 +1,3 @@
+pub mod AccessLemmas
+pub mod HarvestLemmas
+pub mod TargetLemmas
