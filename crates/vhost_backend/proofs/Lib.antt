@@ -10,11 +10,13 @@ pub mod HoldLemmas
 pub mod LineLemmas
 pub mod MessageLemmas
 pub mod OnceLemmas
+pub mod OverLemmas
 pub mod OwnWayLemmas
 pub mod PartLemmas
 pub mod RefuseLemmas
 pub mod RestLemmas
 pub mod RightLemmas
+pub mod RunLemmas
 pub mod StopLemmas
 pub mod ToldLemmas
 pub mod WantLemmas

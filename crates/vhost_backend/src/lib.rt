@@ -12,7 +12,7 @@ mod request;
 mod ring;
 mod rings;
 
-pub use backend::{Backend, Finish, Outcome, Place, Todo};
+pub use backend::{Backend, Finish, Next, Outcome, Place, Todo};
 pub use block::{BlockStep, block_parts, block_step, status_of, written_of};
 pub use parts::{PART, Part, next_part, parts_are_the_data_in_order, parts_of};
 pub use request::{Chain, PartEnd};

@@ -1,15 +1,18 @@
 //! What holds of every connection, whatever happens: each function here is a theorem, and does nothing.
-ghost use Rattle.std.specs.Prelude.{◌≡◌, ◌+◌, ◌<◌, ℕ, List, length, true, false, Some, slice_get};
+ghost use Rattle.std.specs.Prelude.{◌≡◌, ◌+◌, ◌&&◌, not, ℕ, List, [], true, false, Some, is_ok, slice_get};
 ghost use Rattle.vhost_message.specs.declared.frontend_req.FrontendReq.{FrontendReq};
 ghost use Rattle.vhost_message.specs.declared.frontend_req.FrontendReq.TheVariants.{GetVringBase};
 ghost use Rattle.vhost_message.specs.declared.header.Header.{Header};
 ghost use Rattle.vhost_message.specs.declared.refusal.Refusal.{Refusal};
-ghost use Rattle.vhost_user.specs.Connection.{Connection};
-ghost use Rattle.vhost_backend.specs.Backend.{BackendState, after_event, after_message, new_backend};
+ghost use Rattle.vhost_user.specs.Connection.{Connection, connected};
+ghost use Rattle.vhost_user.specs.Running.{running};
+ghost use Rattle.vhost_user.specs.declared.backend_req_handler.Offer.{Offer};
+ghost use Rattle.vhost_backend.specs.Backend.{BackendState, after_event, after_message, is_at_rest, is_free, new_backend};
 ghost use Rattle.vhost_backend.specs.Messages.{Happening, after, all_events, all_to_do, changes_all, over_count, pending, ring_actions, taken_count};
-ghost use Rattle.vhost_backend.specs.Ring.{RingState, is_idle};
+ghost use Rattle.vhost_backend.specs.Ring.{RingState, is_broken, is_idle, may_run};
 ghost use Rattle.vhost_backend.specs.Rings.{all_idle, happens};
-ghost use Rattle.vhost_backend.specs.Turns.{actions_of, after_all, all_done};
+ghost use Rattle.vhost_backend.specs.Turns.{actions_of, after_all, all_done, any_touches};
+ghost use Rattle.vhost_backend.specs.Turns as turn;
 ghost use Rattle.vhost_backend.specs.declared.backend.Outcome.TheVariants.{Refused};
 ghost use Rattle.vhost_backend.specs.declared.backend.Taken.TheVariants as taken;
 ghost use Rattle.vhost_backend.specs.declared.backend.Until.TheVariants as until;
@@ -30,6 +33,29 @@ pub fn messages_are_events_of_rings()
 pub fn each_message_is_answered_once()
     ensures { (b : BackendState) (xs : List Happening)
         → pending b + taken_count xs b ≡ over_count xs b + pending (after xs b) }
+{}
+
+/// After the connection ended, or a message could not be done, no message is taken, the protocol's state stays, and no
+/// chain is popped. When nothing is under way any more, nothing has guest memory read or written.
+pub fn nothing_comes_after_the_end()
+    ensures stays { (b : BackendState) (later : List Happening) → b.taken ≡ taken.Over
+        → ((after later b).taken ≡ taken.Over) × ((after later b).connection ≡ b.connection)
+        × (taken_count later b ≡ 0) }
+    ensures pops_nothing { (c : Connection) (ids : ℕ) (xs later : List Happening)
+        → let b = after xs (new_backend c ids) in b.taken ≡ taken.Over
+        → turn.popped (all_events later b) b.rings ≡ [] }
+    ensures rests { (c : Connection) (ids : ℕ) (xs later : List Happening)
+        → let b = after xs (new_backend c ids) in is_at_rest b ≡ true
+        → (all_idle b.rings.rings ≡ true) × (any_touches (all_done (all_events later b) b.rings) ≡ false) }
+{}
+
+/// Between messages a ring runs exactly if the protocol's state has it run, except that one which broke runs after it was
+/// stopped and started again.
+pub fn rings_run_as_the_protocol_has_it()
+    ensures { (offer : Offer) (queues ids : ℕ) (config : List ℕ) (xs : List Happening) (i : ℕ) (ring : RingState)
+        → let b = after xs (new_backend (connected offer queues config) ids) in is_free b.taken ≡ true
+        → slice_get b.rings.rings i ≡ Some ring
+        → may_run ring ≡ (is_ok (running b.connection i) && not (is_broken ring.phase)) }
 {}
 
 /// A message that changes memory, features or the log takes effect when nothing is under way, and until it is
