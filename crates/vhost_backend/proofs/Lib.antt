@@ -13,6 +13,7 @@ pub mod OnceLemmas
 pub mod OverLemmas
 pub mod OwnWayLemmas
 pub mod PartLemmas
+pub mod PlaceLemmas
 pub mod RefuseLemmas
 pub mod RestLemmas
 pub mod RightLemmas

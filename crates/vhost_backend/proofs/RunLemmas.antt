@@ -562,7 +562,7 @@ finished_runs request h (b, true) is none places =
 
 -- ---- as many places as rings
 
-abbrev PlacesKept : BackendState → BackendState → Type 0
+abbrev pub PlacesKept : BackendState → BackendState → Type 0
 PlacesKept b new = length new.placings ≡ length b.placings
 
 placed_places : (b : BackendState) (done : Actions) → PlacesKept b (placed b done)
@@ -653,7 +653,7 @@ module _ (b : BackendState) where
       go (taken.Begun h request) =
           over request h (rebased (released b) request f) (rebased_places (released b) request f)
 
-  step_places : (x : Happening) → PlacesKept b (stepped b x)
+  pub step_places : (x : Happening) → PlacesKept b (stepped b x)
   step_places (Came h payload n) = message_places h payload n
   step_places (Done end) = end_places end
   step_places (Told e) = event_places e

@@ -1,5 +1,5 @@
 -- The story of a connection: all that happens to it, what becomes of it, and what happens to its rings by that.
-use Rattle.std.specs.Prelude.{ℕ, zero, suc, ◌+◌, Bool, true, false, ◌==◌, if◌then◌else◌, List, [], ◌∷◌, ◌++◌, length, Result, Ok, Err, is_ok}
+use Rattle.std.specs.Prelude.{ℕ, zero, suc, ◌+◌, Bool, true, false, ◌==◌, if◌then◌else◌, List, [], ◌∷◌, ◌++◌, length, Option, Some, None, Result, Ok, Err, is_ok}
 use Rattle.std.specs.List.{flat_map}
 use Rattle.vhost_message.specs.FrontendReq.{descriptors_of, request_of}
 use Rattle.vhost_message.specs.declared.frontend_req.FrontendReq.{FrontendReq}
@@ -8,11 +8,14 @@ use Rattle.vhost_message.specs.declared.header.Header.{Header}
 use Rattle.vhost_message.specs.declared.refusal.Refusal.{Refusal}
 use Rattle.vhost_user.specs.Connection.{Connection, served}
 use Rattle.vhost_user.specs.Running.{running}
+use Rattle.vhost_user.specs.declared.vring.NotRunning.{NotRunning}
+use Rattle.vhost_user.specs.declared.vring.RunningVring.{RunningVring}
 use Rattle.vhost_backend.specs.Backend.{BackendState, after_event, after_finish, after_message, is_due, is_free, is_outer, over, rebased, released, until_of, waited}
 use Rattle.vhost_backend.specs.Rings.{happens}
 use Rattle.vhost_backend.specs.declared.backend.Finish.{Finish}
 use Rattle.vhost_backend.specs.declared.backend.Outcome.{Outcome}
 use Rattle.vhost_backend.specs.declared.backend.Outcome.TheVariants.{Refused}
+use Rattle.vhost_backend.specs.declared.backend.Place.{Place}
 use Rattle.vhost_backend.specs.declared.backend.Taken.{Taken}
 use Rattle.vhost_backend.specs.declared.backend.Taken.TheVariants as taken
 use Rattle.vhost_backend.specs.declared.backend.Todo.{Todo}
@@ -126,6 +129,21 @@ events_of b HungUp = ending
 abbrev pub all_events : List Happening → BackendState → List Event
 all_events [] b = []
 all_events (x ∷ xs) b = events_of b x ++ all_events xs (stepped b x)
+
+-- ---- places
+
+-- where the queue of a ring was told last that it lies, if it was told so far
+abbrev pub Lies : Type 0
+Lies = Option (Result RunningVring NotRunning)
+
+abbrev pub told_by : Option Place → Lies → Lies
+told_by None before = before
+told_by (Some place) before = Some place.vring
+
+abbrev pub told_last : ℕ → Lies → List Todo → Lies
+told_last ring before [] = before
+told_last ring before (todo ∷ rest) =
+    told_last ring (if todo.ring == ring then told_by todo.place before else before) rest
 
 -- ---- messages
 

@@ -1,5 +1,5 @@
 //! What holds of every connection, whatever happens: each function here is a theorem, and does nothing.
-ghost use Rattle.std.specs.Prelude.{◌≡◌, ◌+◌, ◌&&◌, not, ℕ, List, [], true, false, Some, is_ok, slice_get};
+ghost use Rattle.std.specs.Prelude.{◌≡◌, ◌+◌, ◌++◌, ◌&&◌, ◌==◌, not, ℕ, List, [], length, true, false, Some, None, is_ok, slice_get};
 ghost use Rattle.vhost_message.specs.declared.frontend_req.FrontendReq.{FrontendReq};
 ghost use Rattle.vhost_message.specs.declared.frontend_req.FrontendReq.TheVariants.{GetVringBase};
 ghost use Rattle.vhost_message.specs.declared.header.Header.{Header};
@@ -8,7 +8,7 @@ ghost use Rattle.vhost_user.specs.Connection.{Connection, connected};
 ghost use Rattle.vhost_user.specs.Running.{running};
 ghost use Rattle.vhost_user.specs.declared.backend_req_handler.Offer.{Offer};
 ghost use Rattle.vhost_backend.specs.Backend.{BackendState, after_event, after_message, is_at_rest, is_free, new_backend};
-ghost use Rattle.vhost_backend.specs.Messages.{Happening, after, all_events, all_to_do, changes_all, over_count, pending, ring_actions, taken_count};
+ghost use Rattle.vhost_backend.specs.Messages.{Happening, after, all_events, all_to_do, changes_all, over_count, pending, ring_actions, taken_count, to_do, told_last};
 ghost use Rattle.vhost_backend.specs.Ring.{RingState, is_broken, is_idle, may_run};
 ghost use Rattle.vhost_backend.specs.Rings.{all_idle, happens};
 ghost use Rattle.vhost_backend.specs.Turns.{actions_of, after_all, all_done, any_touches};
@@ -56,6 +56,15 @@ pub fn rings_run_as_the_protocol_has_it()
         → let b = after xs (new_backend (connected offer queues config) ids) in is_free b.taken ≡ true
         → slice_get b.rings.rings i ≡ Some ring
         → may_run ring ≡ (is_ok (running b.connection i) && not (is_broken ring.phase)) }
+{}
+
+/// Before something is done for a ring between messages, its queue was told that it lies where the protocol's state has
+/// it.
+pub fn queues_are_told_where_rings_lie()
+    ensures { (c : Connection) (ids : ℕ) (xs : List Happening) (x : Happening) (i : ℕ) (ring : RingState)
+        → let b = after xs (new_backend c ids) in is_free b.taken ≡ true → slice_get b.rings.rings i ≡ Some ring
+        → (length (ring_actions i (to_do b x)) == 0) ≡ false
+        → told_last i None (all_to_do xs (new_backend c ids) ++ to_do b x) ≡ Some (running b.connection i) }
 {}
 
 /// A message that changes memory, features or the log takes effect when nothing is under way, and until it is
