@@ -4,17 +4,22 @@
 
 mod backend;
 mod block;
+pub mod block_laws;
+mod block_queue;
 pub mod examples;
 pub mod laws;
 pub mod messages_laws;
 mod parts;
 mod request;
 mod ring;
+mod ring_memory;
 mod rings;
 
 pub use backend::{Backend, Finish, Next, Outcome, Place, Todo};
-pub use block::{BlockStep, block_parts, block_step, status_of, written_of};
+pub use block::{BlockStep, block_parts, block_step, len_of, status_of, written_of};
+pub use block_queue::{Asked, BlockQueue, GiveBack, Mark, Pop};
 pub use parts::{PART, Part, next_part, parts_are_the_data_in_order, parts_of};
 pub use request::{Chain, PartEnd};
 pub use ring::{RingAction, RingActions, RingEvent};
+pub use ring_memory::{Lent, Looked, Marks, PageLog, RingMemory};
 pub use rings::{Actions, Event, Rings, TURN, TURN_BYTES};
