@@ -14,6 +14,7 @@ pub mod OnceLemmas
 pub mod OverLemmas
 pub mod OwnWayLemmas
 pub mod PartLemmas
+pub mod PieceLemmas
 pub mod PlaceLemmas
 pub mod QueueLemmas
 pub mod RefuseLemmas

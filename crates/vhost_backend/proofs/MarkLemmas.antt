@@ -1,5 +1,5 @@
 -- Marks, and what they cover.
-use Rattle.std.proofs.Common.{◌≡◌, ◌⊎◌, ℕ, zero, suc, ◌+◌, ◌≤◌, ◌*◌, ◌==◌, nat_le, not, Bool, true, false, List, [], ◌∷◌, ◌++◌, Some, Ok, Err, if◌then◌else◌, subst, arith, inl, inr}
+use Rattle.std.proofs.Common.{◌≡◌, ◌⊎◌, ℕ, zero, suc, ◌+◌, ◌≤◌, ◌*◌, ◌==◌, nat_le, not, Bool, true, false, List, [], ◌∷◌, ◌++◌, Some, Ok, Err, if◌then◌else◌, arith, inl, inr}
 use Rattle.std.specs.List.{slice_get}
 use Rattle.vm_memory_device.specs.Chain.{Entry, entries_from, text, writable}
 use Rattle.vm_memory_device.specs.declared.chain.Segment.{Segment}
@@ -19,25 +19,17 @@ use Rattle.virtio_queue.specs.declared.error.QueueError.TheVariants as errors
 use Rattle.virtio_queue.specs.declared.packed.state.PackedBuffer.{PackedBuffer}
 use Rattle.virtio_queue.specs.declared.packed.state.PackedState.{PackedState}
 use Rattle.virtio_queue.specs.declared.state.QueueState.{QueueState}
-use Rattle.vhost_backend.specs.Marks.{Covered, Marks, Stores, asking_marks, chain_marks, return_marks}
-use Rattle.vhost_backend.specs.RingMemory.{MemoryStep, Returned}
-use Rattle.vhost_backend.specs.declared.block_queue.Mark.{Mark}
-
-module _ {H : Type 0} (step : H → (s : MemoryStep) → Returned s → H → Type 0) where
-  pub marks-append : (xs ys : List Mark) (old mid new : H) → Marks step xs old mid → Marks step ys mid new
-      → Marks step (xs ++ ys) old new
-  marks-append [] ys old mid new is rest = subst (λ h. Marks step ys h new) is rest
-  marks-append (x ∷ xs) ys old mid new (first, here, more) rest =
-      (first, here, marks-append xs ys first mid new more rest)
+use Rattle.vhost_backend.specs.Marks.{Covered, Stores, asking_marks, chain_marks, return_marks}
+use Rattle.vhost_backend.specs.declared.pieces.Piece.{Piece}
 
 -- ---- all writable bytes of a chain
 
-covered_left : (xs ys : List Mark) (a n : ℕ) → Covered xs a n → Covered (xs ++ ys) a n
+covered_left : (xs ys : List Piece) (a n : ℕ) → Covered xs a n → Covered (xs ++ ys) a n
 covered_left [] ys a n covered = absurd covered
 covered_left (x ∷ xs) ys a n (inl here) = inl here
 covered_left (x ∷ xs) ys a n (inr there) = inr (covered_left xs ys a n there)
 
-covered_right : (xs ys : List Mark) (a n : ℕ) → Covered ys a n → Covered (xs ++ ys) a n
+covered_right : (xs ys : List Piece) (a n : ℕ) → Covered ys a n → Covered (xs ++ ys) a n
 covered_right [] ys a n covered = covered
 covered_right (x ∷ xs) ys a n covered = inr (covered_right xs ys a n covered)
 

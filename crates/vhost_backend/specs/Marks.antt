@@ -7,17 +7,17 @@ use Rattle.virtio_queue.specs.Rings.{slot}
 use Rattle.virtio_queue.specs.declared.any.AnyQueue.{AnyQueue}
 use Rattle.virtio_queue.specs.declared.any.AnyQueue.TheVariants.{Split, Packed}
 use Rattle.vhost_backend.specs.RingMemory.{MemoryStep, Returned, marks}
-use Rattle.vhost_backend.specs.declared.block_queue.Mark.{Mark}
+use Rattle.vhost_backend.specs.declared.pieces.Piece.{Piece}
 
 -- all writable bytes of a chain
-abbrev pub segment_marks : Segment → List Mark
+abbrev pub segment_marks : Segment → List Piece
 segment_marks s = if s.writable then record { base = s.addr.0; offset = 0; len = s.len } ∷ [] else []
 
-abbrev pub chain_marks : List Segment → List Mark
+abbrev pub chain_marks : List Segment → List Piece
 chain_marks segments = flat_map segment_marks segments
 
 -- the entry of the next return, and what publishes it
-abbrev pub return_marks : AnyQueue → List Mark
+abbrev pub return_marks : AnyQueue → List Piece
 return_marks (Split q) =
     record { base = q.state.used_ring; offset = 4 + 8 * slot q.state.size q.state.next_used; len = 8 }
     ∷ record { base = q.state.used_ring; offset = 2; len = 2 } ∷ []
@@ -25,18 +25,18 @@ return_marks (Packed q) = record { base = q.state.desc_ring; offset = 16 * q.sta
     ∷ record { base = q.state.desc_ring; offset = 16 * q.state.next_used.slot + 14; len = 2 } ∷ []
 
 -- what asks the driver to notify
-abbrev pub asking_marks : AnyQueue → List Mark
+abbrev pub asking_marks : AnyQueue → List Piece
 asking_marks (Split q) = record { base = q.state.used_ring; offset = kick_offset q.state; len = 2 } ∷ []
 asking_marks (Packed q) = record { base = q.state.device_area; offset = 0; len = 2 }
     ∷ record { base = q.state.device_area; offset = 2; len = 2 } ∷ []
 
 -- these marks are made, one after another
-abbrev pub Marks : {H : Type 0} → (H → (s : MemoryStep) → Returned s → H → Type 0) → List Mark → H → H → Type 0
+abbrev pub Marks : {H : Type 0} → (H → (s : MemoryStep) → Returned s → H → Type 0) → List Piece → H → H → Type 0
 Marks step [] old new = new ≡ old
 Marks {H} step (m ∷ ms) old new = (mid : H) × step old (marks m.base m.offset m.len) tt mid × Marks step ms mid new
 
 -- N bytes at an address lie in one of these marks
-abbrev pub Covered : List Mark → ℕ → ℕ → Type 0
+abbrev pub Covered : List Piece → ℕ → ℕ → Type 0
 Covered [] a n = ⊥
 Covered (m ∷ ms) a n = ((m.base + m.offset ≤ a) × (a + n ≤ m.base + m.offset + m.len)) ⊎ Covered ms a n
 

@@ -7,6 +7,7 @@ ghost use Rattle.vhost_backend.specs.Marks.{Marks, asking_marks, chain_marks, re
 ghost use Rattle.vhost_backend.specs.RingMemory.{needs};
 
 use crate::block::{block_parts, len_of, status_of, written_of};
+use crate::pieces::Piece;
 use crate::request::Chain;
 use crate::ring::RingEvent;
 use crate::ring_memory::RingMemory;
@@ -47,17 +48,6 @@ pub enum GiveBack {
     Later,
     /// No chain of this id is under way.
     NotUnderWay,
-}
-
-/// Bytes of guest memory that may have changed: their pages are to be marked in the log.
-#[derive(Clone, Copy, Debug)]
-pub struct Mark {
-    /// A guest address.
-    pub base: u64,
-    /// How far behind it they begin.
-    pub offset: u64,
-    /// How many there are.
-    pub len: u64,
 }
 
 // A queue that was refused for want of memory is tried again. Another error is a fault of its driver.
@@ -128,7 +118,7 @@ fn mark_chain<H, D: RingMemory<H>>(mem: &D, host: &mut H, chain: &Descriptors)
 }
 
 // Marks two ranges behind an address.
-fn mark_both<H, D: RingMemory<H>>(mem: &D, host: &mut H, first: Mark, second: Mark)
+fn mark_both<H, D: RingMemory<H>>(mem: &D, host: &mut H, first: Piece, second: Piece)
     requires { D.held mem.now host.old }
     ensures marks { Marks (D.steps mem.now) (first ∷ second ∷ []) host.old host.new }
     ensures held { D.held mem.now host.new }
@@ -138,7 +128,7 @@ fn mark_both<H, D: RingMemory<H>>(mem: &D, host: &mut H, first: Mark, second: Ma
 }
 
 // The entry of a queue's next return, and what publishes it.
-fn return_marks(queue: &AnyQueue) -> (Mark, Mark)
+fn return_marks(queue: &AnyQueue) -> (Piece, Piece)
     ensures { result.0 ∷ result.1 ∷ [] ≡ return_marks queue.now }
 {
     let (base, entry, len, last) = match queue {
@@ -152,12 +142,12 @@ fn return_marks(queue: &AnyQueue) -> (Mark, Mark)
             (state.desc_ring, slot + 8, 6, slot + 14)
         }
     };
-    let first = Mark {
+    let first = Piece {
         base,
         offset: entry,
         len,
     };
-    let second = Mark {
+    let second = Piece {
         base,
         offset: last,
         len: 2,
