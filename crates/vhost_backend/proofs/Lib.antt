@@ -8,6 +8,7 @@ pub mod FitLemmas
 pub mod GoneLemmas
 pub mod HoldLemmas
 pub mod LineLemmas
+pub mod MappingLemmas
 pub mod MarkLemmas
 pub mod MessageLemmas
 pub mod OnceLemmas

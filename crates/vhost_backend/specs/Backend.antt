@@ -13,6 +13,7 @@ use Rattle.vhost_user.specs.Reply.{reply_to}
 use Rattle.vhost_user.specs.Reply as reply
 use Rattle.vhost_user.specs.Running.{running}
 use Rattle.vhost_backend.specs.Actions.{is_answer}
+use Rattle.vhost_backend.specs.Mapping.{mapping_of}
 use Rattle.vhost_backend.specs.Rings.{RingsState, happens, is_held, is_stopped_at, new_rings, nothing}
 use Rattle.vhost_backend.specs.declared.backend.Finish.{Finish}
 use Rattle.vhost_backend.specs.declared.backend.Finish.TheVariants.{Done, At, Failed}
@@ -28,6 +29,7 @@ use Rattle.vhost_backend.specs.declared.backend.Taken.TheVariants as taken
 use Rattle.vhost_backend.specs.declared.backend.Todo.{Todo}
 use Rattle.vhost_backend.specs.declared.backend.Until.{Until}
 use Rattle.vhost_backend.specs.declared.backend.Until.TheVariants.{Now, Ring, AllRings}
+use Rattle.vhost_backend.specs.declared.mapping.Mapping.{Mapping}
 use Rattle.vhost_backend.specs.declared.ring.RingEvent.TheVariants.{Start, Stop, Enable}
 use Rattle.vhost_backend.specs.declared.rings.Actions.{Actions}
 use Rattle.vhost_backend.specs.declared.rings.Event.{Event}
@@ -57,6 +59,11 @@ is_over _ = false
 -- whether it is over, and nothing is under way any more
 abbrev pub is_at_rest : BackendState → Bool
 is_at_rest b = is_over b.taken && is_held b.rings.hold
+
+-- what is to be done with mappings by the message that took effect
+abbrev pub mapping_at : Taken → ℕ → Option Mapping
+mapping_at (taken.Begun h request) number = mapping_of request number
+mapping_at _ number = None
 
 -- what is to be done, by what is to be done for a ring
 abbrev pub to_do : Actions → Option Place → Outcome → Todo

@@ -5,6 +5,7 @@ pub mod BlockQueue
 pub mod BlockTurn
 pub mod Examples
 pub mod Line
+pub mod Mapping
 pub mod Marks
 pub mod Messages
 pub mod Parts

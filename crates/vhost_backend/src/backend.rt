@@ -2,6 +2,7 @@
 ghost use Rattle.std.specs.Prelude.{◌≡◌};
 ghost use Rattle.vhost_backend.specs.Backend.{is_due, is_outer, moved, to_do};
 
+use crate::mapping::{Mapping, mapping_of};
 use crate::ring::{RingActions, RingEvent};
 use crate::rings::{Actions, Event, Rings, nothing};
 use std::alloc::Global;
@@ -169,7 +170,7 @@ impl Backend {
     ghost use Rattle.std.specs.Prelude.{◌<◌, false, length, true, MatchResult};
     ghost use Rattle.vhost_user.specs.Connection.{can_offer, connected};
     ghost use Rattle.vhost_user.specs.declared.backend_req_handler.OfferError.TheVariants.{Invalid, Memory};
-    ghost use Rattle.vhost_backend.specs.Backend.{after_event, after_finish, after_message, begun, begun_or_waits, happened, is_at_rest, is_free, is_over, new_backend, over, placed, rebased, refreshed_one, refused, released, to_place, until_of, waiting};
+    ghost use Rattle.vhost_backend.specs.Backend.{after_event, after_finish, after_message, begun, begun_or_waits, happened, is_at_rest, is_free, is_over, mapping_at, new_backend, over, placed, rebased, refreshed_one, refused, released, to_place, until_of, waiting};
 
     /// A new connection, as from `BackendReqHandler::new`. The ids of its rings' chains are below `ids`.
     ///
@@ -245,6 +246,17 @@ impl Backend {
         ensures { result ≡ is_at_rest self.now }
     {
         self.is_over() && self.rings.is_held()
+    }
+
+    /// What is to be done with the mappings of guest memory before the message that took effect is finished: one after
+    /// another, from number 0 on, until there is none.
+    pub fn mapping(&self, number: usize) -> Option<Mapping>
+        ensures { result ≡ mapping_at self.now.taken number }
+    {
+        match &self.taken {
+            Taken::Begun(_, request) => mapping_of(request, number),
+            _ => None,
+        }
     }
 
     // What a ring's queue is to be told first, if something is to be done for the ring.

@@ -228,7 +228,7 @@ impl Model for BlockQueue {
 }
 
 impl BlockQueue {
-    ghost use Rattle.std.specs.Prelude.{IfSome, Some, option_map};
+    ghost use Rattle.std.specs.Prelude.{IfSome, option_copied, option_map};
     ghost use Rattle.vhost_backend.specs.Block.{Short};
     ghost use Rattle.vhost_backend.specs.BlockQueue.{Asks, Begins, GivesBack, HappensNext, Pops, Waits, asked_at, has_place, new_queue, with_queue};
 
@@ -262,6 +262,16 @@ impl BlockQueue {
     {
         match self.asked.get(usize::from(id)) {
             Some(Some(asked)) => Some(asked.request),
+            _ => None,
+        }
+    }
+
+    /// The chain with an id that is under way.
+    pub fn chain(&self, id: u16) -> Option<&Descriptors>
+        ensures { option_copied result ≡ option_map (λ asked. asked.chain) (asked_at self.now id) }
+    {
+        match self.asked.get(usize::from(id)) {
+            Some(Some(asked)) => Some(&asked.chain),
             _ => None,
         }
     }

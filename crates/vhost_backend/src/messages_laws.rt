@@ -1,13 +1,14 @@
 //! What holds of every connection, whatever happens: each function here is a theorem, and does nothing.
-ghost use Rattle.std.specs.Prelude.{◌≡◌, ◌+◌, ◌++◌, ◌&&◌, ◌==◌, not, ℕ, List, [], length, true, false, Some, None, is_ok, slice_get};
+ghost use Rattle.std.specs.Prelude.{◌≡◌, ◌+◌, ◌++◌, ◌&&◌, ◌==◌, not, ℕ, List, [], length, true, false, Some, None, is_ok, option_map, slice_get};
 ghost use Rattle.vhost_message.specs.declared.frontend_req.FrontendReq.{FrontendReq};
-ghost use Rattle.vhost_message.specs.declared.frontend_req.FrontendReq.TheVariants.{GetVringBase};
+ghost use Rattle.vhost_message.specs.declared.frontend_req.FrontendReq.TheVariants.{GetVringBase, SetMemTable};
 ghost use Rattle.vhost_message.specs.declared.header.Header.{Header};
 ghost use Rattle.vhost_message.specs.declared.refusal.Refusal.{Refusal};
+ghost use Rattle.vhost_message.specs.declared.regions.MemoryRegion.{MemoryRegion};
 ghost use Rattle.vhost_user.specs.Connection.{Connection, connected};
 ghost use Rattle.vhost_user.specs.Running.{running};
 ghost use Rattle.vhost_user.specs.declared.backend_req_handler.Offer.{Offer};
-ghost use Rattle.vhost_backend.specs.Backend.{BackendState, after_event, after_message, is_at_rest, is_free, new_backend};
+ghost use Rattle.vhost_backend.specs.Backend.{BackendState, after_event, after_message, is_at_rest, is_free, mapping_at, new_backend};
 ghost use Rattle.vhost_backend.specs.Messages.{Happening, after, all_events, all_to_do, changes_all, over_count, pending, ring_actions, taken_count, to_do, told_last};
 ghost use Rattle.vhost_backend.specs.Ring.{RingState, is_broken, is_idle, may_run};
 ghost use Rattle.vhost_backend.specs.Rings.{all_idle, happens};
@@ -16,6 +17,8 @@ ghost use Rattle.vhost_backend.specs.Turns as turn;
 ghost use Rattle.vhost_backend.specs.declared.backend.Outcome.TheVariants.{Refused};
 ghost use Rattle.vhost_backend.specs.declared.backend.Taken.TheVariants as taken;
 ghost use Rattle.vhost_backend.specs.declared.backend.Until.TheVariants as until;
+ghost use Rattle.vhost_backend.specs.declared.mapping.Mapping.{Mapping};
+ghost use Rattle.vhost_backend.specs.declared.mapping.Mapping.TheVariants.{Map, UnmapAll};
 ghost use Rattle.vhost_backend.specs.declared.ring.Phase.TheVariants.{Stopped};
 ghost use Rattle.vhost_backend.specs.declared.rings.Event.{Event};
 ghost use Rattle.vhost_backend.specs.declared.rings.Hold.TheVariants.{Held};
@@ -76,6 +79,19 @@ pub fn what_a_message_changes_is_at_rest()
     ensures one { (c : Connection) (ids : ℕ) (xs : List Happening) (h : Header) (i : ℕ) (ring : RingState)
         → let b = after xs (new_backend c ids) in b.taken ≡ taken.Begun h (GetVringBase i)
         → slice_get b.rings.rings i ≡ Some ring → (ring.phase ≡ Stopped) × (is_idle ring ≡ true) }
+{}
+
+/// Guest memory is mapped and unmapped when nothing is under way, until the message is finished. The regions of a table
+/// are mapped in order, each once and from its own descriptor, after what was mapped is gone.
+pub fn memory_is_mapped_at_rest()
+    ensures rest { (c : Connection) (ids : ℕ) (xs : List Happening) (number : ℕ) (mapping : Mapping)
+        → let b = after xs (new_backend c ids) in mapping_at b.taken number ≡ Some mapping
+        → (b.rings.hold ≡ Held) × (all_idle b.rings.rings ≡ true) }
+    ensures first { (h : Header) (table : List MemoryRegion)
+        → mapping_at (taken.Begun h (SetMemTable table)) 0 ≡ Some UnmapAll }
+    ensures each { (h : Header) (table : List MemoryRegion) (k : ℕ)
+        → mapping_at (taken.Begun h (SetMemTable table)) (k + 1)
+        ≡ option_map (λ region. Map region k) (slice_get table k) }
 {}
 
 /// A message that waits does so for something that is under way, whose ends let it take effect.
