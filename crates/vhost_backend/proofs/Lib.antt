@@ -1,3 +1,4 @@
+pub mod AgreeLemmas
 pub mod AnswerLemmas
 pub mod AtRestLemmas
 pub mod BackendLemmas

@@ -50,7 +50,7 @@ begun_some back q buffer chain (Err e) is = absurd (cc)
 
 module _ {H : Type 0} (step : H → (s : MemoryStep) → Returned s → H → Type 0) (terms : Terms) where
   -- a pop found nothing: the queue is as it was
-  nothing_popped : (q q' : BlockQueueState) (old new : H) → Pops step terms q old pop.None q' new
+  pub nothing_popped : (q q' : BlockQueueState) (old new : H) → Pops step terms q old pop.None q' new
       → (q' ≡ q) × step old (pops q.queue) (Ok None) new
   nothing_popped q q' old new (Ok None, mid, stepped, (is, same, still)) =
       (same, subst (λ h. step old (pops q.queue) (Ok None) h) (sym still) stepped)

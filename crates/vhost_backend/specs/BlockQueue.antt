@@ -1,5 +1,5 @@
 -- The queue of a ring of a block device: what a pop and a return do, step by step, and what they leave.
-use Rattle.std.specs.Prelude.{◌≡◌, ◌⊎◌, ℕ, ◌^◌, Bool, true, false, not, ◌&&◌, nat_lt, if◌then◌else◌, List, length, replicate, slice_get, slice_index_or, slice_set, Option, Some, None, is_some, Result, Ok, Err, MatchBool, MatchOption, MatchResult}
+use Rattle.std.specs.Prelude.{◌≡◌, ◌⊎◌, ℕ, ◌<◌, ◌^◌, Bool, true, false, not, ◌&&◌, nat_lt, if◌then◌else◌, List, [], ◌∷◌, length, replicate, slice_get, slice_index_or, slice_set, Option, Some, None, is_some, Result, Ok, Err, MatchBool, MatchOption, MatchResult}
 use Rattle.vm_memory_guest.specs.declared.region.error.GuestMemoryError.{GuestMemoryError}
 use Rattle.vm_memory_device.specs.declared.chain.Segment.{Segment}
 use Rattle.virtio_queue.specs.Any.{after_used, past}
@@ -12,7 +12,9 @@ use Rattle.virtio_blk.specs.declared.request.Request.TheVariants.{Refused}
 use Rattle.virtio_blk.specs.declared.request.Terms.{Terms}
 use Rattle.vhost_backend.specs.Block.{Short, block_parts, len_of, status_of, written_of}
 use Rattle.vhost_backend.specs.Marks.{Marks, asking_marks, chain_marks, return_marks}
+use Rattle.vhost_backend.specs.Ring.{RingState, Step}
 use Rattle.vhost_backend.specs.RingMemory.{MemoryStep, Returned, adds_used, begins, enables, finishes, pops}
+use Rattle.vhost_backend.specs.Story.{busy, of_id, returned}
 use Rattle.vhost_backend.specs.declared.block_queue.Asked.{Asked}
 use Rattle.vhost_backend.specs.declared.block_queue.GiveBack.{GiveBack}
 use Rattle.vhost_backend.specs.declared.block_queue.GiveBack.TheVariants as back
@@ -151,3 +153,23 @@ module _ {H : Type 0} (step : H → (s : MemoryStep) → Returned s → H → Ty
       (status_of asked.request failed) (written_of asked.request moved)) r mid
       × MatchResult r (λ len. Publishes q.queue asked.chain (buffer_by chain) len mid a q'.queue new
       × (q'.asked ≡ slice_set q.asked chain.id None)) (λ e. (a ≡ back.Later) × (q' ≡ q) × (new ≡ mid)))
+
+-- ---- beside the state machine
+
+-- whether a request of an id is under way, as a number
+abbrev pub asked_count : BlockQueueState → ℕ → ℕ
+asked_count q id = if is_some (asked_at q id) then 1 else 0
+
+-- the requests that are under way are those of a ring
+abbrev pub Agrees : BlockQueueState → RingState → Type 0
+Agrees q r = (id : ℕ) → asked_count q id ≡ busy r id
+
+-- what is left after these chains were given back
+abbrev pub given : BlockQueueState → List Chain → BlockQueueState
+given q [] = q
+given q (chain ∷ rest) = given (with_asked q chain.id None) rest
+
+-- each chain that a step returns is found, and after they were given back the requests are those of the ring
+abbrev pub FindsAll : BlockQueueState → Step → Type 0
+FindsAll q t = Agrees (given q (returned t.1)) t.0
+    × ((id : ℕ) → 0 < length (of_id id (returned t.1)) → is_some (asked_at q id) ≡ true)

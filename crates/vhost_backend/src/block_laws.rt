@@ -1,14 +1,17 @@
 //! What holds of the queue of a block device's ring, whatever its guest writes: each function here is a theorem, and
 //! does nothing.
-ghost use Rattle.std.specs.Prelude.{◌≡◌, ℕ, List, Some, slice_get};
+ghost use Rattle.std.specs.Prelude.{◌≡◌, ℕ, List, [], Some, length, true, slice_get};
 ghost use Rattle.vm_memory_device.specs.Chain.{Entry, text, writable};
 ghost use Rattle.vm_memory_device.specs.declared.chain.Segment.{Segment};
 ghost use Rattle.virtio_queue.specs.Any.{enabling, returning};
 ghost use Rattle.virtio_queue.specs.declared.any.AnyQueue.{AnyQueue};
 ghost use Rattle.virtio_queue.specs.declared.packed.state.PackedBuffer.{PackedBuffer};
 ghost use Rattle.virtio_blk.specs.declared.request.Terms.{Terms};
-ghost use Rattle.vhost_backend.specs.BlockQueue.{BlockQueueState, FoundNone, HappensNext};
+ghost use Rattle.vhost_backend.specs.BlockQueue.{Agrees, BlockQueueState, FindsAll, FoundNone, HappensNext};
 ghost use Rattle.vhost_backend.specs.Marks.{Covered, Stores, asking_marks, chain_marks, return_marks};
+ghost use Rattle.vhost_backend.specs.Ring.{RingState, may_run};
+ghost use Rattle.vhost_backend.specs.Story.{RingStep, On, stepped, taken};
+ghost use Rattle.vhost_backend.specs.declared.ring.RingEvent.{RingEvent};
 ghost use Rattle.vhost_backend.specs.declared.ring.RingEvent.TheVariants.{Emptied};
 
 use crate::ring_memory::RingMemory;
@@ -28,4 +31,15 @@ pub fn no_page_is_lost()
 pub fn turns_end_after_a_look<H, D: RingMemory<H>>()
     ensures { (mem : D) (terms : Terms) (q new_q : BlockQueueState) (old new : H)
         → HappensNext (D.steps mem) terms q old (Some Emptied) new_q new → FoundNone (D.steps mem) q.queue new }
+{}
+
+/// The requests of a ring's queue are those that its state machine has under way: after a step of a turn, and after
+/// whatever else happens to the ring, once the chains that are then to be returned were given back. So each return finds
+/// its request.
+pub fn each_return_finds_its_request<H, D: RingMemory<H>>()
+    ensures turns { (mem : D) (terms : Terms) (q new_q : BlockQueueState) (old new : H) (r : RingState) (e : RingEvent)
+        → Agrees q r → length q.asked ≡ length r.requests → may_run r ≡ true
+        → HappensNext (D.steps mem) terms q old (Some e) new_q new → FindsAll new_q (stepped r (On e)) }
+    ensures others { (q : BlockQueueState) (r : RingState) (s : RingStep) → Agrees q r → taken r s ≡ []
+        → FindsAll q (stepped r s) }
 {}
