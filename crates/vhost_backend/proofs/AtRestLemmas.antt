@@ -82,7 +82,7 @@ all_rest s [] rests has = rests
 all_rest s (e ∷ es) rests has =
     all_rest (happens s e).0 es (event_rests s e rests has) (hold.event_turns s e has)
 
-held_rests : (count ids : ℕ) (events : List Event) → HoldsRest (after_all events (new_rings count ids))
+pub held_rests : (count ids : ℕ) (events : List Event) → HoldsRest (after_all events (new_rings count ids))
 held_rests count ids events = all_rest (new_rings count ids) events (λ is. absurd (cc)) (λ not. absurd (cc))
 
 -- ---- how many rings there are

@@ -1,5 +1,5 @@
 -- What a connection keeps.
-use Rattle.std.proofs.Common.{◌≡◌, ◌∙◌, ℕ, zero, suc, ◌+◌, Bool, true, false, length, List, Result, Ok, Err, refl, ap, sym, arith}
+use Rattle.std.proofs.Common.{◌≡◌, ◌∙◌, ℕ, zero, suc, ◌+◌, Bool, true, false, length, List, Result, Ok, Err, refl, ap, arith}
 use Rattle.std.proofs.Math.ListN.{length-set}
 use Rattle.vhost_user.specs.Connection.{Connection, served}
 use Rattle.vhost_user.specs.Reply.{reply_to}
@@ -7,7 +7,8 @@ use Rattle.vhost_user.specs.Reply as reply
 use Rattle.vhost_message.specs.declared.frontend_req.FrontendReq.{FrontendReq}
 use Rattle.vhost_message.specs.declared.header.Header.{Header}
 use Rattle.vhost_message.specs.declared.refusal.Refusal.{Refusal}
-use Rattle.vhost_backend.specs.Backend.{BackendState, begun, begun_by, begun_or_waits, finished, refreshed, refreshed_one}
+use Rattle.vhost_backend.specs.Backend.{BackendState, begun, begun_by, begun_or_waits, finished, over, refreshed, refreshed_one}
+use Rattle.vhost_backend.specs.declared.backend.Next.TheVariants as next
 use Rattle.vhost_backend.specs.declared.backend.Taken.{Taken}
 use Rattle.vhost_backend.specs.declared.backend.Until.{Until}
 
@@ -35,9 +36,10 @@ refreshed_next n b = let same : suc n ≡ n + 1 = omega arith in ap (λ m. refre
 
 pub finished_is : (request : FrontendReq) (h : Header) (new looped : BackendState) (t : BackendState × Bool) (n : ℕ)
     (bytes : List ℕ) → (new, true) ≡ t → looped ≡ refreshed n new → n ≡ length new.placings
-    → bytes ≡ reply_to looped.connection h request → (looped, (bytes, true)) ≡ finished request h t
+    → bytes ≡ reply_to looped.connection h request → (looped, (bytes, next.Messages)) ≡ finished request h t
 finished_is request h new looped t n bytes is loops ends replies = rw (← is, ← ends, ← loops, ← replies) refl
 
-pub refused_is : (request : FrontendReq) (h : Header) (new : BackendState) (t : BackendState × Bool) (bytes : List ℕ)
-    → (new, false) ≡ t → bytes ≡ reply.refused new.connection h → (new, (bytes, false)) ≡ finished request h t
-refused_is request h new t bytes is replies = rw (← is, replies) refl
+pub refused_is : (request : FrontendReq) (h : Header) (new ended : BackendState) (t : BackendState × Bool)
+    (bytes : List ℕ) → (new, false) ≡ t → bytes ≡ reply.refused new.connection h → ended ≡ over new
+    → (ended, (bytes, next.End)) ≡ finished request h t
+refused_is request h new ended t bytes is replies ends = rw (← is, replies, ends) refl

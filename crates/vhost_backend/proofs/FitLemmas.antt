@@ -14,14 +14,14 @@ use Rattle.vhost_message.specs.declared.refusal.Refusal.{Refusal}
 use Rattle.vhost_message.specs.declared.refusal.Refusal.TheVariants.{Descriptors}
 use Rattle.vhost_user.specs.Connection.{Connection, served}
 use Rattle.vhost_user.specs.Running.{running}
-use Rattle.vhost_backend.proofs.AnswerLemmas.{finished_taken, rebased_taken}
+use Rattle.vhost_backend.proofs.AnswerLemmas.{rebased_taken, refreshed_taken}
 use Rattle.vhost_backend.proofs.MessageLemmas.{placed_rings, placed_taken, rebased_rings}
 use Rattle.vhost_backend.proofs.OwnWayLemmas.{held_rings, one_event, released_same}
 use Rattle.vhost_backend.proofs.StopLemmas as stop
 use Rattle.vhost_backend.specs.Actions.{is_answer}
 use Rattle.vhost_backend.specs.Backend.{BackendState, begun, begun_by, begun_or_waits, decoded, finish_by, finished, happened, happened_by, is_due, is_outer, new_backend, placed, rebased, refreshed, refused, started_if, stopped_ring, taken_until, to_do, to_place, until_of, waited, with_outcome}
 use Rattle.vhost_backend.specs.Backend.{is_free as is_free_taken, released as released_message}
-use Rattle.vhost_backend.specs.Messages.{Happening, Came, Done, Told, changes_all}
+use Rattle.vhost_backend.specs.Messages.{Happening, Came, Done, Told, HungUp, changes_all}
 use Rattle.vhost_backend.specs.Messages.{stepped as stepped_by}
 use Rattle.vhost_backend.specs.Messages as message
 use Rattle.vhost_backend.specs.Ring.{RingState, Step, after_turn, is_stopping, pops, step, wants}
@@ -123,6 +123,21 @@ module _ (s : RingsState) (h : Hold) (is : s.hold ≡ h) where
 pub held_from_free : (s : RingsState) → s.hold ≡ Free → (happens s event.Hold).0.hold ≡ held_by (happens s event.Hold).1.held
 held_from_free s is = rw is
     (held_step (holding s) Waiting (record { ring = 0; actions = []; held = now_held (holding s) }) refl refl)
+
+-- none has a turn after a message that holds them
+pub hold_not_free : (s : RingsState) → is_free (happens s event.Hold).0.hold ≡ false
+hold_not_free s = go (is_free s.hold) refl
+  where
+    holds : (now : Bool) → (let new : RingsState = if now then record (holding s) { hold = Held } else holding s in
+        is_free new.hold ≡ false)
+    holds true = refl
+    holds false = refl
+
+    go : (free : Bool) → is_free s.hold ≡ free → (let t : Happens = if free
+        then (held (holding s), record { ring = 0; actions = []; held = now_held (holding s) })
+        else (s, nothing 0) in is_free t.0.hold ≡ false)
+    go true is = holds (now_held (holding s))
+    go false is = is
 
 -- and what does not wait is free after it was released
 pub released_free : (s : RingsState) → is_waiting s.hold ≡ false → (happens s event.Release).0.hold ≡ Free
@@ -229,10 +244,10 @@ abbrev pub RestsAt : ℕ → RingsState → Type 0
 RestsAt i s = (r : RingState) × (slice_get s.rings i ≡ Some r) × stop.Rests r
 
 -- whether an event answers the message that stops a ring
-abbrev answers_at : ℕ → Actions → Bool
+abbrev pub answers_at : ℕ → Actions → Bool
 answers_at i done = done.ring == i && list_any is_answer done.actions
 
-own_answers : (i : ℕ) (done : Actions) → list_any is_answer (turn.own_actions i done) ≡ answers_at i done
+pub own_answers : (i : ℕ) (done : Actions) → list_any is_answer (turn.own_actions i done) ≡ answers_at i done
 own_answers i done = go (done.ring == i)
   where
     go : (b : Bool) → list_any is_answer (if b then done.actions else []) ≡ (b && list_any is_answer done.actions)
@@ -240,7 +255,7 @@ own_answers i done = go (done.ring == i)
     go false = refl
 
 module _ (s : RingsState) (i : ℕ) (e : Event) (r : RingState) (there : slice_get s.rings i ≡ Some r) where
-  answered_at : answers_at i (happens s e).1 ≡ true → RestsAt i (happens s e).0
+  pub answered_at : answers_at i (happens s e).1 ≡ true → RestsAt i (happens s e).0
   answered_at due =
       let (new, does) = one_event i r s there e in
       let steps = steps_of i s e in
@@ -271,6 +286,7 @@ FoundAtRest request s = (i : ℕ) → stopped_ring request ≡ Some i → i < le
 
 abbrev pub Fits : Taken → RingsState → Type 0
 Fits taken.Nothing s = s.hold ≡ Free
+Fits taken.Over s = is_free s.hold ≡ false
 Fits (taken.Waits h request Now) s = ⊥
 Fits (taken.Waits h request (Ring i)) s = (s.hold ≡ Free) × StopsAt i s × (changes_all request ≡ false)
     × (stopped_ring request ≡ Some i)
@@ -356,7 +372,7 @@ one_ready request s i is rests j same there =
     let one : i ≡ j = cc in
     subst (λ k. RestsAt k s) one rests
 
-never : {P : Type 0} (b : Bool) → b ≡ false → b ≡ true → P
+pub never : {P : Type 0} (b : Bool) → b ≡ false → b ≡ true → P
 never true one other = absurd (cc)
 never false one other = absurd (cc)
 
@@ -468,10 +484,24 @@ module _ (s : RingsState) (e : Event) (outer : is_outer e ≡ true) where
       go Held is = rw (outer_hold s Held is e outer) refl
       go Waiting is = never (is_waiting s.hold) calm (ap is_waiting is)
 
+  -- none has a turn after the end
+  held_still : is_free s.hold ≡ false → is_free (happens s e).0.hold ≡ false
+  held_still not = go s.hold refl
+    where
+      waits : (b : Bool) → is_free (held_by b) ≡ false
+      waits true = refl
+      waits false = refl
+
+      go : (h : Hold) → s.hold ≡ h → is_free (happens s e).0.hold ≡ false
+      go Free is = never (is_free s.hold) not (ap is_free is)
+      go Waiting is = ap is_free (outer_hold s Waiting is e outer) ∙ waits (happens s e).1.held
+      go Held is = ap is_free (outer_hold s Held is e outer)
+
   -- of the connection, by what was taken
   happened_fits : (b : BackendState) (t : Taken) → b.taken ≡ t → b.rings ≡ (happens s e).0 → Fits t s
       → FitsIn (happened_by b (happens s e).1 t).0
   happened_fits b taken.Nothing is rings fits = rw (is, rings) (outer_hold s Free fits e outer)
+  happened_fits b taken.Over is rings fits = rw (is, rings) (held_still fits)
   happened_fits b (taken.Begun h request) is rings fits = rw (is, rings) (ready_still request fits)
   happened_fits b (taken.Waits h request Now) is rings fits = absurd fits
   happened_fits b (taken.Waits h request (Ring i)) is rings (free, stopping, calm, which) =
@@ -506,20 +536,25 @@ refreshed_free (suc n) b free =
     go true s free = ring_hold s Free free n ring.Start
     go false s free = free
 
-finished_free : (request : FrontendReq) (h : Header) (t : BackendState × Bool) → t.0.rings.hold ≡ Free
-    → (finished request h t).0.rings.hold ≡ Free
-finished_free request h (b, true) free = refreshed_free (length b.placings) b free
-finished_free request h (b, false) free = free
+free_fits : (t : Taken) (s : RingsState) → t ≡ taken.Nothing → s.hold ≡ Free → Fits t s
+free_fits t s is free = rw is free
+
+finished_fits : (request : FrontendReq) (h : Header) (t : BackendState × Bool) → t.0.taken ≡ taken.Nothing
+    → t.0.rings.hold ≡ Free → FitsIn (finished request h t).0
+finished_fits request h (b, true) none free = let n = length b.placings in
+    free_fits (refreshed n b).taken (refreshed n b).rings (refreshed_taken n b ∙ none) (refreshed_free n b free)
+finished_fits request h (b, false) none free = hold_not_free b.rings
 
 end_fits : (b : BackendState) (end : Finish) (t : Taken) → b.taken ≡ t → Fits t b.rings
     → FitsIn (finish_by b end t).0
 end_fits b end taken.Nothing is fits = rw is fits
+end_fits b end taken.Over is fits = rw is fits
 end_fits b end (taken.Waits h request until) is fits = rw is fits
 end_fits b end (taken.Begun h request) is fits =
     let t = rebased (released_message b) request end in
     let free : t.0.rings.hold ≡ Free =
     ap (λ s. s.hold) (rebased_rings (released_message b) request end) ∙ released_free b.rings fits.0 in
-    rw (finished_taken request h t, rebased_taken (released_message b) request end) (finished_free request h t free)
+    finished_fits request h t (rebased_taken (released_message b) request end) free
 
 -- ---- all of it
 
@@ -546,6 +581,7 @@ module _ (b : BackendState) (fits : FitsIn b) where
       go : (t : Taken) → b.taken ≡ t → FitsIn (if is_free_taken b.taken
           then decoded b h payload n (request_of h payload) else (b, to_do (nothing 0) None Stays)).0
       go taken.Nothing is = rw (ap is_free_taken is) (decoded_fits is (request_of h payload))
+      go taken.Over is = rw (ap is_free_taken is) fits
       go (taken.Waits h' request until) is = rw (ap is_free_taken is) fits
       go (taken.Begun h' request) is = rw (ap is_free_taken is) fits
 
@@ -562,10 +598,11 @@ module _ (b : BackendState) (fits : FitsIn b) where
           (placed_rings old t.1) fits)
       go false outer = fits
 
-  step_fits : (x : Happening) → FitsIn (stepped_by b x)
+  pub step_fits : (x : Happening) → FitsIn (stepped_by b x)
   step_fits (Came h payload n) = message_fits h payload n
   step_fits (Done end) = end_fits b end b.taken refl fits
   step_fits (Told e) = event_fits e
+  step_fits HungUp = hold_not_free b.rings
 
 all_fit : (b : BackendState) (xs : List Happening) → FitsIn b → FitsIn (message.after xs b)
 all_fit b [] fits = fits

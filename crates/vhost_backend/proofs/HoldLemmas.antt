@@ -110,7 +110,7 @@ module _ (s : RingsState) (not_free : is_free s.hold ≡ false) (no_turn : s.tur
   no_pop event.Hold = refl
   no_pop event.Release = refl
 
-none_popped : (s : RingsState) (events : List Event) → is_free s.hold ≡ false → s.turn ≡ None
+pub none_popped : (s : RingsState) (events : List Event) → is_free s.hold ≡ false → s.turn ≡ None
     → list_any is_release events ≡ false → popped events s ≡ []
 none_popped s [] not_free no_turn none = refl
 none_popped s (e ∷ es) not_free no_turn none =
@@ -327,7 +327,7 @@ module _ (s : RingsState) (rests : Rests s) where
   event_sleeps event.Hold not = hold_sleeps (is_free s.hold) (ap is_free rests.0)
   event_sleeps event.Release not = absurd (cc)
 
-sleeps : (s : RingsState) (events : List Event) → Rests s → list_any is_release events ≡ false
+pub sleeps : (s : RingsState) (events : List Event) → Rests s → list_any is_release events ≡ false
     → any_touches (all_done events s) ≡ false
 sleeps s [] rests none = refl
 sleeps s (e ∷ es) rests none =

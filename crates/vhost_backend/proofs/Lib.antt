@@ -1,3 +1,4 @@
+pub mod AgreeLemmas
 pub mod AnswerLemmas
 pub mod AtRestLemmas
 pub mod BackendLemmas
@@ -8,13 +9,21 @@ pub mod FitLemmas
 pub mod GoneLemmas
 pub mod HoldLemmas
 pub mod LineLemmas
+pub mod MappingLemmas
+pub mod MarkLemmas
 pub mod MessageLemmas
 pub mod OnceLemmas
+pub mod OverLemmas
 pub mod OwnWayLemmas
 pub mod PartLemmas
+pub mod PieceLemmas
+pub mod PlaceLemmas
+pub mod QueueLemmas
 pub mod RefuseLemmas
 pub mod RestLemmas
 pub mod RightLemmas
+pub mod RunLemmas
 pub mod StopLemmas
 pub mod ToldLemmas
+pub mod TurnLemmas
 pub mod WantLemmas

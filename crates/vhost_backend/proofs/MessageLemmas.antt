@@ -11,10 +11,11 @@ use Rattle.vhost_message.specs.declared.refusal.Refusal.TheVariants.{Descriptors
 use Rattle.vhost_user.specs.Connection.{Connection, served, with_base}
 use Rattle.vhost_user.specs.Running.{running}
 use Rattle.vhost_backend.specs.Backend.{BackendState, begun, begun_by, begun_or_waits, decoded, finish_by, finished, happened, happened_by, is_due, is_free, is_outer, placed, rebased, rebased_at, rebased_by, refreshed, refused, released, started_if, stopped_ring, taken_until, to_do, to_place, until_of, waited, with_outcome}
-use Rattle.vhost_backend.specs.Messages.{Happening, Came, Done, Told, after, all_events, all_to_do, events_if_done, events_if_due, events_if_refused, events_of, events_of_decoded, events_of_end, events_of_request, events_of_waiting, events_until, own_actions, refreshing, ring_actions, starts_if, stepped}
+use Rattle.vhost_backend.specs.Messages.{Happening, Came, Done, Told, HungUp, after, all_events, all_to_do, ending, events_if_done, events_if_due, events_if_refused, events_of, events_of_decoded, events_of_end, events_of_request, events_of_waiting, events_until, own_actions, refreshing, ring_actions, starts_if, stepped}
 use Rattle.vhost_backend.specs.Messages as message
 use Rattle.vhost_backend.specs.Ring.{RingState, step}
-use Rattle.vhost_backend.specs.Rings.{RingsState, admits, happens, nothing, on_ring, turn_used, with_step}
+use Rattle.vhost_backend.specs.Rings.{Happens, RingsState, admits, happens, held, holding, nothing, now_held, on_ring, turn_used, with_step}
+use Rattle.vhost_backend.specs.Rings.{is_free as is_free_hold}
 use Rattle.vhost_backend.specs.Turns.{actions_of, after_all, all_done}
 use Rattle.vhost_backend.specs.Turns as turn
 use Rattle.vhost_backend.specs.declared.backend.Finish.{Finish}
@@ -140,6 +141,7 @@ module _ (b : BackendState) where
       → old.rings ≡ (happens b.rings e).0 → done ≡ (happens b.rings e).1
       → (happened_by old done t).0.rings ≡ after_all (e ∷ events_of_waiting b e t) b.rings
   happened_rings old e done taken.Nothing same rings is = rings
+  happened_rings old e done taken.Over same rings is = rings
   happened_rings old e done (taken.Begun h request) same rings is = rings
   happened_rings old e done (taken.Waits h request until) same rings is =
       let due = is_due until done in
@@ -208,15 +210,17 @@ finished_rings request h (b, false) = refl
 end_rings : (b : BackendState) (end : Finish) (t : Taken)
     → (finish_by b end t).0.rings ≡ after_all (events_of_end b end t) b.rings
 end_rings b end taken.Nothing = refl
+end_rings b end taken.Over = refl
 end_rings b end (taken.Waits h request until) = refl
 end_rings b end (taken.Begun h request) =
     let t = rebased (released b) request end in
     finished_rings request h t ∙ ap (after_all (events_if_done t)) (rebased_rings (released b) request end)
 
-step_rings : (b : BackendState) (x : Happening) → (stepped b x).rings ≡ after_all (events_of b x) b.rings
+pub step_rings : (b : BackendState) (x : Happening) → (stepped b x).rings ≡ after_all (events_of b x) b.rings
 step_rings b (Came h payload n) = message_rings b h payload n
 step_rings b (Done end) = end_rings b end b.taken
 step_rings b (Told e) = event_rings b e
+step_rings b HungUp = refl
 
 pub becomes : (b : BackendState) (xs : List Happening) → (after xs b).rings ≡ after_all (all_events xs b) b.rings
 becomes b [] = refl
@@ -278,13 +282,26 @@ module _ (i : ℕ) where
       last false s =
           ap (λ l. l ++ []) (own_none (happens s (event.Ring n (Enable false))).1 (quiet n (Enable false) s (λ r. refl)))
 
+  hold_quiet : (s : RingsState) → (happens s event.Hold).1.actions ≡ []
+  hold_quiet s = go (is_free_hold s.hold)
+    where
+      go : (free : Bool) → (let t : Happens = if free
+          then (held (holding s), record { ring = 0; actions = []; held = now_held (holding s) })
+          else (s, nothing 0) in t.1.actions ≡ [])
+      go true = refl
+      go false = refl
+
+  ending_quiet : (s : RingsState) → actions_of i (all_done ending s) ≡ []
+  ending_quiet s = ap (λ l. l ++ []) (own_none (happens s event.Hold).1 (hold_quiet s))
+
   done_quiet : (t : BackendState × Bool) (s : RingsState) → actions_of i (all_done (events_if_done t) s) ≡ []
   done_quiet (b, true) s = refreshing_quiet b.connection (length b.placings) s
-  done_quiet (b, false) s = refl
+  done_quiet (b, false) s = ending_quiet s
 
   waiting_quiet : (b : BackendState) (e : Event) (t : Taken) (s : RingsState)
       → actions_of i (all_done (events_of_waiting b e t) s) ≡ []
   waiting_quiet b e taken.Nothing s = refl
+  waiting_quiet b e taken.Over s = refl
   waiting_quiet b e (taken.Begun h request) s = refl
   waiting_quiet b e (taken.Waits h request until) s =
       due_quiet b request [] (is_due until (happens b.rings e).1) s
@@ -292,6 +309,7 @@ module _ (i : ℕ) where
   end_quiet : (b : BackendState) (end : Finish) (t : Taken) (s : RingsState)
       → actions_of i (all_done (events_of_end b end t) s) ≡ []
   end_quiet b end taken.Nothing s = refl
+  end_quiet b end taken.Over s = refl
   end_quiet b end (taken.Waits h request until) s = refl
   end_quiet b end (taken.Begun h request) s = rw (own_none (nothing 0) refl)
       (done_quiet (rebased (released b) request end) (happens s event.Release).0)
@@ -334,6 +352,7 @@ module _ (i : ℕ) where
         go true = decoded_done h payload n (request_of h payload)
         go false = ap (λ l. l ++ []) (own_none (nothing 0) refl)
     step_done (Done end) = sym (end_quiet b end b.taken b.rings)
+    step_done HungUp = sym (ending_quiet b.rings)
     step_done (Told e) = go (is_outer e)
       where
         go : (outer : Bool) → (let t = happens b.rings e in let old : BackendState = record b { rings = t.0 } in

@@ -161,7 +161,7 @@ module _ (r : RingState) (id : ℕ) where
   end_keeps i None end found = append-nil (under_way r id)
   end_keeps i (Some q) end found = part_keeps i q found end
 
-  step_keeps : (s : RingStep) → Keeps r id (taken r s) (stepped r s)
+  pub step_keeps : (s : RingStep) → Keeps r id (taken r s) (stepped r s)
   step_keeps (On Start) = start_keeps r.phase
   step_keeps (On Stop) = stop_keeps (is_idle r) r.owes
   step_keeps (On (Enable on)) = append-nil (under_way r id)

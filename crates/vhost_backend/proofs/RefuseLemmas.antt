@@ -27,7 +27,7 @@ use Rattle.vhost_backend.proofs.FitLemmas.{FitsUntil, until_fits}
 use Rattle.vhost_backend.proofs.MessageLemmas.{becomes, placed_connection, placed_rings, refreshed_connection}
 use Rattle.vhost_backend.proofs.OwnWayLemmas.{held_rings, released_same}
 use Rattle.vhost_backend.specs.Backend.{BackendState, after_event, after_finish, after_message, begun, begun_by, begun_or_waits, decoded, finish_by, finished, happened, happened_by, is_due, is_free, is_outer, new_backend, placed, rebased, rebased_at, rebased_by, refused, released, stopped_ring, taken_until, to_do, to_place, until_of, waited, with_outcome}
-use Rattle.vhost_backend.specs.Messages.{Happening, Came, Done, Told, after, all_events, stepped}
+use Rattle.vhost_backend.specs.Messages.{Happening, Came, Done, Told, HungUp, after, all_events, stepped}
 use Rattle.vhost_backend.specs.Ring.{new_ring}
 use Rattle.vhost_backend.specs.Rings.{Happens, RingsState, happens, held, holding, nothing, now_held}
 use Rattle.vhost_backend.specs.Rings.{is_free as is_free_hold}
@@ -161,7 +161,7 @@ none_past xs i none = elim (slice_get_cases xs i).1 [
 ]
 
 -- a ring that is there can be stopped
-stops_there : (s : Connection) (request : FrontendReq) (payload : List ℕ) (i : ℕ) (e : Refusal)
+pub stops_there : (s : Connection) (request : FrontendReq) (payload : List ℕ) (i : ℕ) (e : Refusal)
     → stopped_ring request ≡ Some i → i < length s.vrings → served s request payload ≡ Err e → ⊥
 stops_there s req.GetFeatures payload i e is below fails = absurd (cc)
 stops_there s (req.SetFeatures features) payload i e is below fails = absurd (cc)
@@ -198,7 +198,7 @@ stops_there s (req.GetVringBase index) payload i e is below fails = go (slice_ge
 -- ---- as many rings as the protocol has
 
 -- a step leaves as many rings in the protocol's state
-abbrev Keeps : BackendState → BackendState → Type 0
+abbrev pub Keeps : BackendState → BackendState → Type 0
 Keeps b new = length new.connection.vrings ≡ length b.connection.vrings
 
 begun_keeps : (b : BackendState) (h : Header) (request : FrontendReq) (payload : List ℕ)
@@ -244,6 +244,7 @@ module _ (b : BackendState) where
     where
       happened_keeps : (old : BackendState) (done : Actions) (t : Taken) → Keeps old (happened_by old done t).0
       happened_keeps old done taken.Nothing = refl
+      happened_keeps old done taken.Over = refl
       happened_keeps old done (taken.Begun h request) = refl
       happened_keeps old done (taken.Waits h request until) = due_keeps old h request [] until (is_due until done)
 
@@ -277,19 +278,21 @@ module _ (b : BackendState) where
 
       go : (t : Taken) → Keeps b (finish_by b f t).0
       go taken.Nothing = refl
+      go taken.Over = refl
       go (taken.Waits h request until) = refl
       go (taken.Begun h request) = over request h (rebased (released b) request f) (ended request f)
 
-  step_keeps : (x : Happening) → Keeps b (stepped b x)
+  pub step_keeps : (x : Happening) → Keeps b (stepped b x)
   step_keeps (Came h payload n) = message_keeps h payload n
   step_keeps (Done end) = end_keeps end
   step_keeps (Told e) = event_keeps e
+  step_keeps HungUp = refl
 
 all_keep : (b : BackendState) (xs : List Happening) → Keeps b (after xs b)
 all_keep b [] = refl
 all_keep b (x ∷ xs) = all_keep (stepped b x) xs ∙ step_keeps b x
 
-same_count : (c : Connection) (ids : ℕ) (xs : List Happening) → let b = after xs (new_backend c ids) in
+pub same_count : (c : Connection) (ids : ℕ) (xs : List Happening) → let b = after xs (new_backend c ids) in
     length b.connection.vrings ≡ length b.rings.rings
 same_count c ids xs =
     let b0 = new_backend c ids in
@@ -319,7 +322,7 @@ due_stays b old s h request payload until true same rings e bytes is =
 due_stays b old s h request payload until false same rings e bytes is = absurd (cc)
 
 -- a hold leaves each ring as it is
-hold_rings : (s : RingsState) → (happens s event.Hold).0.rings ≡ s.rings
+pub hold_rings : (s : RingsState) → (happens s event.Hold).0.rings ≡ s.rings
 hold_rings s = go (is_free_hold s.hold)
   where
     go : (free : Bool) → (let t : Happens = if free
@@ -347,6 +350,7 @@ event_stays b x =
     happened_stays : (old : BackendState) (done : Actions) (t : Taken) → old.connection ≡ b.connection
         → old.rings.rings ≡ s.rings → KeptBy b s (happened_by old done t)
     happened_stays old done taken.Nothing same rings = nothing_refused b s (old, Stays) refl
+    happened_stays old done taken.Over same rings = nothing_refused b s (old, Stays) refl
     happened_stays old done (taken.Begun h request) same rings = nothing_refused b s (old, Stays) refl
     happened_stays old done (taken.Waits h request until) same rings =
         due_stays b old s h request [] until (is_due until done) same rings

@@ -13,9 +13,12 @@ use Rattle.vhost_user.specs.Reply.{reply_to}
 use Rattle.vhost_user.specs.Reply as reply
 use Rattle.vhost_user.specs.Running.{running}
 use Rattle.vhost_backend.specs.Actions.{is_answer}
-use Rattle.vhost_backend.specs.Rings.{RingsState, happens, is_stopped_at, new_rings, nothing}
+use Rattle.vhost_backend.specs.Mapping.{mapping_of}
+use Rattle.vhost_backend.specs.Rings.{RingsState, happens, is_held, is_stopped_at, new_rings, nothing}
 use Rattle.vhost_backend.specs.declared.backend.Finish.{Finish}
 use Rattle.vhost_backend.specs.declared.backend.Finish.TheVariants.{Done, At, Failed}
+use Rattle.vhost_backend.specs.declared.backend.Next.{Next}
+use Rattle.vhost_backend.specs.declared.backend.Next.TheVariants as next
 use Rattle.vhost_backend.specs.declared.backend.Outcome.{Outcome}
 use Rattle.vhost_backend.specs.declared.backend.Outcome.TheVariants.{Stays, Begins, Refused}
 use Rattle.vhost_backend.specs.declared.backend.Place.{Place}
@@ -26,6 +29,7 @@ use Rattle.vhost_backend.specs.declared.backend.Taken.TheVariants as taken
 use Rattle.vhost_backend.specs.declared.backend.Todo.{Todo}
 use Rattle.vhost_backend.specs.declared.backend.Until.{Until}
 use Rattle.vhost_backend.specs.declared.backend.Until.TheVariants.{Now, Ring, AllRings}
+use Rattle.vhost_backend.specs.declared.mapping.Mapping.{Mapping}
 use Rattle.vhost_backend.specs.declared.ring.RingEvent.TheVariants.{Start, Stop, Enable}
 use Rattle.vhost_backend.specs.declared.rings.Actions.{Actions}
 use Rattle.vhost_backend.specs.declared.rings.Event.{Event}
@@ -47,6 +51,19 @@ new_backend c ids = let count = length c.vrings in
 abbrev pub is_free : Taken → Bool
 is_free taken.Nothing = true
 is_free _ = false
+
+abbrev pub is_over : Taken → Bool
+is_over taken.Over = true
+is_over _ = false
+
+-- whether it is over, and nothing is under way any more
+abbrev pub is_at_rest : BackendState → Bool
+is_at_rest b = is_over b.taken && is_held b.rings.hold
+
+-- what is to be done with mappings by the message that took effect
+abbrev pub mapping_at : Taken → ℕ → Option Mapping
+mapping_at (taken.Begun h request) number = mapping_of request number
+mapping_at _ number = None
 
 -- what is to be done, by what is to be done for a ring
 abbrev pub to_do : Actions → Option Place → Outcome → Todo
@@ -165,6 +182,10 @@ after_event b e = if is_outer e then (let t = happens b.rings e in
 
 -- ---- the end of a message
 
+-- the connection is over: none is taken any more, and no chain is popped
+abbrev pub over : BackendState → BackendState
+over b = record b { taken = taken.Over; rings = (happens b.rings event.Hold).0 }
+
 -- whether it was done, and the ring that it stopped goes on from its base
 abbrev pub rebased_by : BackendState → Result Connection Refusal → BackendState × Bool
 rebased_by b (Ok new) = (record b { connection = new }, true)
@@ -200,15 +221,15 @@ abbrev pub refreshed : ℕ → BackendState → BackendState
 refreshed zero b = b
 refreshed (suc n) b = refreshed_one (refreshed n b) n
 
-abbrev pub finished : FrontendReq → Header → BackendState × Bool → BackendState × (List ℕ × Bool)
+abbrev pub finished : FrontendReq → Header → BackendState × Bool → BackendState × (List ℕ × Next)
 finished request h (b, true) = let new = refreshed (length b.placings) b in
-    (new, (reply_to new.connection h request, true))
-finished request h (b, false) = (b, (reply.refused b.connection h, false))
+    (new, (reply_to new.connection h request, next.Messages))
+finished request h (b, false) = (over b, (reply.refused b.connection h, next.End))
 
--- the message that took effect is answered, and rings start and run by it
-abbrev pub finish_by : BackendState → Finish → Taken → BackendState × (List ℕ × Bool)
+-- the message that took effect is answered, and rings start and run by it. If it could not be done, the connection is over
+abbrev pub finish_by : BackendState → Finish → Taken → BackendState × (List ℕ × Next)
 finish_by b end (taken.Begun h request) = finished request h (rebased (released b) request end)
-finish_by b end _ = (b, ([], true))
+finish_by b end _ = (b, ([], next.Messages))
 
-abbrev pub after_finish : BackendState → Finish → BackendState × (List ℕ × Bool)
+abbrev pub after_finish : BackendState → Finish → BackendState × (List ℕ × Next)
 after_finish b end = finish_by b end b.taken

@@ -1,6 +1,5 @@
 -- A connection with one ring and a request that is under way, and what happens to it.
 use Rattle.std.specs.Prelude.{ℕ, List, [], ◌∷◌, true, map, replicate}
-use Rattle.vhost_message.specs.declared.header.Header.{Header}
 use Rattle.vhost_user.specs.Connection.{connected}
 use Rattle.vhost_user.specs.declared.backend_req_handler.Offer.{Offer}
 use Rattle.vhost_backend.specs.Backend.{BackendState, new_backend}

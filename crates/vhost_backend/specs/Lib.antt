@@ -1,11 +1,17 @@
 pub mod Actions
 pub mod Backend
 pub mod Block
+pub mod BlockQueue
+pub mod BlockTurn
 pub mod Examples
 pub mod Line
+pub mod Mapping
+pub mod Marks
 pub mod Messages
 pub mod Parts
+pub mod Pieces
 pub mod Ring
+pub mod RingMemory
 pub mod Rings
 pub mod Story
 pub mod Turns

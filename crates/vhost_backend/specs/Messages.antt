@@ -1,5 +1,5 @@
 -- The story of a connection: all that happens to it, what becomes of it, and what happens to its rings by that.
-use Rattle.std.specs.Prelude.{ℕ, zero, suc, ◌+◌, Bool, true, false, ◌==◌, if◌then◌else◌, List, [], ◌∷◌, ◌++◌, length, Result, Ok, Err, is_ok}
+use Rattle.std.specs.Prelude.{ℕ, zero, suc, ◌+◌, Bool, true, false, ◌==◌, if◌then◌else◌, List, [], ◌∷◌, ◌++◌, length, Option, Some, None, Result, Ok, Err, is_ok}
 use Rattle.std.specs.List.{flat_map}
 use Rattle.vhost_message.specs.FrontendReq.{descriptors_of, request_of}
 use Rattle.vhost_message.specs.declared.frontend_req.FrontendReq.{FrontendReq}
@@ -8,11 +8,14 @@ use Rattle.vhost_message.specs.declared.header.Header.{Header}
 use Rattle.vhost_message.specs.declared.refusal.Refusal.{Refusal}
 use Rattle.vhost_user.specs.Connection.{Connection, served}
 use Rattle.vhost_user.specs.Running.{running}
-use Rattle.vhost_backend.specs.Backend.{BackendState, after_event, after_finish, after_message, is_due, is_free, is_outer, rebased, released, until_of, waited}
+use Rattle.vhost_user.specs.declared.vring.NotRunning.{NotRunning}
+use Rattle.vhost_user.specs.declared.vring.RunningVring.{RunningVring}
+use Rattle.vhost_backend.specs.Backend.{BackendState, after_event, after_finish, after_message, is_due, is_free, is_outer, over, rebased, released, until_of, waited}
 use Rattle.vhost_backend.specs.Rings.{happens}
 use Rattle.vhost_backend.specs.declared.backend.Finish.{Finish}
 use Rattle.vhost_backend.specs.declared.backend.Outcome.{Outcome}
 use Rattle.vhost_backend.specs.declared.backend.Outcome.TheVariants.{Refused}
+use Rattle.vhost_backend.specs.declared.backend.Place.{Place}
 use Rattle.vhost_backend.specs.declared.backend.Taken.{Taken}
 use Rattle.vhost_backend.specs.declared.backend.Taken.TheVariants as taken
 use Rattle.vhost_backend.specs.declared.backend.Todo.{Todo}
@@ -30,11 +33,14 @@ pub data Happening : Type 0 where
   Done : Finish → Happening
   -- something happened to rings
   Told : Event → Happening
+  -- the front end ended it
+  HungUp : Happening
 
 abbrev pub stepped : BackendState → Happening → BackendState
 stepped b (Came h payload descriptors) = (after_message b h payload descriptors).0
 stepped b (Done end) = (after_finish b end).0
 stepped b (Told e) = (after_event b e).0
+stepped b HungUp = over b
 
 -- what becomes of it
 abbrev pub after : List Happening → BackendState → BackendState
@@ -46,6 +52,7 @@ abbrev pub to_do : BackendState → Happening → List Todo
 to_do b (Came h payload descriptors) = (after_message b h payload descriptors).1 ∷ []
 to_do b (Done end) = []
 to_do b (Told e) = (after_event b e).1 ∷ []
+to_do b HungUp = []
 
 abbrev pub all_to_do : List Happening → BackendState → List Todo
 all_to_do [] b = []
@@ -98,9 +105,13 @@ refreshing c zero = []
 refreshing c (suc n) = refreshing c n
     ++ (event.Ring n (Enable (is_ok (running c n))) ∷ starts_if (is_ok (running c n)) n)
 
+-- none has a turn any more
+abbrev pub ending : List Event
+ending = event.Hold ∷ []
+
 abbrev pub events_if_done : BackendState × Bool → List Event
 events_if_done (b, true) = refreshing b.connection (length b.placings)
-events_if_done (b, false) = []
+events_if_done (b, false) = ending
 
 abbrev pub events_of_end : BackendState → Finish → Taken → List Event
 events_of_end b end (taken.Begun h request) =
@@ -113,10 +124,26 @@ events_of b (Came h payload descriptors) = if is_free b.taken
     then events_of_decoded b payload descriptors (request_of h payload) else []
 events_of b (Done end) = events_of_end b end b.taken
 events_of b (Told e) = if is_outer e then e ∷ events_of_waiting b e b.taken else []
+events_of b HungUp = ending
 
 abbrev pub all_events : List Happening → BackendState → List Event
 all_events [] b = []
 all_events (x ∷ xs) b = events_of b x ++ all_events xs (stepped b x)
+
+-- ---- places
+
+-- where the queue of a ring was told last that it lies, if it was told so far
+abbrev pub Lies : Type 0
+Lies = Option (Result RunningVring NotRunning)
+
+abbrev pub told_by : Option Place → Lies → Lies
+told_by None before = before
+told_by (Some place) before = Some place.vring
+
+abbrev pub told_last : ℕ → Lies → List Todo → Lies
+told_last ring before [] = before
+told_last ring before (todo ∷ rest) =
+    told_last ring (if todo.ring == ring then told_by todo.place before else before) rest
 
 -- ---- messages
 
@@ -136,7 +163,7 @@ abbrev pub taken_count : List Happening → BackendState → ℕ
 taken_count [] b = 0
 taken_count (x ∷ xs) b = (if is_taken b x then 1 else 0) + taken_count xs (stepped b x)
 
--- how many of them are over: refused or finished
+-- how many of them are over: refused, finished, or dropped since the connection ended
 abbrev pub is_refused : Outcome → Bool
 is_refused (Refused e bytes) = true
 is_refused _ = false
@@ -145,10 +172,16 @@ abbrev pub is_begun : Taken → Bool
 is_begun (taken.Begun h request) = true
 is_begun _ = false
 
+abbrev pub is_pending : Taken → Bool
+is_pending (taken.Waits h request until) = true
+is_pending (taken.Begun h request) = true
+is_pending _ = false
+
 abbrev pub is_over : BackendState → Happening → Bool
 is_over b (Came h payload descriptors) = is_refused (after_message b h payload descriptors).1.message
 is_over b (Done end) = is_begun b.taken
 is_over b (Told e) = is_refused (after_event b e).1.message
+is_over b HungUp = is_pending b.taken
 
 abbrev pub over_count : List Happening → BackendState → ℕ
 over_count [] b = 0
@@ -156,4 +189,4 @@ over_count (x ∷ xs) b = (if is_over b x then 1 else 0) + over_count xs (steppe
 
 -- whether one was taken and is not over
 abbrev pub pending : BackendState → ℕ
-pending b = if is_free b.taken then 0 else 1
+pending b = if is_pending b.taken then 1 else 0

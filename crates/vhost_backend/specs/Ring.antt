@@ -44,6 +44,10 @@ abbrev pub is_stopping : Phase → Bool
 is_stopping Stopping = true
 is_stopping _ = false
 
+abbrev pub is_broken : Phase → Bool
+is_broken Broken = true
+is_broken _ = false
+
 -- whether it may pop chains
 abbrev pub may_run : RingState → Bool
 may_run r = is_started r.phase && r.enabled

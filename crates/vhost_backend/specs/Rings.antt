@@ -45,6 +45,10 @@ abbrev pub is_waiting : Hold → Bool
 is_waiting Waiting = true
 is_waiting _ = false
 
+abbrev pub is_held : Hold → Bool
+is_held Held = true
+is_held _ = false
+
 -- one that waits is done when nothing is under way
 abbrev pub now_held : RingsState → Bool
 now_held s = is_waiting s.hold && all_idle s.rings

@@ -2,6 +2,7 @@
 ghost use Rattle.std.specs.Prelude.{◌≡◌};
 ghost use Rattle.vhost_backend.specs.Backend.{is_due, is_outer, moved, to_do};
 
+use crate::mapping::{Mapping, mapping_of};
 use crate::ring::{RingActions, RingEvent};
 use crate::rings::{Actions, Event, Rings, nothing};
 use std::alloc::Global;
@@ -30,6 +31,8 @@ pub enum Taken {
     Waits(Header, FrontendReq, Until),
     /// It took effect, and what it asks for is being done.
     Begun(Header, FrontendReq),
+    /// The connection is over: none is taken any more.
+    Over,
 }
 
 /// Whether the queue of a ring was told where that lies.
@@ -72,6 +75,15 @@ pub enum Finish {
     At(u32),
     /// It could not be done.
     Failed,
+}
+
+/// What comes after a message that was finished.
+#[derive(Clone, Copy, Debug)]
+pub enum Next {
+    /// Further messages.
+    Messages,
+    /// The end of the connection, since the message could not be done.
+    End,
 }
 
 /// What is to be done, in this order, before the next event.
@@ -158,7 +170,7 @@ impl Backend {
     ghost use Rattle.std.specs.Prelude.{◌<◌, false, length, true, MatchResult};
     ghost use Rattle.vhost_user.specs.Connection.{can_offer, connected};
     ghost use Rattle.vhost_user.specs.declared.backend_req_handler.OfferError.TheVariants.{Invalid, Memory};
-    ghost use Rattle.vhost_backend.specs.Backend.{after_event, after_finish, after_message, begun, begun_or_waits, happened, is_free, new_backend, placed, rebased, refreshed_one, refused, released, to_place, until_of, waiting};
+    ghost use Rattle.vhost_backend.specs.Backend.{after_event, after_finish, after_message, begun, begun_or_waits, happened, is_at_rest, is_free, is_over, mapping_at, new_backend, over, placed, rebased, refreshed_one, refused, released, to_place, until_of, waiting};
 
     /// A new connection, as from `BackendReqHandler::new`. The ids of its rings' chains are below `ids`.
     ///
@@ -214,6 +226,36 @@ impl Backend {
         match self.taken {
             Taken::Nothing => true,
             _ => false,
+        }
+    }
+
+    /// Whether the connection is over. No message is taken then, and no chain is popped. What is under way is returned.
+    #[inline]
+    pub fn is_over(&self) -> bool
+        ensures { result ≡ is_over self.now.taken }
+    {
+        match self.taken {
+            Taken::Over => true,
+            _ => false,
+        }
+    }
+
+    /// Whether the connection is over, and nothing is under way any more: memory and descriptors may go.
+    #[inline]
+    pub fn is_at_rest(&self) -> bool
+        ensures { result ≡ is_at_rest self.now }
+    {
+        self.is_over() && self.rings.is_held()
+    }
+
+    /// What is to be done with the mappings of guest memory before the message that took effect is finished: one after
+    /// another, from number 0 on, until there is none.
+    pub fn mapping(&self, number: usize) -> Option<Mapping>
+        ensures { result ≡ mapping_at self.now.taken number }
+    {
+        match &self.taken {
+            Taken::Begun(_, request) => mapping_of(request, number),
+            _ => None,
         }
     }
 
@@ -406,26 +448,37 @@ impl Backend {
         self.rings.handle(Event::Release);
     }
 
+    /// Ends the connection, as if the front end had ended it: the message that was taken is dropped, none is taken any
+    /// more, and no chain is popped. What is under way is returned.
+    pub fn hang_up(&mut self)
+        ensures { self.new ≡ over self.old }
+    {
+        self.taken = Taken::Over;
+        self.rings.handle(Event::Hold);
+    }
+
     /// Finishes the message that took effect: rings start and run as the protocol's state has it, and the bytes of the
     /// reply are returned, if one is due. If the message could not be done, or the base of a ring cannot be replied,
-    /// that is false, and the bytes say so if the front end asked for that.
-    pub fn finish(&mut self, end: Finish) -> (Message, bool)
+    /// the connection is over: the bytes say so if the front end asked for that, and are the last that are sent.
+    pub fn finish(&mut self, end: Finish) -> (Message, Next)
         ensures { (self.new, result) ≡ after_finish self.old end }
     {
         match mem::replace(&mut self.taken, Taken::Nothing) {
             Taken::Begun(header, request) => {
                 self.release();
                 if !self.rebase(&request, end) {
-                    return (self.connection.refuse(&header), false);
+                    let reply = self.connection.refuse(&header);
+                    self.hang_up();
+                    return (reply, Next::End);
                 }
                 for ring in 0..self.placings.len() {
                     self.refresh(ring);
                 }
-                (self.connection.reply(&header, &request), true)
+                (self.connection.reply(&header, &request), Next::Messages)
             }
             other => {
                 self.taken = other;
-                (Message::new(), true)
+                (Message::new(), Next::Messages)
             }
         }
     }

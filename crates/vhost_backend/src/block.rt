@@ -3,7 +3,7 @@ ghost use Rattle.std.specs.Prelude.{◌≡◌, ◌+◌, ◌<◌, ◌≤◌, ℕ,
 ghost use Rattle.virtio_blk.specs.Steps.{FitsOn};
 ghost use Rattle.virtio_blk.specs.declared.request.Request.{Request};
 ghost use Rattle.virtio_blk.specs.declared.request.Request.TheVariants as request;
-ghost use Rattle.vhost_backend.specs.Block.{LiesOn, Short, block_parts, block_step, status_of, written_of};
+ghost use Rattle.vhost_backend.specs.Block.{LiesOn, Short, block_parts, block_step, len_of, status_of, written_of};
 ghost use Rattle.vhost_backend.specs.declared.block.BlockStep.TheVariants as step;
 
 use crate::parts::{next_part, parts_of};
@@ -20,6 +20,16 @@ pub enum BlockStep {
     Flush,
     /// So many bytes of the device's name go to the front of the chain's writable bytes.
     Name { len: u32 },
+}
+
+/// How many bytes of data a request has.
+pub fn len_of(request: Request) -> usize
+    ensures { result ≡ len_of request }
+{
+    match request {
+        Request::Read { len, .. } | Request::Write { len, .. } | Request::GetId { len } => len,
+        Request::Flush | Request::Refused { .. } | Request::Unserved => 0,
+    }
 }
 
 /// How many parts a request has. One without parts is answered at once. A write that has to be stable ends with a part

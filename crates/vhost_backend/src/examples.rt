@@ -9,6 +9,7 @@ ghost use Rattle.vhost_backend.specs.Story.{On, Turn, actions};
 ghost use Rattle.vhost_backend.specs.Turns.{all_done, turns};
 ghost use Rattle.vhost_backend.specs.Turns as turn;
 ghost use Rattle.vhost_backend.specs.declared.backend.Finish.TheVariants.{At};
+ghost use Rattle.vhost_backend.specs.declared.backend.Next.TheVariants.{Messages};
 ghost use Rattle.vhost_backend.specs.declared.backend.Outcome.TheVariants.{Begins, Stays};
 ghost use Rattle.vhost_backend.specs.declared.request.PartEnd.TheVariants.{Failed, Moved};
 ghost use Rattle.vhost_backend.specs.declared.ring.RingEvent.TheVariants.{Emptied, Enable, Ended, Kick, Popped, Start, Stop};
@@ -76,7 +77,7 @@ pub fn a_base_is_replied_after_all_requests()
     ensures done { ring_actions 0 (all_to_do base_asked (one_busy_ring 512))
         ≡ action.Return (record { id = 2; slots = 1 }) 512 false ∷ action.Notify ∷ action.Stopped ∷ [] }
     ensures reply { (after_finish (after base_asked (one_busy_ring 512)) (At 5)).1
-        ≡ (11 ∷ 0 ∷ 0 ∷ 0 ∷ 5 ∷ 0 ∷ 0 ∷ 0 ∷ 8 ∷ 0 ∷ 0 ∷ 0 ∷ 0 ∷ 0 ∷ 0 ∷ 0 ∷ 5 ∷ 0 ∷ 0 ∷ 0 ∷ [], true) }
+        ≡ (11 ∷ 0 ∷ 0 ∷ 0 ∷ 5 ∷ 0 ∷ 0 ∷ 0 ∷ 8 ∷ 0 ∷ 0 ∷ 0 ∷ 0 ∷ 0 ∷ 0 ∷ 0 ∷ 5 ∷ 0 ∷ 0 ∷ 0 ∷ [], Messages) }
 {}
 
 /// A new table of memory, which is empty here, takes effect after that request, too, and no chain is popped before that.

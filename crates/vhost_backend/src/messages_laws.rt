@@ -1,18 +1,24 @@
 //! What holds of every connection, whatever happens: each function here is a theorem, and does nothing.
-ghost use Rattle.std.specs.Prelude.{◌≡◌, ◌+◌, ◌<◌, ℕ, List, length, true, false, Some, slice_get};
+ghost use Rattle.std.specs.Prelude.{◌≡◌, ◌+◌, ◌++◌, ◌&&◌, ◌==◌, not, ℕ, List, [], length, true, false, Some, None, is_ok, option_map, slice_get};
 ghost use Rattle.vhost_message.specs.declared.frontend_req.FrontendReq.{FrontendReq};
-ghost use Rattle.vhost_message.specs.declared.frontend_req.FrontendReq.TheVariants.{GetVringBase};
+ghost use Rattle.vhost_message.specs.declared.frontend_req.FrontendReq.TheVariants.{GetVringBase, SetMemTable};
 ghost use Rattle.vhost_message.specs.declared.header.Header.{Header};
 ghost use Rattle.vhost_message.specs.declared.refusal.Refusal.{Refusal};
-ghost use Rattle.vhost_user.specs.Connection.{Connection};
-ghost use Rattle.vhost_backend.specs.Backend.{BackendState, after_event, after_message, new_backend};
-ghost use Rattle.vhost_backend.specs.Messages.{Happening, after, all_events, all_to_do, changes_all, over_count, pending, ring_actions, taken_count};
-ghost use Rattle.vhost_backend.specs.Ring.{RingState, is_idle};
+ghost use Rattle.vhost_message.specs.declared.regions.MemoryRegion.{MemoryRegion};
+ghost use Rattle.vhost_user.specs.Connection.{Connection, connected};
+ghost use Rattle.vhost_user.specs.Running.{running};
+ghost use Rattle.vhost_user.specs.declared.backend_req_handler.Offer.{Offer};
+ghost use Rattle.vhost_backend.specs.Backend.{BackendState, after_event, after_message, is_at_rest, is_free, mapping_at, new_backend};
+ghost use Rattle.vhost_backend.specs.Messages.{Happening, after, all_events, all_to_do, changes_all, over_count, pending, ring_actions, taken_count, to_do, told_last};
+ghost use Rattle.vhost_backend.specs.Ring.{RingState, is_broken, is_idle, may_run};
 ghost use Rattle.vhost_backend.specs.Rings.{all_idle, happens};
-ghost use Rattle.vhost_backend.specs.Turns.{actions_of, after_all, all_done};
+ghost use Rattle.vhost_backend.specs.Turns.{actions_of, after_all, all_done, any_touches};
+ghost use Rattle.vhost_backend.specs.Turns as turn;
 ghost use Rattle.vhost_backend.specs.declared.backend.Outcome.TheVariants.{Refused};
 ghost use Rattle.vhost_backend.specs.declared.backend.Taken.TheVariants as taken;
 ghost use Rattle.vhost_backend.specs.declared.backend.Until.TheVariants as until;
+ghost use Rattle.vhost_backend.specs.declared.mapping.Mapping.{Mapping};
+ghost use Rattle.vhost_backend.specs.declared.mapping.Mapping.TheVariants.{Map, UnmapAll};
 ghost use Rattle.vhost_backend.specs.declared.ring.Phase.TheVariants.{Stopped};
 ghost use Rattle.vhost_backend.specs.declared.rings.Event.{Event};
 ghost use Rattle.vhost_backend.specs.declared.rings.Hold.TheVariants.{Held};
@@ -32,6 +38,38 @@ pub fn each_message_is_answered_once()
         → pending b + taken_count xs b ≡ over_count xs b + pending (after xs b) }
 {}
 
+/// After the connection ended, or a message could not be done, no message is taken, the protocol's state stays, and no
+/// chain is popped. When nothing is under way any more, nothing has guest memory read or written.
+pub fn nothing_comes_after_the_end()
+    ensures stays { (b : BackendState) (later : List Happening) → b.taken ≡ taken.Over
+        → ((after later b).taken ≡ taken.Over) × ((after later b).connection ≡ b.connection)
+        × (taken_count later b ≡ 0) }
+    ensures pops_nothing { (c : Connection) (ids : ℕ) (xs later : List Happening)
+        → let b = after xs (new_backend c ids) in b.taken ≡ taken.Over
+        → turn.popped (all_events later b) b.rings ≡ [] }
+    ensures rests { (c : Connection) (ids : ℕ) (xs later : List Happening)
+        → let b = after xs (new_backend c ids) in is_at_rest b ≡ true
+        → (all_idle b.rings.rings ≡ true) × (any_touches (all_done (all_events later b) b.rings) ≡ false) }
+{}
+
+/// Between messages a ring runs exactly if the protocol's state has it run, except that one which broke runs after it was
+/// stopped and started again.
+pub fn rings_run_as_the_protocol_has_it()
+    ensures { (offer : Offer) (queues ids : ℕ) (config : List ℕ) (xs : List Happening) (i : ℕ) (ring : RingState)
+        → let b = after xs (new_backend (connected offer queues config) ids) in is_free b.taken ≡ true
+        → slice_get b.rings.rings i ≡ Some ring
+        → may_run ring ≡ (is_ok (running b.connection i) && not (is_broken ring.phase)) }
+{}
+
+/// Before something is done for a ring between messages, its queue was told that it lies where the protocol's state has
+/// it.
+pub fn queues_are_told_where_rings_lie()
+    ensures { (c : Connection) (ids : ℕ) (xs : List Happening) (x : Happening) (i : ℕ) (ring : RingState)
+        → let b = after xs (new_backend c ids) in is_free b.taken ≡ true → slice_get b.rings.rings i ≡ Some ring
+        → (length (ring_actions i (to_do b x)) == 0) ≡ false
+        → told_last i None (all_to_do xs (new_backend c ids) ++ to_do b x) ≡ Some (running b.connection i) }
+{}
+
 /// A message that changes memory, features or the log takes effect when nothing is under way, and until it is
 /// finished nothing is begun. The base of a ring is replied when nothing of that is under way, and it is stopped.
 pub fn what_a_message_changes_is_at_rest()
@@ -41,6 +79,19 @@ pub fn what_a_message_changes_is_at_rest()
     ensures one { (c : Connection) (ids : ℕ) (xs : List Happening) (h : Header) (i : ℕ) (ring : RingState)
         → let b = after xs (new_backend c ids) in b.taken ≡ taken.Begun h (GetVringBase i)
         → slice_get b.rings.rings i ≡ Some ring → (ring.phase ≡ Stopped) × (is_idle ring ≡ true) }
+{}
+
+/// Guest memory is mapped and unmapped when nothing is under way, until the message is finished. The regions of a table
+/// are mapped in order, each once and from its own descriptor, after what was mapped is gone.
+pub fn memory_is_mapped_at_rest()
+    ensures rest { (c : Connection) (ids : ℕ) (xs : List Happening) (number : ℕ) (mapping : Mapping)
+        → let b = after xs (new_backend c ids) in mapping_at b.taken number ≡ Some mapping
+        → (b.rings.hold ≡ Held) × (all_idle b.rings.rings ≡ true) }
+    ensures first { (h : Header) (table : List MemoryRegion)
+        → mapping_at (taken.Begun h (SetMemTable table)) 0 ≡ Some UnmapAll }
+    ensures each { (h : Header) (table : List MemoryRegion) (k : ℕ)
+        → mapping_at (taken.Begun h (SetMemTable table)) (k + 1)
+        ≡ option_map (λ region. Map region k) (slice_get table k) }
 {}
 
 /// A message that waits does so for something that is under way, whose ends let it take effect.

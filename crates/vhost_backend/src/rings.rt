@@ -179,7 +179,7 @@ impl Model for Rings {
 
 impl Rings {
     ghost use Rattle.std.specs.Prelude.{length, slice_get};
-    ghost use Rattle.vhost_backend.specs.Rings.{after_go_on, after_hold, after_release, happens, has_next, held, is_stopped_at, may_pop, new_rings, now_held, on, settled_step, turn_taken};
+    ghost use Rattle.vhost_backend.specs.Rings.{after_go_on, after_hold, after_release, happens, has_next, held, is_held, is_stopped_at, may_pop, new_rings, now_held, on, settled_step, turn_taken};
 
     /// Stopped rings. The ids of their chains are below `ids`.
     pub fn new(alloc: Global, count: usize, ids: usize) -> Result<Rings, AllocError>
@@ -228,6 +228,17 @@ impl Rings {
     {
         match self.hold {
             Hold::Free => !self.line.is_empty(),
+            _ => false,
+        }
+    }
+
+    /// Whether a message holds all rings, and nothing is under way.
+    #[inline]
+    pub fn is_held(&self) -> bool
+        ensures { result ≡ is_held self.now.hold }
+    {
+        match self.hold {
+            Hold::Held => true,
             _ => false,
         }
     }

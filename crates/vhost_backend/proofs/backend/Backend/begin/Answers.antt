@@ -1,7 +1,4 @@
-use Rattle.std.proofs.Common.{◌≡◌, ◌∙◌, Result, Ok, Err, refl, ap, sym}
-use Rattle.vhost_user.specs.Connection.{Connection, served}
-use Rattle.vhost_message.specs.declared.refusal.Refusal.{Refusal}
-use Rattle.vhost_backend.specs.Backend.{BackendState, begun}
+use Rattle.std.proofs.Common.{refl, ap}
 use Rattle.vhost_backend.proofs.backend.Backend.begin.Goals as goal
 
 pub returns-in-Err : goal.returns-in-Err

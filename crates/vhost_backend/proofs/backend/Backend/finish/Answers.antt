@@ -1,6 +1,6 @@
-use Rattle.std.proofs.Common.{◌≡◌, ◌∙◌, ◌<◌, ◌≤◌, true, length, refl, ap, sym, arith}
+use Rattle.std.proofs.Common.{◌≡◌, ◌∙◌, length, refl, ap, sym, arith}
 use Rattle.vhost_user.specs.Reply.{refused, reply_to}
-use Rattle.vhost_backend.specs.Backend.{BackendState, rebased, released}
+use Rattle.vhost_backend.specs.Backend.{rebased, released}
 use Rattle.vhost_backend.proofs.BackendLemmas.{finished_is, refused_is, refreshed_length, refreshed_next}
 use Rattle.vhost_backend.proofs.backend.Backend.finish.Goals as goal
 
@@ -40,8 +40,8 @@ returns-after-loop-ring c =
 pub returns-then-not-rebase : goal.returns-then-not-rebase
 returns-then-not-rebase c =
     let begun = sym c.replace.ensures.value ∙ c.in-Begun.is in
-    let replies = c.refuse.ensures ∙ ap (λ b. refused b.connection c.in-Begun.header) c.self-in-Begun.view_is in
+    let replies = c.refuse-reply.ensures ∙ ap (λ b. refused b.connection c.in-Begun.header) c.self-then-not-rebase.view_is in
     let based = c.if-not-rebase.ensures ∙ ap (λ b. rebased b c.in-Begun.request c.args.end) c.release.ensures
     ∙ ap (λ b. rebased (released b) c.in-Begun.request c.args.end) c.self.view_is in
-    rw (← c.self.view_is, begun) (refused_is c.in-Begun.request c.in-Begun.header c.rebase.new.self _ c.refuse.result
-    based replies)
+    rw (← c.self.view_is, begun) (refused_is c.in-Begun.request c.in-Begun.header c.rebase.new.self c.hang_up.new.self _
+    c.refuse-reply.result based replies c.hang_up.ensures)

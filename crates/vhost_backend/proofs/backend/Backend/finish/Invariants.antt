@@ -1,4 +1,4 @@
-use Rattle.std.proofs.Common.{◌≡◌, length}
+use Rattle.std.proofs.Common.{◌≡◌}
 use Rattle.vhost_backend.specs.Backend.{refreshed}
 use Rattle.vhost_backend.proofs.backend.Backend.finish.Given as goal
 

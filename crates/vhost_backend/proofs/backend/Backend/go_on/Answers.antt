@@ -1,4 +1,4 @@
-use Rattle.std.proofs.Common.{◌≡◌, ◌∙◌, [], refl, ap, sym}
+use Rattle.std.proofs.Common.{◌∙◌, [], ap, sym}
 use Rattle.vhost_backend.specs.Backend.{BackendState, begun_or_waits, is_due}
 use Rattle.vhost_backend.specs.declared.backend.Taken.TheVariants as taken
 use Rattle.vhost_backend.proofs.BackendLemmas.{same_waits}

@@ -1,0 +1,175 @@
+-- The queue of a ring of a block device: what a pop and a return do, step by step, and what they leave.
+use Rattle.std.specs.Prelude.{◌≡◌, ◌⊎◌, ℕ, ◌<◌, ◌^◌, Bool, true, false, not, ◌&&◌, nat_lt, if◌then◌else◌, List, [], ◌∷◌, length, replicate, slice_get, slice_index_or, slice_set, Option, Some, None, is_some, Result, Ok, Err, MatchBool, MatchOption, MatchResult}
+use Rattle.vm_memory_guest.specs.declared.region.error.GuestMemoryError.{GuestMemoryError}
+use Rattle.vm_memory_device.specs.declared.chain.Segment.{Segment}
+use Rattle.virtio_queue.specs.Any.{after_used, past}
+use Rattle.virtio_queue.specs.declared.any.AnyQueue.{AnyQueue}
+use Rattle.virtio_queue.specs.declared.error.QueueError.{QueueError}
+use Rattle.virtio_queue.specs.declared.error.QueueError.TheVariants as errors
+use Rattle.virtio_queue.specs.declared.packed.state.PackedBuffer.{PackedBuffer}
+use Rattle.virtio_blk.specs.declared.request.Request.{Request}
+use Rattle.virtio_blk.specs.declared.request.Request.TheVariants.{Refused}
+use Rattle.virtio_blk.specs.declared.request.Terms.{Terms}
+use Rattle.vhost_backend.specs.Block.{Short, block_parts, len_of, status_of, written_of}
+use Rattle.vhost_backend.specs.Marks.{Marks, asking_marks, chain_marks, return_marks}
+use Rattle.vhost_backend.specs.Ring.{RingState, Step}
+use Rattle.vhost_backend.specs.RingMemory.{MemoryStep, Returned, adds_used, begins, enables, finishes, pops}
+use Rattle.vhost_backend.specs.Story.{busy, of_id, returned}
+use Rattle.vhost_backend.specs.declared.block_queue.Asked.{Asked}
+use Rattle.vhost_backend.specs.declared.block_queue.GiveBack.{GiveBack}
+use Rattle.vhost_backend.specs.declared.block_queue.GiveBack.TheVariants as back
+use Rattle.vhost_backend.specs.declared.block_queue.Pop.{Pop}
+use Rattle.vhost_backend.specs.declared.block_queue.Pop.TheVariants as pop
+use Rattle.vhost_backend.specs.declared.request.Chain.{Chain}
+use Rattle.vhost_backend.specs.declared.ring.RingEvent.{RingEvent}
+use Rattle.vhost_backend.specs.declared.ring.RingEvent.TheVariants.{Break, Popped, Emptied}
+
+pub record BlockQueueState : Type 0 where
+  pub queue : AnyQueue
+  -- for each id the request that is under way, if one is
+  pub asked : List (Option Asked)
+
+abbrev pub new_queue : AnyQueue → ℕ → BlockQueueState
+new_queue queue ids = record { queue = queue; asked = replicate ids None }
+
+abbrev pub asked_at : BlockQueueState → ℕ → Option Asked
+asked_at q id = slice_index_or q.asked id None
+
+abbrev pub with_asked : BlockQueueState → ℕ → Option Asked → BlockQueueState
+with_asked q id asked = record q { asked = slice_set q.asked id asked }
+
+abbrev pub with_queue : BlockQueueState → AnyQueue → BlockQueueState
+with_queue q queue = record q { queue = queue }
+
+-- a chain can be under way if its id has a place, and no other of this id is
+abbrev pub has_place : BlockQueueState → ℕ → Bool
+has_place q id = nat_lt id (length q.asked) && not (is_some (asked_at q id))
+
+-- each request that is under way has the data of one chain
+abbrev pub AllShort : List (Option Asked) → Type 0
+AllShort asked = (i : ℕ) (a : Asked) → slice_get asked i ≡ Some (Some a) → Short a.request
+
+-- one with more data than a chain can have is refused
+abbrev pub shortened : Request → Request
+shortened request = if nat_lt (len_of request) (2 ^ 32) then request else Refused 1
+
+-- ---- pops
+
+abbrev pub chain_by : PackedBuffer → Chain
+chain_by buffer = record { id = buffer.id; slots = buffer.slots }
+
+abbrev pub buffer_by : Chain → PackedBuffer
+buffer_by chain = record { id = chain.id; slots = chain.slots }
+
+-- a chain whose queue is refused is popped later, if there was no memory. Else its ring breaks
+abbrev pub refused : QueueError → Pop
+refused errors.Memory = pop.Later
+refused e = pop.Broken e
+
+abbrev pub popped : PackedBuffer → Request → Pop
+popped buffer request = pop.Chain (chain_by buffer) (block_parts request) (len_of request)
+
+-- what a chain that was popped leaves: its request is under way. If its header was not read, it is the next one again
+abbrev pub begun : AnyQueue → BlockQueueState → PackedBuffer → List Segment → Result Request GuestMemoryError
+    → Pop × BlockQueueState
+begun back q buffer chain (Ok request) = let short = shortened request in
+    (popped buffer short, with_asked q buffer.id (Some (record { chain = chain; request = short })))
+begun back q buffer chain (Err e) = (pop.Later, with_queue q back)
+
+-- what happens to the ring by that
+abbrev pub event_of : Pop → Option RingEvent
+event_of (pop.Chain chain parts bytes) = Some (Popped chain parts bytes)
+event_of pop.None = Some Emptied
+event_of (pop.Broken e) = Some Break
+event_of pop.Later = None
+
+-- ---- returns
+
+abbrev pub gave : Result (Unit {0}) QueueError → GiveBack
+gave (Ok done) = back.Done
+gave (Err e) = back.Broken e
+
+module _ {H : Type 0} (step : H → (s : MemoryStep) → Returned s → H → Type 0) where
+  -- a chain was popped: its header is read, if it can be under way. If not, it breaks the ring, which the event says
+  abbrev pub Begins : Terms → AnyQueue → BlockQueueState → PackedBuffer → List Segment → H → Pop → BlockQueueState → H
+      → Type 0
+  Begins terms back q buffer chain old a q' new = MatchBool (has_place q buffer.id)
+      ((r : Result Request GuestMemoryError) × step old (begins terms chain) r new
+      × ((a, q') ≡ begun back q buffer chain r))
+      ((a ≡ popped buffer (Refused 1)) × (q' ≡ q) × (new ≡ old))
+
+  abbrev pub PopsBy : Terms → BlockQueueState → Result (Option (PackedBuffer × List Segment)) QueueError → H → Pop
+      → BlockQueueState → H → Type 0
+  PopsBy terms q (Ok (Some p)) old a q' new =
+      Begins terms q.queue (with_queue q (past q.queue p.0)) p.0 p.1 old a q' new
+  PopsBy terms q (Ok None) old a q' new = (a ≡ pop.None) × (q' ≡ q) × (new ≡ old)
+  PopsBy terms q (Err e) old a q' new = (a ≡ refused e) × (q' ≡ q) × (new ≡ old)
+
+  -- the next chain is popped, if there is one
+  abbrev pub Pops : Terms → BlockQueueState → H → Pop → BlockQueueState → H → Type 0
+  Pops terms q old a q' new = (r : Result (Option (PackedBuffer × List Segment)) QueueError) × (mid : H)
+      × step old (pops q.queue) r mid × PopsBy terms q r mid a q' new
+
+  -- the driver is asked to notify, and the ring looked at again; and then its pages are marked
+  abbrev pub Asks : AnyQueue → H → Result Bool QueueError → H → Type 0
+  Asks q old r new = (mid : H) × step old (enables q) r mid × Marks step (asking_marks q) mid new
+
+  -- the driver was asked to notify, and a look after that found no chain
+  abbrev pub FoundNone : AnyQueue → H → Type 0
+  FoundNone q new = (before : H) × (r : Result Bool QueueError) × (asked : H) × Asks q before r asked
+      × (((r ≡ Ok false) × (new ≡ asked)) ⊎ ((r ≡ Ok true) × step asked (pops q) (Ok None) new))
+
+  -- if there is none, the driver is asked to notify. If there is one by then, it is popped
+  abbrev pub AfterAsk : Terms → BlockQueueState → Result Bool QueueError → H → Option RingEvent → BlockQueueState → H
+      → Type 0
+  AfterAsk terms q (Ok true) old a q' new = (found : Pop) × Pops terms q old found q' new × (a ≡ event_of found)
+  AfterAsk terms q (Ok false) old a q' new = (a ≡ Some Emptied) × (q' ≡ q) × (new ≡ old)
+  AfterAsk terms q (Err e) old a q' new = (a ≡ event_of (refused e)) × (q' ≡ q) × (new ≡ old)
+
+  abbrev pub Waits : Terms → BlockQueueState → H → Option RingEvent → BlockQueueState → H → Type 0
+  Waits terms q old a q' new = (r : Result Bool QueueError) × (mid : H) × Asks q.queue old r mid
+      × AfterAsk terms q r mid a q' new
+
+  abbrev pub AfterPop : Terms → Pop → BlockQueueState → H → Option RingEvent → BlockQueueState → H → Type 0
+  AfterPop terms pop.None q old a q' new = Waits terms q old a q' new
+  AfterPop terms found q old a q' new = (a ≡ event_of found) × (q' ≡ q) × (new ≡ old)
+
+  -- what happens to a ring next in its turn
+  abbrev pub HappensNext : Terms → BlockQueueState → H → Option RingEvent → BlockQueueState → H → Type 0
+  HappensNext terms q old a q' new = (found : Pop) × (mid_q : BlockQueueState) × (mid : H)
+      × Pops terms q old found mid_q mid × AfterPop terms found mid_q mid a q' new
+
+  -- a chain is returned after the pages that its request may have changed were marked. Then those of the ring are marked
+  abbrev pub Publishes : AnyQueue → List Segment → PackedBuffer → ℕ → H → GiveBack → AnyQueue → H → Type 0
+  Publishes q chain buffer len old a q' new = (marked : H) × Marks step (chain_marks chain) old marked
+      × ((r : Result (Unit {0}) QueueError) × (stored : H) × step marked (adds_used q buffer len) r stored
+      × Marks step (return_marks q) stored new × (a ≡ gave r) × (q' ≡ after_used q buffer r))
+
+  -- a request is over: its status is written, and then its chain is returned
+  abbrev pub GivesBack : BlockQueueState → Chain → ℕ → Bool → H → GiveBack → BlockQueueState → H → Type 0
+  GivesBack q chain moved failed old a q' new = MatchOption (asked_at q chain.id)
+      ((a ≡ back.NotUnderWay) × (q' ≡ q) × (new ≡ old))
+      (λ asked. (r : Result ℕ GuestMemoryError) × (mid : H) × step old (finishes asked.chain
+      (status_of asked.request failed) (written_of asked.request moved)) r mid
+      × MatchResult r (λ len. Publishes q.queue asked.chain (buffer_by chain) len mid a q'.queue new
+      × (q'.asked ≡ slice_set q.asked chain.id None)) (λ e. (a ≡ back.Later) × (q' ≡ q) × (new ≡ mid)))
+
+-- ---- beside the state machine
+
+-- whether a request of an id is under way, as a number
+abbrev pub asked_count : BlockQueueState → ℕ → ℕ
+asked_count q id = if is_some (asked_at q id) then 1 else 0
+
+-- the requests that are under way are those of a ring
+abbrev pub Agrees : BlockQueueState → RingState → Type 0
+Agrees q r = (id : ℕ) → asked_count q id ≡ busy r id
+
+-- what is left after these chains were given back
+abbrev pub given : BlockQueueState → List Chain → BlockQueueState
+given q [] = q
+given q (chain ∷ rest) = given (with_asked q chain.id None) rest
+
+-- each chain that a step returns is found, and after they were given back the requests are those of the ring
+abbrev pub FindsAll : BlockQueueState → Step → Type 0
+FindsAll q t = Agrees (given q (returned t.1)) t.0
+    × ((id : ℕ) → 0 < length (of_id id (returned t.1)) → is_some (asked_at q id) ≡ true)

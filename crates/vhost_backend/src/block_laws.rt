@@ -1,0 +1,45 @@
+//! What holds of the queue of a block device's ring, whatever its guest writes: each function here is a theorem, and
+//! does nothing.
+ghost use Rattle.std.specs.Prelude.{◌≡◌, ℕ, List, [], Some, length, true, slice_get};
+ghost use Rattle.vm_memory_device.specs.Chain.{Entry, text, writable};
+ghost use Rattle.vm_memory_device.specs.declared.chain.Segment.{Segment};
+ghost use Rattle.virtio_queue.specs.Any.{enabling, returning};
+ghost use Rattle.virtio_queue.specs.declared.any.AnyQueue.{AnyQueue};
+ghost use Rattle.virtio_queue.specs.declared.packed.state.PackedBuffer.{PackedBuffer};
+ghost use Rattle.virtio_blk.specs.declared.request.Terms.{Terms};
+ghost use Rattle.vhost_backend.specs.BlockQueue.{Agrees, BlockQueueState, FindsAll, FoundNone, HappensNext};
+ghost use Rattle.vhost_backend.specs.Marks.{Covered, Stores, asking_marks, chain_marks, return_marks};
+ghost use Rattle.vhost_backend.specs.Ring.{RingState, may_run};
+ghost use Rattle.vhost_backend.specs.Story.{RingStep, On, stepped, taken};
+ghost use Rattle.vhost_backend.specs.declared.ring.RingEvent.{RingEvent};
+ghost use Rattle.vhost_backend.specs.declared.ring.RingEvent.TheVariants.{Emptied};
+
+use crate::ring_memory::RingMemory;
+
+/// Each byte that a request may change lies in a mark that is made before its chain is returned: those of its data, and
+/// its status. Each byte that a return or a wait stores to a ring lies in a mark that is made after it. So
+/// [`give_back`](crate::BlockQueue::give_back) and [`next_event`](crate::BlockQueue::next_event) lose no page.
+pub fn no_page_is_lost()
+    ensures requests { (segments : List Segment) (k : ℕ) (e : Entry) → slice_get (text (writable segments)) k ≡ Some e
+        → Covered (chain_marks segments) e.address 1 }
+    ensures returns { (q : AnyQueue) (buffer : PackedBuffer) (len : ℕ)
+        → Stores (Covered (return_marks q)) (returning q buffer len) }
+    ensures waits { (q : AnyQueue) → Stores (Covered (asking_marks q)) (enabling q) }
+{}
+
+/// A turn is over for want of chains only if the driver was asked to notify, and a look after that found none.
+pub fn turns_end_after_a_look<H, D: RingMemory<H>>()
+    ensures { (mem : D) (terms : Terms) (q new_q : BlockQueueState) (old new : H)
+        → HappensNext (D.steps mem) terms q old (Some Emptied) new_q new → FoundNone (D.steps mem) q.queue new }
+{}
+
+/// The requests of a ring's queue are those that its state machine has under way: after a step of a turn, and after
+/// whatever else happens to the ring, once the chains that are then to be returned were given back. So each return finds
+/// its request.
+pub fn each_return_finds_its_request<H, D: RingMemory<H>>()
+    ensures turns { (mem : D) (terms : Terms) (q new_q : BlockQueueState) (old new : H) (r : RingState) (e : RingEvent)
+        → Agrees q r → length q.asked ≡ length r.requests → may_run r ≡ true
+        → HappensNext (D.steps mem) terms q old (Some e) new_q new → FindsAll new_q (stepped r (On e)) }
+    ensures others { (q : BlockQueueState) (r : RingState) (s : RingStep) → Agrees q r → taken r s ≡ []
+        → FindsAll q (stepped r s) }
+{}

@@ -1,0 +1,448 @@
+//! The queue of a ring of a block device: chains are popped as requests, and returned with their status.
+ghost use Rattle.std.specs.Prelude.{◌≡◌, ◌^◌, ◌<◌, [], ◌∷◌, IfOk, None, replicate};
+ghost use Rattle.virtio_queue.specs.Any.{after_asked, at_next};
+ghost use Rattle.vhost_backend.specs.Block.{len_of};
+ghost use Rattle.vhost_backend.specs.BlockQueue.{Publishes, event_of, gave, refused, shortened};
+ghost use Rattle.vhost_backend.specs.Marks.{Marks, asking_marks, chain_marks, return_marks, segment_marks};
+ghost use Rattle.vhost_backend.specs.RingMemory.{needs};
+
+use crate::block::{block_parts, len_of, status_of, written_of};
+use crate::pieces::Piece;
+use crate::request::Chain;
+use crate::ring::RingEvent;
+use crate::ring_memory::RingMemory;
+use std::alloc::{AllocError, Global};
+use std::marker::Model;
+use virtio_blk::{Request, Terms, VIRTIO_BLK_S_IOERR};
+use virtio_queue::{AnyQueue, PackedBuffer, QueueError};
+use vm_memory_device::{Chain as Descriptors, Segment};
+
+/// A request that is under way: its chain, and what that asks for.
+#[derive(Drop)]
+pub struct Asked {
+    pub chain: Descriptors,
+    pub request: Request,
+}
+
+/// What a pop found.
+#[derive(Drop)]
+pub enum Pop {
+    /// A chain: the parts of its request, and the bytes that it asks for.
+    Chain(Chain, u32, u64),
+    /// No chain is left.
+    None,
+    /// The ring cannot be reached, or its driver broke a rule.
+    Broken(QueueError),
+    /// An allocation failed. The same chain is popped by another try.
+    Later,
+}
+
+/// What became of a return.
+#[derive(Drop)]
+pub enum GiveBack {
+    /// The chain was returned.
+    Done,
+    /// The ring cannot be reached: it breaks.
+    Broken(QueueError),
+    /// An allocation failed. Nothing changed, and another try may do it.
+    Later,
+    /// No chain of this id is under way.
+    NotUnderWay,
+}
+
+// A queue that was refused for want of memory is tried again. Another error is a fault of its driver.
+fn refused(error: QueueError) -> Pop
+    ensures { result ≡ refused error }
+{
+    match error {
+        QueueError::Memory => Pop::Later,
+        error => Pop::Broken(error),
+    }
+}
+
+// What happens to a ring by a pop.
+fn event_of(found: Pop) -> Option<RingEvent>
+    ensures { result ≡ event_of found }
+{
+    match found {
+        Pop::Chain(chain, parts, bytes) => Some(RingEvent::Popped(chain, parts, bytes)),
+        Pop::None => Some(RingEvent::Emptied),
+        Pop::Broken(_) => Some(RingEvent::Break),
+        Pop::Later => None,
+    }
+}
+
+fn gave(returned: Result<(), QueueError>) -> GiveBack
+    ensures { result ≡ gave returned }
+{
+    match returned {
+        Ok(()) => GiveBack::Done,
+        Err(error) => GiveBack::Broken(error),
+    }
+}
+
+// A request whose data are those of one chain.
+fn shortened(request: Request) -> Request
+    ensures { result ≡ shortened request }
+{
+    if len_of(request) < 1 << 32 {
+        request
+    } else {
+        Request::Refused {
+            status: VIRTIO_BLK_S_IOERR,
+        }
+    }
+}
+
+// Marks the pages of a segment, if it is written.
+fn mark_segment<H, D: RingMemory<H>>(mem: &D, host: &mut H, segment: Segment)
+    requires { D.held mem.now host.old }
+    ensures marks { Marks (D.steps mem.now) (segment_marks segment) host.old host.new }
+    ensures held { D.held mem.now host.new }
+{
+    if segment.writable {
+        mem.mark(host, segment.addr.0, 0, u64::from(segment.len));
+    }
+}
+
+// Marks the pages of all writable bytes of a chain.
+fn mark_chain<H, D: RingMemory<H>>(mem: &D, host: &mut H, chain: &Descriptors)
+    requires { D.held mem.now host.old }
+    ensures marks { Marks (D.steps mem.now) (chain_marks chain.now) host.old host.new }
+    ensures held { D.held mem.now host.new }
+{
+    let segments = chain.segments();
+    for i in 0..segments.len() {
+        mark_segment(mem, host, segments[i]);
+    }
+}
+
+// Marks two ranges behind an address.
+fn mark_both<H, D: RingMemory<H>>(mem: &D, host: &mut H, first: Piece, second: Piece)
+    requires { D.held mem.now host.old }
+    ensures marks { Marks (D.steps mem.now) (first ∷ second ∷ []) host.old host.new }
+    ensures held { D.held mem.now host.new }
+{
+    mem.mark(host, first.base, first.offset, first.len);
+    mem.mark(host, second.base, second.offset, second.len);
+}
+
+// The entry of a queue's next return, and what publishes it.
+fn return_marks(queue: &AnyQueue) -> (Piece, Piece)
+    ensures { result.0 ∷ result.1 ∷ [] ≡ return_marks queue.now }
+{
+    let (base, entry, len, last) = match queue {
+        AnyQueue::Split(queue) => {
+            let slot = queue.next_used() % queue.size();
+            (queue.state().used_ring, 4 + 8 * u64::from(slot), 8, 2)
+        }
+        AnyQueue::Packed(queue) => {
+            let state = queue.state();
+            let slot = 16 * u64::from(state.next_used.slot);
+            (state.desc_ring, slot + 8, 6, slot + 14)
+        }
+    };
+    let first = Piece {
+        base,
+        offset: entry,
+        len,
+    };
+    let second = Piece {
+        base,
+        offset: last,
+        len: 2,
+    };
+    (first, second)
+}
+
+// Marks the pages of what asks the driver to notify.
+fn mark_asking<H, D: RingMemory<H>>(mem: &D, host: &mut H, queue: &AnyQueue)
+    requires { D.held mem.now host.old }
+    ensures marks { Marks (D.steps mem.now) (asking_marks queue.now) host.old host.new }
+    ensures held { D.held mem.now host.new }
+{
+    match queue {
+        AnyQueue::Split(queue) => {
+            let state = queue.state();
+            let offset = if state.event_idx_enabled {
+                4 + 8 * u64::from(state.size)
+            } else {
+                0
+            };
+            mem.mark(host, state.used_ring, offset, 2);
+        }
+        AnyQueue::Packed(queue) => {
+            let area = queue.state().device_area;
+            mem.mark(host, area, 0, 2);
+            mem.mark(host, area, 2, 2);
+        }
+    }
+}
+
+// Returns a chain after the pages that its request may have changed were marked, and then marks those of the ring.
+fn publish<H, D: RingMemory<H>>(
+    queue: &mut AnyQueue,
+    mem: &D,
+    host: &mut H,
+    chain: &Descriptors,
+    buffer: PackedBuffer,
+    len: u32,
+) -> GiveBack
+    requires { D.held mem.now host.old }
+    ensures publishes { Publishes (D.steps mem.now) queue.old chain.now buffer len host.old result queue.new host.new }
+    ensures held { D.held mem.now host.new }
+{
+    mark_chain(mem, host, chain);
+    let (first, second) = return_marks(queue);
+    let returned = mem.add_used(host, queue, buffer, len);
+    mark_both(mem, host, first, second);
+    gave(returned)
+}
+
+// Nothing under way, for so many ids.
+fn none_asked(alloc: Global, ids: usize) -> Result<Vec<Option<Asked>>, AllocError>
+    ensures { IfOk result (λ asked. asked.items ≡ replicate ids None) }
+{
+    let mut asked = Vec::with_capacity(alloc, ids)?;
+    for _made in 0..ids {
+        asked.push(None)?;
+    }
+    Ok(asked)
+}
+
+/// The queue of a ring, and the requests of its chains that are under way.
+#[derive(Drop)]
+pub struct BlockQueue {
+    queue: AnyQueue,
+    asked: Vec<Option<Asked>>,
+}
+
+impl Model for BlockQueue {
+    ghost use Rattle.vhost_backend.specs.BlockQueue.{AllShort, BlockQueueState};
+
+    ghost Value = { BlockQueueState };
+
+    ghost view = { λ q. record { queue = q.queue; asked = q.asked.items } };
+
+    ghost invariant = { λ q. AllShort q.asked.items };
+}
+
+impl BlockQueue {
+    ghost use Rattle.std.specs.Prelude.{IfSome, option_copied, option_map};
+    ghost use Rattle.vhost_backend.specs.Block.{Short};
+    ghost use Rattle.vhost_backend.specs.BlockQueue.{Asks, Begins, GivesBack, HappensNext, Pops, Waits, asked_at, has_place, new_queue, with_queue};
+
+    /// A queue of which nothing is under way. The ids of its chains are below `ids`.
+    pub fn new(alloc: Global, queue: AnyQueue, ids: usize) -> Result<BlockQueue, AllocError>
+        ensures { IfOk result (λ q. q ≡ new_queue queue ids) }
+    {
+        let asked = none_asked(alloc, ids)?;
+        Ok(BlockQueue { queue, asked })
+    }
+
+    /// The queue.
+    #[inline]
+    pub fn queue(&self) -> &AnyQueue
+        ensures { result.now ≡ self.now.queue }
+    {
+        &self.queue
+    }
+
+    /// Sets the queue, as it lies in guest memory from now on.
+    pub fn set_queue(&mut self, queue: AnyQueue)
+        ensures { self.new ≡ with_queue self.old queue }
+    {
+        self.queue = queue;
+    }
+
+    /// The request with an id that is under way.
+    pub fn request(&self, id: u16) -> Option<Request>
+        ensures request { result ≡ option_map (λ asked. asked.request) (asked_at self.now id) }
+        ensures short { IfSome result Short }
+    {
+        match self.asked.get(usize::from(id)) {
+            Some(Some(asked)) => Some(asked.request),
+            _ => None,
+        }
+    }
+
+    /// The chain with an id that is under way.
+    pub fn chain(&self, id: u16) -> Option<&Descriptors>
+        ensures { option_copied result ≡ option_map (λ asked. asked.chain) (asked_at self.now id) }
+    {
+        match self.asked.get(usize::from(id)) {
+            Some(Some(asked)) => Some(&asked.chain),
+            _ => None,
+        }
+    }
+
+    // Whether a chain can be under way.
+    fn has_place(&self, id: u16) -> bool
+        ensures { result ≡ has_place self.now id }
+    {
+        match self.asked.get(usize::from(id)) {
+            Some(asked) => asked.is_none(),
+            None => false,
+        }
+    }
+
+    // Reads the header of a chain that was popped.
+    fn begin<H, D: RingMemory<H>>(
+        &mut self,
+        mem: &D,
+        host: &mut H,
+        terms: Terms,
+        next: u16,
+        popped: (PackedBuffer, Descriptors),
+    ) -> Pop
+        requires held { D.held mem.now host.old }
+        requires small { terms.sectors < 2 ^ 55 }
+        ensures begins { Begins (D.steps mem.now) terms (at_next self.old.queue next) self.old popped.0 popped.1 host.old
+            result self.new host.new }
+        ensures held { D.held mem.now host.new }
+    {
+        let (buffer, chain) = popped;
+        let returned = Chain {
+            id: buffer.id,
+            slots: buffer.slots,
+        };
+        if !self.has_place(buffer.id) {
+            return Pop::Chain(returned, 0, 0);
+        }
+        match mem.begin(host, terms, &chain) {
+            Ok(request) => {
+                let request = shortened(request);
+                if let Some(place) = self.asked.get_mut(usize::from(buffer.id)) {
+                    *place = Some(Asked { chain, request });
+                }
+                Pop::Chain(returned, block_parts(request), len_of(request) as u64)
+            }
+            Err(_) => {
+                self.queue.go_back(next);
+                Pop::Later
+            }
+        }
+    }
+
+    /// Pops the next chain, and reads the header of its request. A chain that cannot be under way has no parts: the event
+    /// breaks its ring.
+    pub fn pop<H, D: RingMemory<H>>(
+        &mut self,
+        alloc: Global,
+        mem: &D,
+        host: &mut H,
+        terms: Terms,
+    ) -> Pop
+        requires held { D.held mem.now host.old }
+        requires small { terms.sectors < 2 ^ 55 }
+        ensures pops { Pops (D.steps mem.now) terms self.old host.old result self.new host.new }
+        ensures held { D.held mem.now host.new }
+    {
+        let next = self.queue.next_avail();
+        match mem.pop(host, alloc, &mut self.queue) {
+            Ok(Some(popped)) => self.begin(mem, host, terms, next, popped),
+            Ok(None) => Pop::None,
+            Err(error) => refused(error),
+        }
+    }
+
+    // Asks the driver to notify, and looks at the ring again.
+    fn ask<H, D: RingMemory<H>>(&self, mem: &D, host: &mut H) -> Result<bool, QueueError>
+        requires { D.held mem.now host.old }
+        ensures asks { Asks (D.steps mem.now) self.now.queue host.old result host.new }
+        ensures held { D.held mem.now host.new }
+    {
+        let more = mem.enable_notification(host, &self.queue);
+        mark_asking(mem, host, &self.queue);
+        more
+    }
+
+    // There was no chain.
+    fn wait<H, D: RingMemory<H>>(
+        &mut self,
+        alloc: Global,
+        mem: &D,
+        host: &mut H,
+        terms: Terms,
+    ) -> Option<RingEvent>
+        requires held { D.held mem.now host.old }
+        requires small { terms.sectors < 2 ^ 55 }
+        ensures waits { Waits (D.steps mem.now) terms self.old host.old result self.new host.new }
+        ensures held { D.held mem.now host.new }
+    {
+        match self.ask(mem, host) {
+            Ok(true) => event_of(self.pop(alloc, mem, host, terms)),
+            Ok(false) => Some(RingEvent::Emptied),
+            Err(error) => event_of(refused(error)),
+        }
+    }
+
+    /// What happens to the ring next in its turn: a chain is popped, or none is left after the driver was asked to
+    /// notify, or it breaks. `None` if an allocation failed: another try may do it.
+    pub fn next_event<H, D: RingMemory<H>>(
+        &mut self,
+        alloc: Global,
+        mem: &D,
+        host: &mut H,
+        terms: Terms,
+    ) -> Option<RingEvent>
+        requires held { D.held mem.now host.old }
+        requires small { terms.sectors < 2 ^ 55 }
+        ensures next { HappensNext (D.steps mem.now) terms self.old host.old result self.new host.new }
+        ensures held { D.held mem.now host.new }
+    {
+        match self.pop(alloc, mem, host, terms) {
+            Pop::None => self.wait(alloc, mem, host, terms),
+            found => event_of(found),
+        }
+    }
+
+    /// Returns a chain whose request is over: writes its status, marks the pages that the request may have changed, and
+    /// then returns it, and marks the pages of the ring.
+    pub fn give_back<H, D: RingMemory<H>>(
+        &mut self,
+        mem: &D,
+        host: &mut H,
+        chain: Chain,
+        moved: u64,
+        failed: bool,
+    ) -> GiveBack
+        requires { D.held mem.now host.old }
+        ensures returns { GivesBack (D.steps mem.now) self.old chain moved failed host.old result self.new host.new }
+        ensures held { D.held mem.now host.new }
+    {
+        let Some(Some(asked)) = self.asked.get(usize::from(chain.id)) else {
+            return GiveBack::NotUnderWay;
+        };
+        let status = status_of(asked.request, failed);
+        let written = written_of(asked.request, moved);
+        let buffer = PackedBuffer {
+            id: chain.id,
+            slots: chain.slots,
+        };
+        match mem.finish(host, &asked.chain, status, written as usize) {
+            Ok(len) => {
+                let given = publish(&mut self.queue, mem, host, &asked.chain, buffer, len);
+                if let Some(place) = self.asked.get_mut(usize::from(chain.id)) {
+                    *place = None;
+                }
+                given
+            }
+            Err(_) => GiveBack::Later,
+        }
+    }
+
+    /// Whether the driver has to be notified of what was returned.
+    pub fn needs_notification<H, D: RingMemory<H>>(
+        &mut self,
+        mem: &D,
+        host: &mut H,
+    ) -> Result<bool, QueueError>
+        requires { D.held mem.now host.old }
+        ensures step { D.steps mem.now host.old (needs self.old.queue) result host.new }
+        ensures asked { self.new ≡ with_queue self.old (after_asked self.old.queue result) }
+        ensures held { D.held mem.now host.new }
+    {
+        mem.needs_notification(host, &mut self.queue)
+    }
+}
