@@ -203,7 +203,8 @@ impl<L: Looks + Fetches + Puts + Marks, S: Stores<L>> RingMemory<L> for Looked<'
         alloc: Global,
         queue: &mut AnyQueue,
     ) -> Result<Option<(PackedBuffer, Chain)>, QueueError> {
-        queue.pop_from(alloc, guest)
+        let mut list = Vec::new(alloc);
+        queue.pop_from(alloc, &mut list, guest)
     }
 
     fn add_used(
