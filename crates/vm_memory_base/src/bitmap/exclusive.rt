@@ -1,5 +1,7 @@
 //! A bitmap that one owner marks and harvests.
-ghost use Rattle.std.specs.Prelude.{◌≡◌, ◌≢◌, [], ℕ, Bool, false, ◌+◌, ◌-◌, ◌*◌, ◌/◌, ◌^◌, ◌<◌, ◌≤◌, ◌&&◌, if◌then◌else◌, nat_le, nat_lt, ◌++◌, length, slice_index, take, drop, replicate, Some, IfOk, OnOk, OnErr};
+ghost use Rattle.std.specs.Prelude.{◌≡◌, ◌≢◌, [], ℕ, Bool, false, ◌+◌, ◌-◌, ◌*◌, ◌/◌, ◌^◌, ◌<◌, ◌≤◌, ◌&&◌};
+ghost use Rattle.std.specs.Prelude.{if◌then◌else◌, nat_le, nat_lt, ◌++◌, length, slice_index, take, drop, replicate};
+ghost use Rattle.std.specs.Prelude.{Some, IfOk, OnOk, OnErr};
 ghost use Rattle.std.specs.NonZero.{non_zero_usize_get};
 ghost use Rattle.std.specs.Int.{div_ceil, bit_at};
 ghost use Rattle.vm_memory_base.specs.Flags.{flag, dirty_among, Gets};
@@ -194,8 +196,8 @@ fn set_flags(words: &mut [u64], first: usize, end: usize, dirty: bool)
     }
 }
 
-// Adds the numbers of the pages of a word, the lowest bit of which is that of page `first`, where all are dirty. They are
-// written aside, several at once, since a push tests the room each time.
+// Adds the numbers of the pages of a word, the lowest bit of which is that of page `first`, where all are dirty. They
+// are written aside, several at once, since a push tests the room each time.
 #[inline(never)]
 fn add_all(pages: &mut Vec<usize>, first: usize) -> Result<(), AllocError>
     requires { first + 64 ≤ 2 ^ 64 }

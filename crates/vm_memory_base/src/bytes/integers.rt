@@ -1,7 +1,9 @@
 //! The integers of a fixed number of bytes.
 
-ghost use Rattle.std.specs.Prelude.{◌≡◌, ℕ, ◌-◌, ◌^◌, ◌<◌, ◌≤◌, ◌++◌, List, length, replicate, reverse, slice_index, slice_set};
-ghost use Rattle.std.specs.Int.{w8, w16, w32, w64, w128, bytes_low_first, to_le_bytes, from_le_bytes, cast_signed, cast_unsigned};
+ghost use Rattle.std.specs.Prelude.{◌≡◌, ℕ, ◌-◌, ◌^◌, ◌<◌, ◌≤◌, ◌++◌, List, length, replicate, reverse, slice_index};
+ghost use Rattle.std.specs.Prelude.{slice_set};
+ghost use Rattle.std.specs.Int.{w8, w16, w32, w64, w128, bytes_low_first, to_le_bytes, from_le_bytes, cast_signed};
+ghost use Rattle.std.specs.Int.{cast_unsigned};
 ghost use Rattle.std.specs.Int.RustNames.{FitsSigned};
 ghost use Rattle.std.specs.Bool.{Decides};
 ghost use Rattle.std.proofs.lemmas.Bool.Decides.{Decides-eqb, Decides-int_eq};

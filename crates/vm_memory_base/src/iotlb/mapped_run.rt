@@ -1,5 +1,6 @@
 //! A run of I/O addresses that are mapped alike, and lists of such runs.
-ghost use Rattle.std.specs.Prelude.{◌≡◌, ℕ, ◌+◌, ◌-◌, ◌<◌, ◌≤◌, ◌++◌, ◌∷◌, [], ◌↔◌, true, false, length, IsSome, IfSome, IsSomeAnd};
+ghost use Rattle.std.specs.Prelude.{◌≡◌, ℕ, ◌+◌, ◌-◌, ◌<◌, ◌≤◌, ◌++◌, ◌∷◌, [], ◌↔◌, true, false, length, IsSome};
+ghost use Rattle.std.specs.Prelude.{IfSome, IsSomeAnd};
 ghost use Rattle.vm_memory_base.specs.Change.{if_any, start_or, prepended, prepended_if_any};
 ghost use Rattle.vm_memory_base.specs.Permissions as set;
 ghost use Rattle.vm_memory_base.specs.Stored.{run_in};

@@ -1,9 +1,13 @@
 //! The runs of a table, kept in the order of their first addresses.
-ghost use Rattle.std.specs.Prelude.{◌≡◌, ◌+◌, ◌-◌, ◌^◌, ◌<◌, ◌≤◌, ◌++◌, ◌∷◌, [], true, false, List, length, IsSome, IfSome, IfNone, OnOk, OnErr};
+ghost use Rattle.std.specs.Prelude.{◌≡◌, ◌+◌, ◌-◌, ◌^◌, ◌<◌, ◌≤◌, ◌++◌, ◌∷◌, [], true, false, List, length, IsSome};
+ghost use Rattle.std.specs.Prelude.{IfSome, IfNone, OnOk, OnErr};
 ghost use Rattle.std.specs.Iterator.{YieldsFirst, item_count};
-ghost use Rattle.vm_memory_base.specs.Change.{EndBelow, StartFrom, AreAscending, IsKept, IsWithinLimit, if_any, runs_below, runs_from, with_reset, start_or, with_run, without_first, without_range};
+ghost use Rattle.vm_memory_base.specs.Change.{EndBelow, StartFrom, AreAscending, IsKept, IsWithinLimit, if_any};
+ghost use Rattle.vm_memory_base.specs.Change.{runs_below, runs_from, with_reset, start_or, with_run, without_first};
+ghost use Rattle.vm_memory_base.specs.Change.{without_range};
 ghost use Rattle.vm_memory_base.specs.Runs.{AddressRun, IsCanonical};
-ghost use Rattle.vm_memory_base.specs.Site.{AreNeighbours, CutsBehind, CutsInFront, IsBehind, IsClear, IsFront, IsLastBelow, IsReplaced, IsSite};
+ghost use Rattle.vm_memory_base.specs.Site.{AreNeighbours, CutsBehind, CutsInFront, IsBehind, IsClear, IsFront};
+ghost use Rattle.vm_memory_base.specs.Site.{IsLastBelow, IsReplaced, IsSite};
 ghost use Rattle.vm_memory_base.specs.Table.{Mapping, excess, has_any, same_mapping, canonical_list};
 ghost use Rattle.vm_memory_base.specs.Walk.{HeadEndsAfter};
 

@@ -1,11 +1,14 @@
 //! The table of an IOMMU.
-ghost use Rattle.std.specs.Prelude.{◌≡◌, if◌then◌else◌, ℕ, ◌+◌, ◌-◌, ◌^◌, ◌<◌, ◌≤◌, ◌⊎◌, ◌∷◌, [], length, true, false, Some, None, map, OnOk, IfOk, IfErr, IfSome, MatchResult};
+ghost use Rattle.std.specs.Prelude.{◌≡◌, if◌then◌else◌, ℕ, ◌+◌, ◌-◌, ◌^◌, ◌<◌, ◌≤◌, ◌⊎◌, ◌∷◌, [], length, true, false};
+ghost use Rattle.std.specs.Prelude.{Some, None, map, OnOk, IfOk, IfErr, IfSome, MatchResult};
 ghost use Rattle.std.specs.List.{filter};
 ghost use Rattle.vm_memory_base.specs.Change.{gaps, granted};
 ghost use Rattle.vm_memory_base.specs.Lookup.{Translates, RefusesTranslation, mapped_ranges};
 ghost use Rattle.vm_memory_base.specs.Runs.{cut_to};
 ghost use Rattle.vm_memory_base.specs.Table as table;
-ghost use Rattle.vm_memory_base.specs.Table.{target, Set, Invalidate, InvalidateAll, covers, says, says_after, says_after_all, events, canonical_list, changed, evictions, range_count, is_allowed, pieces, failures, same_mapping, range_of, forbids};
+ghost use Rattle.vm_memory_base.specs.Table.{target, Set, Invalidate, InvalidateAll, covers, says, says_after};
+ghost use Rattle.vm_memory_base.specs.Table.{says_after_all, events, canonical_list, changed, evictions, range_count};
+ghost use Rattle.vm_memory_base.specs.Table.{is_allowed, pieces, failures, same_mapping, range_of, forbids};
 ghost use Rattle.vm_memory_base.specs.Walk.{IsWalk, pieces_left};
 ghost use Rattle.vm_memory_base.specs.declared.iotlb.Permissions.TheVariants.{No};
 ghost use Rattle.vm_memory_base.specs.declared.iotlb.Reason.TheVariants.{MissingMapping, AccessNotAllowed};
@@ -244,8 +247,8 @@ impl Iotlb {
         Err(refusal(self.ranges.alloc(), asked, iova.0, end, access))
     }
 
-    /// The pieces of a look-up, as a list, or why the access is refused. It allocates the pieces if there are two or more,
-    /// and otherwise nothing.
+    /// The pieces of a look-up, as a list, or why the access is refused. It allocates the pieces if there are two or
+    /// more, and otherwise nothing.
     ///
     /// `CannotResolve` if the table does not allow the access, with the whole range: `MissingMapping` if an
     /// address is not mapped or the end is not an address, otherwise `AccessNotAllowed`. `Memory` if the table allows
@@ -266,8 +269,8 @@ impl Iotlb {
         self.resolve_parts(iova, length, access)
     }
 
-    /// The piece of a look-up that leads to one, if it is found at once. It allocates nothing, and `None` says nothing of
-    /// the look-up.
+    /// The piece of a look-up that leads to one, if it is found at once. It allocates nothing, and `None` says nothing
+    /// of the look-up.
     #[inline]
     pub fn resolve_one(
         &self,

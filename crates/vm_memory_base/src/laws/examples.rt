@@ -1,9 +1,11 @@
 //! What the definitions say in the cases that matter, by computation: a function a subject, and a clause a case.
 ghost use Rattle.std.specs.Prelude.{◌≡◌, ◌-◌, ◌^◌, true, false, [], ◌∷◌};
 ghost use Rattle.vm_memory_base.specs.Address.{next, step, difference, is_within, numbers};
-ghost use Rattle.vm_memory_base.specs.Pages.{dirty_words, is_dirty_at, marked, unmarked, new_pages, in_view, pages_with, IsPageSet};
+ghost use Rattle.vm_memory_base.specs.Pages.{dirty_words, is_dirty_at, marked, unmarked, new_pages, in_view};
+ghost use Rattle.vm_memory_base.specs.Pages.{pages_with, IsPageSet};
 ghost use Rattle.vm_memory_base.specs.Runs.{runs};
-ghost use Rattle.vm_memory_base.specs.Table.{same_mapping, Set, Invalidate, says_nothing, new_table_after, is_allowed, reason, pieces, misses, failures};
+ghost use Rattle.vm_memory_base.specs.Table.{same_mapping, Set, Invalidate, says_nothing, new_table_after, is_allowed};
+ghost use Rattle.vm_memory_base.specs.Table.{reason, pieces, misses, failures};
 ghost use Rattle.vm_memory_base.specs.declared.iotlb.Permissions.TheVariants.{No, Read, Write, ReadWrite};
 ghost use Rattle.vm_memory_base.specs.declared.iotlb.Reason.TheVariants.{MissingMapping, AccessNotAllowed};
 

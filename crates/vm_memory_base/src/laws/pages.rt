@@ -1,8 +1,12 @@
 //! What holds of page sets and the marks that they take.
-ghost use Rattle.std.specs.Prelude.{◌≡◌, ◌↔◌, ℕ, ◌+◌, ◌-◌, ◌*◌, ◌/◌, ◌%◌, ◌^◌, ◌<◌, ◌≤◌, Bool, false, true, not, ◌||◌, ◌&&◌, nat_lt, if◌then◌else◌, List, [], ◌++◌, None, Some, length, slice_index, slice_index_or, AllPairs, Contains};
+ghost use Rattle.std.specs.Prelude.{◌≡◌, ◌↔◌, ℕ, ◌+◌, ◌-◌, ◌*◌, ◌/◌, ◌%◌, ◌^◌, ◌<◌, ◌≤◌, Bool, false, true, not, ◌||◌};
+ghost use Rattle.std.specs.Prelude.{◌&&◌, nat_lt, if◌then◌else◌, List, [], ◌++◌, None, Some, length, slice_index};
+ghost use Rattle.std.specs.Prelude.{slice_index_or, AllPairs, Contains};
 ghost use Rattle.std.specs.Int.{div_ceil};
 ghost use Rattle.vm_memory_base.specs.Address.{is_within, numbers};
-ghost use Rattle.vm_memory_base.specs.Pages.{Pages, PageSet, shape, is_dirty_at, dirty_pages, takes, flags_set, marked, marked_each, unmarked, cleaned, new_pages, dirty_words, IsPageSet, IsCleanFor};
+ghost use Rattle.vm_memory_base.specs.Pages.{Pages, PageSet, shape, is_dirty_at, dirty_pages, takes, flags_set, marked};
+ghost use Rattle.vm_memory_base.specs.Pages.{marked_each, unmarked, cleaned, new_pages, dirty_words, IsPageSet};
+ghost use Rattle.vm_memory_base.specs.Pages.{IsCleanFor};
 
 /// A mark of no bytes changes nothing, and any mark is a mark of each of its bytes, one after another. So marks
 /// of neighbouring ranges are one mark.

@@ -1,8 +1,13 @@
 //! What holds of I/O tables and look-ups.
-ghost use Rattle.std.specs.Prelude.{◌≡◌, ◌↔◌, ℕ, ◌+◌, ◌-◌, ◌^◌, ◌<◌, ◌≤◌, ◌⊎◌, Bool, true, false, not, List, [], ◌∷◌, ◌++◌, map, filter, flat_map, sum_by, Option, Some, None, is_some, All};
+ghost use Rattle.std.specs.Prelude.{◌≡◌, ◌↔◌, ℕ, ◌+◌, ◌-◌, ◌^◌, ◌<◌, ◌≤◌, ◌⊎◌, Bool, true, false, not, List, [], ◌∷◌};
+ghost use Rattle.std.specs.Prelude.{◌++◌, map, filter, flat_map, sum_by, Option, Some, None, is_some, All};
 ghost use Rattle.vm_memory_base.specs.Address.{step, numbers, difference};
 ghost use Rattle.vm_memory_base.specs.Runs.{AddressRun, TestsEquality, runs, IsCanonical, value_at, cut_to};
-ghost use Rattle.vm_memory_base.specs.Table.{Mapping, same_mapping, target, Says, Table, says, range_count, TableEvent, Set, Invalidate, InvalidateAll, covers, says_after, says_after_all, events, changed, changed_by, events_of, new_table_after, canonical_list, grants, each, overruns, is_allowed, reason, piece_of, pieces, addresses, target_if_any, forbids, range_of, if_forbidden, misses, failures};
+ghost use Rattle.vm_memory_base.specs.Table.{Mapping, same_mapping, target, Says, Table, says, range_count, TableEvent};
+ghost use Rattle.vm_memory_base.specs.Table.{Set, Invalidate, InvalidateAll, covers, says_after, says_after_all};
+ghost use Rattle.vm_memory_base.specs.Table.{events, changed, changed_by, events_of, new_table_after, canonical_list};
+ghost use Rattle.vm_memory_base.specs.Table.{grants, each, overruns, is_allowed, reason, piece_of, pieces, addresses};
+ghost use Rattle.vm_memory_base.specs.Table.{target_if_any, forbids, range_of, if_forbidden, misses, failures};
 ghost use Rattle.vm_memory_base.specs.declared.iotlb.Permissions.{Permissions};
 ghost use Rattle.vm_memory_base.specs.declared.iotlb.Reason.TheVariants.{MissingMapping, AccessNotAllowed};
 

@@ -3,8 +3,10 @@
 
 ghost use Rattle.std.specs.Prelude.{◌≡◌, ℕ, ◌++◌, false, List, [], ◌∷◌, length, replicate, Result, Some, None};
 ghost use Rattle.vm_memory_base.specs.InMemory.{HasAllOrNone};
-ghost use Rattle.vm_memory_base.specs.Transfer.{Gives, Fails, tried, again, lending, lent_once, filled_whole, Takes, Refuses, offered, Whole, Dry, sent, sent_as};
-ghost use Rattle.vm_memory_base.specs.Transfer.{Answer, Again, FillsAs, FillsBy, Keeps, OffersAs, SendsAs, SendsBy, TakesOnce, count_of};
+ghost use Rattle.vm_memory_base.specs.Transfer.{Gives, Fails, tried, again, lending, lent_once, filled_whole, Takes};
+ghost use Rattle.vm_memory_base.specs.Transfer.{Refuses, offered, Whole, Dry, sent, sent_as};
+ghost use Rattle.vm_memory_base.specs.Transfer.{Answer, Again, FillsAs, FillsBy, Keeps, OffersAs, SendsAs, SendsBy};
+ghost use Rattle.vm_memory_base.specs.Transfer.{TakesOnce, count_of};
 ghost use Rattle.vm_memory_base.specs.declared.io.ReadExactFault.{ReadExactFault};
 ghost use Rattle.vm_memory_base.specs.declared.io.VolatileMemoryError.TheVariants.{IOError};
 ghost use Rattle.vm_memory_base.specs.declared.io.VolatileMemoryError.{VolatileMemoryError};
