@@ -170,6 +170,25 @@ fn queues_in_their_steady_state_allocate_nothing() {
     }
 }
 
+// A reset drops the chains in flight: what they held counts no more.
+#[test]
+fn queues_that_were_reset_allocate_nothing_later() {
+    let machine = Machine::new().unwrap();
+    let memory = machine.memory(memory_of(&machine, 0, BYTES)).unwrap();
+    let mut driver = Driver::new(memory, 0, SIZE);
+    let queue = driver.queue(1024);
+    for _ in 0..200 {
+        publish_split(&mut driver);
+        while queue.pop_descriptor_chain(&memory).unwrap().is_some() {}
+        driver.set_up(&queue);
+        driver.next_avail = 0;
+        driver.set_word(driver.avail_ring + 2, 0);
+        driver.set_word(driver.used_ring + 2, 0);
+    }
+    driver.next_used = 0;
+    expect_steady(&queue, &memory, || publish_split(&mut driver));
+}
+
 fn set_up_packed(queue: &Queue<'_>) {
     queue.set_size(SIZE).unwrap();
     queue.try_set_desc_table_address(at(0)).unwrap();
