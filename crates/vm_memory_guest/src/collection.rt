@@ -334,6 +334,11 @@ fn first_above(starts: &[u64], addr: u64) -> (usize, u64, usize)
     let mut start = 0;
     let mut probes = 0;
     let mut size = starts.len();
+    // A branch is predicted, so that an access to the only region need not wait for its address.
+    if size == 1 {
+        let only = starts[0];
+        return if addr < only { (0, 0, 1) } else { (1, only, 1) };
+    }
     while size > 0 {
         let half = size / 2;
         let after = next + (size - half);
