@@ -6,7 +6,8 @@ ghost use Rattle.vm_memory_base.specs.declared.iotlb.Permissions.TheVariants.{Re
 ghost use Rattle.vm_memory_guest.specs.Host.{shape_of, bytes_at, Holds};
 ghost use Rattle.vm_memory_guest.specs.Window.{Window, span, cells, cells_of, Writes};
 ghost use Rattle.vm_memory_guest.specs.Answer.{Reach, Outcome, filled_buffer};
-ghost use Rattle.vm_memory_guest.specs.Transfer.{Moving, Once, UntilWhole, Fills, Takes, Transfers, all_of, beside, ended};
+ghost use Rattle.vm_memory_guest.specs.Transfer.{Moving, Once, UntilWhole, Fills, Takes, Transfers, all_of, beside};
+ghost use Rattle.vm_memory_guest.specs.Transfer.{ended};
 ghost use Rattle.vm_memory_guest.specs.Typed.{answered, given};
 ghost use Rattle.vm_memory_base.specs.declared.io.VolatileMemoryError.{VolatileMemoryError};
 

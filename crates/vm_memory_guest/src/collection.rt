@@ -105,8 +105,8 @@ impl<R: GuestMemoryRegion> GuestRegionCollection<R> {
     }
 
     /// A layout without the region of exactly these addresses, which may have no region left, and that region.
-    /// `NoMemoryRegion` if no region starts at `base` and has `size` bytes, `Memory` if an allocation fails. This layout
-    /// does not change.
+    /// `NoMemoryRegion` if no region starts at `base` and has `size` bytes, `Memory` if an allocation fails. This
+    /// layout does not change.
     pub fn remove_region(
         &self,
         base: GuestAddress,

@@ -1,7 +1,10 @@
 //! Host memory: every block, bitmap, space and table, which each access is lent.
-ghost use Rattle.std.specs.Prelude.{◌≡◌, ◌+◌, ◌*◌, ◌^◌, ◌<◌, ◌≤◌, ◌↔◌, ◌⊎◌, [], ◌∷◌, ◌++◌, ℕ, List, length, slice_get, slice_set, nat_lt, All, IsTrue, Some, IfOk, OnOk, OnErr, IfErr, IsErrOf};
+ghost use Rattle.std.specs.Prelude.{◌≡◌, ◌+◌, ◌*◌, ◌^◌, ◌<◌, ◌≤◌, ◌↔◌, ◌⊎◌, [], ◌∷◌, ◌++◌, ℕ, List, length, slice_get};
+ghost use Rattle.std.specs.Prelude.{slice_set, nat_lt, All, IsTrue, Some, IfOk, OnOk, OnErr, IfErr, IsErrOf};
 ghost use Rattle.vm_memory_guest.specs.Host as names;
-ghost use Rattle.vm_memory_guest.specs.Host.{Host, Shape, with_block, with_bytes_block, with_space, with_table, with_given_table, with_table_at, without_block, shape_of, Name, IsHeld, Holds, block_at};
+ghost use Rattle.vm_memory_guest.specs.Host.{Host, Shape, with_block, with_bytes_block, with_space, with_table};
+ghost use Rattle.vm_memory_guest.specs.Host.{with_given_table, with_table_at, without_block, shape_of, Name, IsHeld};
+ghost use Rattle.vm_memory_guest.specs.Host.{Holds, block_at};
 ghost use Rattle.vm_memory_guest.specs.BlockBytes.{bytes_of};
 ghost use Rattle.vm_memory_guest.specs.Inside.{blocks_of};
 

@@ -1,5 +1,6 @@
 //! Windows of host memory, and types that give them.
-ghost use Rattle.std.specs.Prelude.{◌≡◌, ℕ, ◌-◌, ◌*◌, ◌^◌, ◌<◌, ◌↔◌, ◌&&◌, nat_lt, if◌then◌else◌, Result, Ok, Err, IsTrue, IfOk, IsOk};
+ghost use Rattle.std.specs.Prelude.{◌≡◌, ℕ, ◌-◌, ◌*◌, ◌^◌, ◌<◌, ◌↔◌, ◌&&◌, nat_lt, if◌then◌else◌, Result, Ok, Err};
+ghost use Rattle.std.specs.Prelude.{IsTrue, IfOk, IsOk};
 ghost use Rattle.vm_memory_base.specs.declared.io.VolatileMemoryError as error;
 ghost use Rattle.vm_memory_base.specs.declared.io.VolatileMemoryError.TheVariants.{TooBig};
 ghost use Rattle.vm_memory_guest.specs.Typed.{size_of};

@@ -28,7 +28,10 @@ ghost use Rattle.vm_memory_guest.specs.Region.{slice_of};
 ghost use Rattle.vm_memory_guest.specs.Transfer.{all_of, ended};
 ghost use Rattle.vm_memory_guest.specs.Walk.{items_of, reach_of, walk_of, GivesAccess, RefusesAccess};
 ghost use Rattle.vm_memory_guest.specs.Window.{block_window, cells, span, subslice_of, Writes};
-ghost use Rattle.vm_memory_guest.specs.declared.region.error.GuestMemoryError.TheVariants.{HostAddressNotAvailable, InvalidBackendAddress, InvalidGuestAddress, PartialBuffer};
+ghost use Rattle.vm_memory_guest.specs.declared.region.error.GuestMemoryError.TheVariants.{HostAddressNotAvailable};
+ghost use Rattle.vm_memory_guest.specs.declared.region.error.GuestMemoryError.TheVariants.{InvalidBackendAddress};
+ghost use Rattle.vm_memory_guest.specs.declared.region.error.GuestMemoryError.TheVariants.{InvalidGuestAddress};
+ghost use Rattle.vm_memory_guest.specs.declared.region.error.GuestMemoryError.TheVariants.{PartialBuffer};
 
 /// A part of a window keeps its place, and what passes the end is refused with the offset that passes it. An access
 /// of a window moves what the window has from the offset on; at its end it is refused, unless it is empty. Each

@@ -18,7 +18,9 @@ ghost use Rattle.vm_memory_guest.specs.Region.{containing_region, layout_error, 
 ghost use Rattle.vm_memory_guest.specs.Window.{window_names};
 ghost use Rattle.vm_memory_guest.specs.declared.mmap.FromRangesError.TheVariants.{MmapRegion, InvalidGuestRegion};
 ghost use Rattle.vm_memory_guest.specs.declared.host.MmapRegionError.TheVariants.{InvalidSize};
-ghost use Rattle.vm_memory_guest.specs.declared.region.error.GuestRegionCollectionError.TheVariants.{MemoryRegionOverlap, NoMemoryRegion, UnsortedMemoryRegions};
+ghost use Rattle.vm_memory_guest.specs.declared.region.error.GuestRegionCollectionError.TheVariants.{MemoryRegionOverlap};
+ghost use Rattle.vm_memory_guest.specs.declared.region.error.GuestRegionCollectionError.TheVariants.{NoMemoryRegion};
+ghost use Rattle.vm_memory_guest.specs.declared.region.error.GuestRegionCollectionError.TheVariants.{UnsortedMemoryRegions};
 
 /// A host holds a place of a block that ends with the block, and none that goes past it; a window is held if
 /// its place and its bitmap are. A memory names the places of its regions' bytes, and its table and its space, even

@@ -10,10 +10,13 @@ ghost use Rattle.vm_memory_base.specs.declared.iotlb.Permissions.TheVariants.{Re
 ghost use Rattle.vm_memory_guest.specs.Access.{access_of, windows};
 ghost use Rattle.vm_memory_guest.specs.Dealt.{given_out, received};
 ghost use Rattle.vm_memory_guest.specs.Error.{error_of, of_window};
-ghost use Rattle.vm_memory_guest.specs.examples.Fixtures.{address_of, clean_pages, host_of, one_region, touching_regions, two_zero_blocks, zeros};
+ghost use Rattle.vm_memory_guest.specs.examples.Fixtures.{address_of, clean_pages, host_of, one_region};
+ghost use Rattle.vm_memory_guest.specs.examples.Fixtures.{touching_regions, two_zero_blocks, zeros};
 ghost use Rattle.vm_memory_guest.specs.Memory.{Direct};
 ghost use Rattle.vm_memory_guest.specs.Transfer.{all_of};
-ghost use Rattle.vm_memory_guest.specs.declared.region.error.GuestMemoryError.TheVariants.{IOError, InvalidGuestAddress, PartialBuffer};
+ghost use Rattle.vm_memory_guest.specs.declared.region.error.GuestMemoryError.TheVariants.{IOError};
+ghost use Rattle.vm_memory_guest.specs.declared.region.error.GuestMemoryError.TheVariants.{InvalidGuestAddress};
+ghost use Rattle.vm_memory_guest.specs.declared.region.error.GuestMemoryError.TheVariants.{PartialBuffer};
 
 /// Two touching regions of four bytes, with pages of one byte. A transfer stops at the first window that the source
 /// does not fill, and the exact form goes on until each is full; if the source ends early, the error says how

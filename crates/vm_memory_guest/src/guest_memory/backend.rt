@@ -1,5 +1,7 @@
 //! Backends: layouts of regions, and the walk through them.
-ghost use Rattle.std.specs.Prelude.{◌≡◌, ◌+◌, ◌-◌, ◌^◌, ◌<◌, ◌≤◌, ◌↔◌, List, length, map, flat_map, slice_get, option_copied, MatchOption, MatchResult, None, Some, Ok, Err, IfSome, IsSome, IsTrue};
+ghost use Rattle.std.specs.Prelude.{◌≡◌, ◌+◌, ◌-◌, ◌^◌, ◌<◌, ◌≤◌, ◌↔◌, List, length, map, flat_map, slice_get};
+ghost use Rattle.std.specs.Prelude.{option_copied, MatchOption, MatchResult, None, Some, Ok, Err, IfSome, IsSome};
+ghost use Rattle.std.specs.Prelude.{IsTrue};
 ghost use Rattle.std.specs.Iterator.{YieldsFirst, item_count};
 ghost use Rattle.vm_memory_guest.specs.Access.{meets, path};
 ghost use Rattle.vm_memory_guest.specs.Memory.{Direct};
@@ -105,8 +107,8 @@ pub trait GuestMemoryBackend: Named + Drop {
         (self.to_region_addr(addr), hint)
     }
 
-    /// The window of `count` bytes from an address on, if there are some and they lie in one region that has host bytes,
-    /// and a number for the next call. The region of the number `hint` is asked first.
+    /// The window of `count` bytes from an address on, if there are some and they lie in one region that has host
+    /// bytes, and a number for the next call. The region of the number `hint` is asked first.
     #[inline(always)]
     final fn window_near(
         &self,

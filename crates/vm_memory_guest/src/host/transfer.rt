@@ -3,7 +3,8 @@ ghost use Rattle.std.specs.Prelude.{◌≡◌, ℕ, ◌+◌, ◌<◌, ◌≤◌,
 ghost use Rattle.vm_memory_base.specs.Transfer.{ReadsAs, FillsBy, Again};
 ghost use Rattle.vm_memory_guest.specs.Host.{shape_of, Holds, block_at, bytes_at, cells_from, written};
 ghost use Rattle.vm_memory_guest.specs.Inside.{blocks_of};
-ghost use Rattle.vm_memory_guest.specs.Transfer.{LendsWindow, LendsRest, LendsWhole, Fills, filling, marked_of, touched_of};
+ghost use Rattle.vm_memory_guest.specs.Transfer.{LendsWindow, LendsRest, LendsWhole, Fills, filling, marked_of};
+ghost use Rattle.vm_memory_guest.specs.Transfer.{touched_of};
 ghost use Rattle.vm_memory_guest.specs.Window.{window_names, cells_of};
 
 use super::HostMemory;

@@ -5,7 +5,8 @@ ghost use Rattle.vm_memory_base.specs.Bytes.{values_of};
 ghost use Rattle.vm_memory_guest.specs.Host as names;
 ghost use Rattle.vm_memory_guest.specs.Host.{shape_of, Holds, bytes_at, cells_from, written};
 ghost use Rattle.vm_memory_guest.specs.Typed.{size_of};
-ghost use Rattle.vm_memory_guest.specs.Window.{block_window, window_names, bitmap_name, cells_of, Marks, MarksWindow, Writes};
+ghost use Rattle.vm_memory_guest.specs.Window.{block_window, window_names, bitmap_name, cells_of, Marks, MarksWindow};
+ghost use Rattle.vm_memory_guest.specs.Window.{Writes};
 
 use super::block::{copy_in, part_of, put_in, put_value_in, put_values_in, value_in};
 use super::{BlockId, HostMemory};

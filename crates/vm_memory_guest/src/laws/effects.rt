@@ -1,6 +1,7 @@
 //! What holds of bytes in cells, of writes and of dirt, whatever the code does: each function here is a
 //! theorem, and does nothing. It calls the theorems that it follows from.
-ghost use Rattle.std.specs.Prelude.{◌≡◌, ◌≢◌, ℕ, ◌/◌, ◌^◌, ◌<◌, ◌≤◌, false, true, List, ◌∷◌, ◌++◌, Some, map, length, take, All, AllPairs, Contains};
+ghost use Rattle.std.specs.Prelude.{◌≡◌, ◌≢◌, ℕ, ◌/◌, ◌^◌, ◌<◌, ◌≤◌, false, true, List, ◌∷◌, ◌++◌, Some, map, length};
+ghost use Rattle.std.specs.Prelude.{take, All, AllPairs, Contains};
 ghost use Rattle.vm_memory_base.specs.Pages as page_set;
 ghost use Rattle.vm_memory_base.specs.Pages.{Pages, PageSet, is_dirty_at};
 ghost use Rattle.vm_memory_base.specs.declared.bitmap.BitmapId.{BitmapId};

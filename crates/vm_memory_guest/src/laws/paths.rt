@@ -1,6 +1,7 @@
 //! What paths and their windows have in common, for every list of regions and every route: each function
 //! here is a theorem, and does nothing.
-ghost use Rattle.std.specs.Prelude.{◌≡◌, ℕ, ◌+◌, ◌-◌, ◌<◌, ◌≤◌, ◌↔◌, true, List, [], ◌∷◌, Some, length, flat_map, All, MatchOption};
+ghost use Rattle.std.specs.Prelude.{◌≡◌, ℕ, ◌+◌, ◌-◌, ◌<◌, ◌≤◌, ◌↔◌, true, List, [], ◌∷◌, Some, length, flat_map, All};
+ghost use Rattle.std.specs.Prelude.{MatchOption};
 ghost use Rattle.vm_memory_base.specs.Lookup.{mapped_ranges};
 ghost use Rattle.vm_memory_base.specs.Table.{Says, is_allowed, pieces};
 ghost use Rattle.vm_memory_base.specs.declared.iotlb.Permissions.{Permissions};

@@ -1,9 +1,11 @@
 //! Windows of host memory.
-ghost use Rattle.std.specs.Prelude.{◌≡◌, ◌+◌, ◌-◌, ◌*◌, ◌/◌, ◌%◌, ◌^◌, ◌++◌, min, length, take, drop, ◌<◌, ◌≤◌, ◌↔◌, ◌∷◌, [], ◌==◌, if◌then◌else◌, IsTrue, IfOk, MatchResult};
+ghost use Rattle.std.specs.Prelude.{◌≡◌, ◌+◌, ◌-◌, ◌*◌, ◌/◌, ◌%◌, ◌^◌, ◌++◌, min, length, take, drop, ◌<◌, ◌≤◌, ◌↔◌};
+ghost use Rattle.std.specs.Prelude.{◌∷◌, [], ◌==◌, if◌then◌else◌, IsTrue, IfOk, MatchResult};
 ghost use Rattle.std.specs.List.{flat_map};
 ghost use Rattle.vm_memory_base.specs.Bytes.{values_of};
 ghost use Rattle.vm_memory_guest.specs.Host.{shape_of, bytes_at, Holds};
-ghost use Rattle.vm_memory_guest.specs.Window.{block_window, window_names, cells_of, part, window_from, subslice_of, Writes};
+ghost use Rattle.vm_memory_guest.specs.Window.{block_window, window_names, cells_of, part, window_from, subslice_of};
+ghost use Rattle.vm_memory_guest.specs.Window.{Writes};
 ghost use Rattle.vm_memory_guest.specs.Answer.{window_reach};
 ghost use Rattle.vm_memory_guest.specs.Copy.{front, Copies};
 ghost use Rattle.vm_memory_guest.specs.Transfer.{Alone, Once, cut_of, exact_of, only};
