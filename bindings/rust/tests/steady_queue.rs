@@ -140,7 +140,7 @@ fn asked(call: impl FnOnce()) -> usize {
     ASKED.get() - before
 }
 
-// Serves rounds until the lists are as long as the longest chain, and then a hundred that allocate nothing.
+// Serves rounds until the lists are as long as the longest chain, and then two thousand that allocate nothing.
 fn expect_steady(queue: &Queue<'_>, memory: &GuestMemory<'_>, mut publish: impl FnMut()) {
     publish();
     assert!(asked(|| serve(queue, memory)) > 0);
@@ -148,7 +148,7 @@ fn expect_steady(queue: &Queue<'_>, memory: &GuestMemory<'_>, mut publish: impl 
         publish();
         serve(queue, memory);
     }
-    for round in 0..100 {
+    for round in 0..2_000 {
         publish();
         assert_eq!(asked(|| serve(queue, memory)), 0, "round {round}");
     }
