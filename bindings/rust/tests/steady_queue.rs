@@ -72,7 +72,9 @@ fn memories(machine: &Machine) -> [MemoryId; 2] {
     let region = machine.region(block, at(0)).unwrap();
     let layout = machine.layout(&[region]).unwrap();
     let table = machine.table(None).unwrap();
-    machine.set_mapping(table, at(0), at(0), BYTES, Permissions::ReadWrite).unwrap();
+    machine
+        .set_mapping(table, at(0), at(0), BYTES, Permissions::ReadWrite)
+        .unwrap();
     let translator = machine.translator(table).unwrap();
     let space = machine.space(0x1000, 0x1000).unwrap();
     [
@@ -192,7 +194,9 @@ fn what_lists_take_is_bounded() {
             flags: if index + 1 < LONG { NEXT } else { 0 },
             next: index + 1,
         };
-        memory.write_slice(&descriptor.bytes(), at(TABLE + 16 * u64::from(index))).unwrap();
+        memory
+            .write_slice(&descriptor.bytes(), at(TABLE + 16 * u64::from(index)))
+            .unwrap();
     }
     let indirect = Descriptor {
         addr: TABLE,
