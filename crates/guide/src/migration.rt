@@ -1,14 +1,14 @@
 //! Moves the memory of a guest from one host to another. The two ends are threads here, with a pair of sockets between
 //! them.
-#![tactic(auto)]
 
 use anyhow::{Context, Result, bail};
 use live_migration::{Guest, Options, Receiver, Refusal, Reply, SendError, Sender};
 use std::alloc::Global;
 use std::io::{Read, Write};
+use std::net::Net;
 use std::num::NonZeroUsize;
 use std::os::unix::net::UnixStream;
-use std::thread;
+use std::thread::{self, Threads};
 use vm_memory::{
     Bitmap, BlockId, ExactBitmap, ExclusiveBitmap, GuestAddress, HostMemory, NewBitmap,
 };
@@ -129,11 +129,11 @@ fn bytes_of<B: Bitmap>(host: &HostMemory<B>, block: BlockId) -> &[u8] {
     host.bytes(&window)
 }
 
-fn main(rt: HostRuntime) -> Result<()> {
-    let alloc = rt.alloc();
-    let (near, far) = UnixStream::pair(&rt)?;
+/// Moves a guest, and compares its memory at both ends.
+pub fn move_a_guest(rt: &(impl Print + Threads + Net), alloc: Global) -> Result<()> {
+    let (near, far) = UnixStream::pair(rt)?;
     let (sent, came) = thread::join(
-        &rt,
+        rt,
         || sending_end(alloc, near),
         || receiving_end(alloc, far),
     );
