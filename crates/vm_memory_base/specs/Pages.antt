@@ -46,7 +46,7 @@ abbrev pub takes : ℕ → ℕ → ℕ → ℕ → Bool
 takes size start len page =
     nat_lt 0 len && (nat_le (start / size) page && nat_le page (last_byte start len / size))
 
--- the flags from this page on, after those of the pages that pass the test were set to flag
+-- the flags, the first of which is that of this page, after the pages that pass the test got this one
 abbrev pub flags_set : Bool → (ℕ → Bool) → ℕ → List Bool → List Bool
 flags_set flag test page [] = []
 flags_set flag test page (dirty ∷ flags) = (if test page then flag else dirty) ∷ flags_set flag test (page + 1) flags
