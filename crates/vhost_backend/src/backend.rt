@@ -170,7 +170,10 @@ impl Backend {
     ghost use Rattle.std.specs.Prelude.{◌<◌, false, length, true, MatchResult};
     ghost use Rattle.vhost_user.specs.Connection.{can_offer, connected};
     ghost use Rattle.vhost_user.specs.declared.backend_req_handler.OfferError.TheVariants.{Invalid, Memory};
-    ghost use Rattle.vhost_backend.specs.Backend.{after_event, after_finish, after_message, begun, begun_or_waits, happened, is_at_rest, is_free, is_over, mapping_at, new_backend, over, placed, rebased, refreshed_one, refused, released, to_place, until_of, waiting};
+    ghost use Rattle.vhost_backend.specs.Backend.{after_event, after_finish, after_message, begun, begun_or_waits};
+    ghost use Rattle.vhost_backend.specs.Backend.{happened, is_at_rest, is_free, is_over, mapping_at, new_backend};
+    ghost use Rattle.vhost_backend.specs.Backend.{over, placed, rebased, refreshed_one, refused, released, to_place};
+    ghost use Rattle.vhost_backend.specs.Backend.{until_of, waiting};
 
     /// A new connection, as from `BackendReqHandler::new`. The ids of its rings' chains are below `ids`.
     ///

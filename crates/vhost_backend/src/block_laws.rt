@@ -18,8 +18,9 @@ ghost use Rattle.vhost_backend.specs.declared.ring.RingEvent.TheVariants.{Emptie
 use crate::ring_memory::RingMemory;
 
 /// Each byte that a request may change lies in a mark that is made before its chain is returned: those of its data, as
-/// pieces have them, and its status. Each byte that a return or a wait stores to a ring lies in a mark that is made after it. So
-/// [`give_back`](crate::BlockQueue::give_back) and [`next_event`](crate::BlockQueue::next_event) lose no page.
+/// pieces have them, and its status. Each byte that a return or a wait stores to a ring lies in a mark that is made
+/// after it. So [`give_back`](crate::BlockQueue::give_back) and [`next_event`](crate::BlockQueue::next_event) lose no
+/// page.
 pub fn no_page_is_lost()
     ensures requests { (segments : List Segment) (k : ℕ) (e : Entry) → slice_get (text (writable segments)) k ≡ Some e
         → Covered (chain_marks segments) e.address 1 }
@@ -38,8 +39,8 @@ pub fn turns_end_after_a_look<H, D: RingMemory<H>>()
 {}
 
 /// The requests of a ring's queue are those that its state machine has under way: after a step of a turn, and after
-/// whatever else happens to the ring, once the chains that are then to be returned were given back. So each return finds
-/// its request.
+/// whatever else happens to the ring, once the chains that are then to be returned were given back. So each return
+/// finds its request.
 pub fn each_return_finds_its_request<H, D: RingMemory<H>>()
     ensures turns { (mem : D) (terms : Terms) (q new_q : BlockQueueState) (old new : H) (r : RingState) (e : RingEvent)
         → Agrees q r → length q.asked ≡ length r.requests → may_run r ≡ true

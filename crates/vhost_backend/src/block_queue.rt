@@ -230,7 +230,8 @@ impl Model for BlockQueue {
 impl BlockQueue {
     ghost use Rattle.std.specs.Prelude.{IfSome, option_copied, option_map};
     ghost use Rattle.vhost_backend.specs.Block.{Short};
-    ghost use Rattle.vhost_backend.specs.BlockQueue.{Asks, Begins, GivesBack, HappensNext, Pops, Waits, asked_at, has_place, new_queue, with_queue};
+    ghost use Rattle.vhost_backend.specs.BlockQueue.{Asks, Begins, GivesBack, HappensNext, Pops, Waits, asked_at};
+    ghost use Rattle.vhost_backend.specs.BlockQueue.{has_place, new_queue, with_queue};
 
     /// A queue of which nothing is under way. The ids of its chains are below `ids`.
     pub fn new(alloc: Global, queue: AnyQueue, ids: usize) -> Result<BlockQueue, AllocError>
@@ -324,8 +325,8 @@ impl BlockQueue {
         }
     }
 
-    /// Pops the next chain, and reads the header of its request. A chain that cannot be under way has no parts: the event
-    /// breaks its ring.
+    /// Pops the next chain, and reads the header of its request. A chain that cannot be under way has no parts: the
+    /// event breaks its ring.
     pub fn pop<H, D: RingMemory<H>>(
         &mut self,
         alloc: Global,

@@ -12,7 +12,8 @@ ghost use Rattle.vhost_backend.specs.declared.backend.Finish.TheVariants.{At};
 ghost use Rattle.vhost_backend.specs.declared.backend.Next.TheVariants.{Messages};
 ghost use Rattle.vhost_backend.specs.declared.backend.Outcome.TheVariants.{Begins, Stays};
 ghost use Rattle.vhost_backend.specs.declared.request.PartEnd.TheVariants.{Failed, Moved};
-ghost use Rattle.vhost_backend.specs.declared.ring.RingEvent.TheVariants.{Emptied, Enable, Ended, Kick, Popped, Start, Stop};
+ghost use Rattle.vhost_backend.specs.declared.ring.RingEvent.TheVariants.{Emptied, Enable, Ended, Kick, Popped, Start};
+ghost use Rattle.vhost_backend.specs.declared.ring.RingEvent.TheVariants.{Stop};
 ghost use Rattle.vhost_backend.specs.declared.ring.actions.RingAction.TheVariants as action;
 ghost use Rattle.vhost_backend.specs.declared.rings.Event.TheVariants as event;
 
@@ -80,7 +81,8 @@ pub fn a_base_is_replied_after_all_requests()
         ≡ (11 ∷ 0 ∷ 0 ∷ 0 ∷ 5 ∷ 0 ∷ 0 ∷ 0 ∷ 8 ∷ 0 ∷ 0 ∷ 0 ∷ 0 ∷ 0 ∷ 0 ∷ 0 ∷ 5 ∷ 0 ∷ 0 ∷ 0 ∷ [], Messages) }
 {}
 
-/// A new table of memory, which is empty here, takes effect after that request, too, and no chain is popped before that.
+/// A new table of memory, which is empty here, takes effect after that request, too, and no chain is popped before
+/// that.
 #[tactic(auto, unfolding(vhost_message::specs::Regions::table_in))]
 pub fn a_table_waits_for_all_requests()
     ensures waits { outcomes (all_to_do table_sent (one_busy_ring 512)) ≡ Stays ∷ Stays ∷ Begins ∷ [] }

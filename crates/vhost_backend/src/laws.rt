@@ -1,12 +1,20 @@
 //! What holds of all rings, whatever happens: each function here is a theorem, and does nothing.
-ghost use Rattle.std.specs.Prelude.{◌≡◌, ◌⊎◌, ◌+◌, ◌^◌, ◌<◌, ◌≤◌, ◌==◌, ℕ, List, [], ◌∷◌, ◌++◌, true, false, Some, count_by, length, slice_get, sum};
+ghost use Rattle.std.specs.Prelude.{◌≡◌, ◌⊎◌, ◌+◌, ◌^◌, ◌<◌, ◌≤◌, ◌==◌, ℕ, List, [], ◌∷◌, ◌++◌, true, false, Some};
+ghost use Rattle.std.specs.Prelude.{count_by, length, slice_get, sum};
 ghost use Rattle.std.specs.List.{list_all, list_any};
 ghost use Rattle.vhost_backend.specs.Actions.{is_answer};
 ghost use Rattle.vhost_backend.specs.Line.{stands_in};
-ghost use Rattle.vhost_backend.specs.Ring.{RingState, after_end, after_stop, is_idle, is_stopping, may_run, new_ring, request_at, wants};
-ghost use Rattle.vhost_backend.specs.Rings.{RingsState, after_hold, all_idle, happens, has_next, is_free, is_waiting, left_of, may_pop, new_rings};
-ghost use Rattle.vhost_backend.specs.Story.{RingStep, actions, after, all_returned_bytes, answers, busy, ends, failures, has_start, moved, notified, of_id, owing, parts_left, popped, returned, returned_failed, served, so_far, stepped, stops, taken, under_way, waiting};
-ghost use Rattle.vhost_backend.specs.Turns.{Waits, actions_of, after_all, all_done, any_touches, before, held_count, holds, is_go_on, is_release, own_actions, starts, story_of, turns, waits_to_hold};
+ghost use Rattle.vhost_backend.specs.Ring.{RingState, after_end, after_stop, is_idle, is_stopping, may_run, new_ring};
+ghost use Rattle.vhost_backend.specs.Ring.{request_at, wants};
+ghost use Rattle.vhost_backend.specs.Rings.{RingsState, after_hold, all_idle, happens, has_next, is_free, is_waiting};
+ghost use Rattle.vhost_backend.specs.Rings.{left_of, may_pop, new_rings};
+ghost use Rattle.vhost_backend.specs.Story.{RingStep, actions, after, all_returned_bytes, answers, busy, ends};
+ghost use Rattle.vhost_backend.specs.Story.{failures, has_start, moved, notified, of_id, owing, parts_left, popped};
+ghost use Rattle.vhost_backend.specs.Story.{returned, returned_failed, served, so_far, stepped, stops, taken};
+ghost use Rattle.vhost_backend.specs.Story.{under_way, waiting};
+ghost use Rattle.vhost_backend.specs.Turns.{Waits, actions_of, after_all, all_done, any_touches, before, held_count};
+ghost use Rattle.vhost_backend.specs.Turns.{holds, is_go_on, is_release, own_actions, starts, story_of, turns};
+ghost use Rattle.vhost_backend.specs.Turns.{waits_to_hold};
 ghost use Rattle.vhost_backend.specs.Turns as turn;
 ghost use Rattle.vhost_backend.specs.declared.request.Chain.{Chain};
 ghost use Rattle.vhost_backend.specs.declared.request.PartEnd.{PartEnd};
@@ -45,10 +53,10 @@ pub fn no_popped_chain_is_lost()
         ⊎ (done.actions ≡ action.Broke ∷ []) }
 {}
 
-/// A message that stops a ring is answered after all that was under way ended and was returned, and after the driver was
-/// told of it. From the message until the ring is started again nothing is popped, and from the answer on nothing is
-/// done for it, except that further such messages are answered. Each of these messages gets one answer, and while one
-/// waits, something is under way.
+/// A message that stops a ring is answered after all that was under way ended and was returned, and after the driver
+/// was told of it. From the message until the ring is started again nothing is popped, and from the answer on nothing
+/// is done for it, except that further such messages are answered. Each of these messages gets one answer, and while
+/// one waits, something is under way.
 pub fn stops_are_answered_after_all_that_is_under_way()
     ensures idle { (ring : RingState) (s : RingStep) → 0 < answers (stepped ring s).1
         → let new = (stepped ring s).0 in (new.phase ≡ Stopped) × (is_idle new ≡ true) × (new.owes ≡ false) }
@@ -137,8 +145,8 @@ pub fn turns_are_fair()
         → Waits one events s → length (turns events s) ≤ length (before one s.line) }
 {}
 
-/// While a ring may pop chains, each one that is popped shortens its turn, which is over if no chain is left or the ring
-/// breaks. So a loop that pops chains of a ring while it may comes to an end.
+/// While a ring may pop chains, each one that is popped shortens its turn, which is over if no chain is left or the
+/// ring breaks. So a loop that pops chains of a ring while it may comes to an end.
 pub fn turns_come_to_an_end()
     ensures popped { (s : RingsState) (i : ℕ) (chain : Chain) (parts bytes : ℕ) → may_pop s i ≡ true
         → left_of (happens s (event.Ring i (Popped chain parts bytes))).0.turn < left_of s.turn }
@@ -159,8 +167,8 @@ pub fn turns_are_bounded()
 {}
 
 /// A message that holds all rings is done when nothing is under way. From the message until it was done no chain is
-/// popped, and from then on nothing has guest memory read or written, but that drivers may be interrupted before further
-/// answers. Each of these messages is done once, and while one waits, something is under way.
+/// popped, and from then on nothing has guest memory read or written, but that drivers may be interrupted before
+/// further answers. Each of these messages is done once, and while one waits, something is under way.
 pub fn held_rings_touch_nothing()
     ensures idle { (s : RingsState) (e : Event) → (happens s e).1.held ≡ true
         → (all_idle (happens s e).0.rings ≡ true) × ((happens s e).0.hold ≡ Held) }

@@ -1,5 +1,6 @@
 //! What holds of every connection, whatever happens: each function here is a theorem, and does nothing.
-ghost use Rattle.std.specs.Prelude.{◌≡◌, ◌+◌, ◌++◌, ◌&&◌, ◌==◌, not, ℕ, List, [], length, true, false, Some, None, is_ok, option_map, slice_get};
+ghost use Rattle.std.specs.Prelude.{◌≡◌, ◌+◌, ◌++◌, ◌&&◌, ◌==◌, not, ℕ, List, [], length, true, false, Some, None};
+ghost use Rattle.std.specs.Prelude.{is_ok, option_map, slice_get};
 ghost use Rattle.vhost_message.specs.declared.frontend_req.FrontendReq.{FrontendReq};
 ghost use Rattle.vhost_message.specs.declared.frontend_req.FrontendReq.TheVariants.{GetVringBase, SetMemTable};
 ghost use Rattle.vhost_message.specs.declared.header.Header.{Header};
@@ -8,8 +9,10 @@ ghost use Rattle.vhost_message.specs.declared.regions.MemoryRegion.{MemoryRegion
 ghost use Rattle.vhost_user.specs.Connection.{Connection, connected};
 ghost use Rattle.vhost_user.specs.Running.{running};
 ghost use Rattle.vhost_user.specs.declared.backend_req_handler.Offer.{Offer};
-ghost use Rattle.vhost_backend.specs.Backend.{BackendState, after_event, after_message, is_at_rest, is_free, mapping_at, new_backend};
-ghost use Rattle.vhost_backend.specs.Messages.{Happening, after, all_events, all_to_do, changes_all, over_count, pending, ring_actions, taken_count, to_do, told_last};
+ghost use Rattle.vhost_backend.specs.Backend.{BackendState, after_event, after_message, is_at_rest, is_free};
+ghost use Rattle.vhost_backend.specs.Backend.{mapping_at, new_backend};
+ghost use Rattle.vhost_backend.specs.Messages.{Happening, after, all_events, all_to_do, changes_all, over_count};
+ghost use Rattle.vhost_backend.specs.Messages.{pending, ring_actions, taken_count, to_do, told_last};
 ghost use Rattle.vhost_backend.specs.Ring.{RingState, is_broken, is_idle, may_run};
 ghost use Rattle.vhost_backend.specs.Rings.{all_idle, happens};
 ghost use Rattle.vhost_backend.specs.Turns.{actions_of, after_all, all_done, any_touches};
@@ -52,8 +55,8 @@ pub fn nothing_comes_after_the_end()
         → (all_idle b.rings.rings ≡ true) × (any_touches (all_done (all_events later b) b.rings) ≡ false) }
 {}
 
-/// Between messages a ring runs exactly if the protocol's state has it run, except that one which broke runs after it was
-/// stopped and started again.
+/// Between messages a ring runs exactly if the protocol's state has it run, except that one which broke runs after it
+/// was stopped and started again.
 pub fn rings_run_as_the_protocol_has_it()
     ensures { (offer : Offer) (queues ids : ℕ) (config : List ℕ) (xs : List Happening) (i : ℕ) (ring : RingState)
         → let b = after xs (new_backend (connected offer queues config) ids) in is_free b.taken ≡ true

@@ -73,7 +73,9 @@ impl Model for Ring {
 
 impl Ring {
     ghost use Rattle.std.specs.Prelude.{IsTrue, Some, is_some};
-    ghost use Rattle.vhost_backend.specs.Ring.{after_break, after_end, after_pop, after_start, after_stop, after_turn, is_idle, is_stopped, may_run, new_ring, part_moved, pops, request_at, returned, step, wants, with_moved};
+    ghost use Rattle.vhost_backend.specs.Ring.{after_break, after_end, after_pop, after_start, after_stop, after_turn};
+    ghost use Rattle.vhost_backend.specs.Ring.{is_idle, is_stopped, may_run, new_ring, part_moved, pops, request_at};
+    ghost use Rattle.vhost_backend.specs.Ring.{returned, step, wants, with_moved};
 
     /// A stopped ring that is not enabled. The ids of its chains are below `ids`.
     pub fn new(alloc: Global, ids: usize) -> Result<Ring, AllocError>

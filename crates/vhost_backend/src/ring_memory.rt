@@ -3,7 +3,8 @@ ghost use Rattle.std.specs.Prelude.{◌≡◌, ℕ, IfOk};
 ghost use Rattle.vm_memory_guest.specs.Host.{Holds, shape_of};
 ghost use Rattle.virtio_queue.specs.Any.{after_asked, after_pop, after_used};
 ghost use Rattle.virtio_blk.specs.Steps.{FitsOn};
-ghost use Rattle.vhost_backend.specs.RingMemory.{ByLooks, MemoryStep, Returned, Still, adds_used, begins, enables, finishes, marks, needs, pops};
+ghost use Rattle.vhost_backend.specs.RingMemory.{ByLooks, MemoryStep, Returned, Still, adds_used, begins, enables};
+ghost use Rattle.vhost_backend.specs.RingMemory.{finishes, marks, needs, pops};
 
 use std::alloc::Global;
 use virtio_blk::{Fetches, Puts, Request, Terms, begin, begin_from, finish, finish_from};
@@ -30,8 +31,8 @@ pub trait Marks {
 
 /// Guest memory on which a ring takes its steps.
 ///
-/// A ghost member says what is known of a step. A call that is generic over this trait knows no more of memory than what
-/// its steps returned, and the fact that they were taken.
+/// A ghost member says what is known of a step. A call that is generic over this trait knows no more of memory than
+/// what its steps returned, and the fact that they were taken.
 pub trait RingMemory<H> {
     /// A step: what lay in memory before it, what it returned, and what lies there after it.
     ghost steps: { Self → H → (s : MemoryStep) → Returned s → H → Type 0 };
@@ -103,7 +104,8 @@ pub trait RingMemory<H> {
         ensures held { held self.now host.new };
 }
 
-/// Guest memory that is lent for a call, of which a contract says what it holds all the while, and the log of its pages.
+/// Guest memory that is lent for a call, of which a contract says what it holds all the while, and the log of its
+/// pages.
 #[derive(Drop)]
 pub struct Lent<'a, M: GuestMemory, P: PageLog> {
     /// The memory.
@@ -183,8 +185,8 @@ impl<M: GuestMemory, P: PageLog, B: Bitmap> RingMemory<HostMemory<B>> for Lent<'
     }
 }
 
-/// Guest memory at which the calls look, to which they store, and in which they mark, while a guest may write it. This is
-/// how their steps are known then.
+/// Guest memory at which the calls look, to which they store, and in which they mark, while a guest may write it. This
+/// is how their steps are known then.
 #[derive(Drop)]
 pub struct Looked<'a, S> {
     /// What it is stored by.

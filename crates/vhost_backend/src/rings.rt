@@ -179,7 +179,9 @@ impl Model for Rings {
 
 impl Rings {
     ghost use Rattle.std.specs.Prelude.{length, slice_get};
-    ghost use Rattle.vhost_backend.specs.Rings.{after_go_on, after_hold, after_release, happens, has_next, held, is_held, is_stopped_at, may_pop, new_rings, now_held, on, settled_step, turn_taken};
+    ghost use Rattle.vhost_backend.specs.Rings.{after_go_on, after_hold, after_release, happens, has_next, held};
+    ghost use Rattle.vhost_backend.specs.Rings.{is_held, is_stopped_at, may_pop, new_rings, now_held, on, settled_step};
+    ghost use Rattle.vhost_backend.specs.Rings.{turn_taken};
 
     /// Stopped rings. The ids of their chains are below `ids`.
     pub fn new(alloc: Global, count: usize, ids: usize) -> Result<Rings, AllocError>
