@@ -188,6 +188,30 @@ fn the_driver_is_notified_before_a_long_request_goes_on() {
     }
 }
 
+// The interrupt that the driver asked for comes, wherever the turns of many requests end.
+#[test]
+fn the_driver_is_interrupted_among_many_requests() {
+    let program = Program::start("many", MIB, &[]);
+    let mut front = program.connect();
+    front.negotiate(USUAL | EVENT_IDX);
+    front.set_memory();
+    front.start_ring(512, 0);
+    for (round, after) in [9, 63, 64, 100, 149].into_iter().enumerate() {
+        let begun = 150 * round as u16;
+        take(&front.rings[0].call);
+        front.set_used_event(0, begun + after);
+        for place in 0..150 {
+            front.put_request(0, 3 * place, 0, place.into(), 512);
+            front.publish(0, 3 * place);
+        }
+        front.kick(0);
+        assert!(can_read(&front.rings[0].call, LONG), "no interrupt after {after}");
+        for place in 0..150 {
+            assert_eq!(front.take_used(0), (3 * place, 513));
+        }
+    }
+}
+
 #[test]
 fn a_kick_without_a_request_interrupts_nobody() {
     let program = Program::start_on_a_hole("idle_kick", 1 << 20, &[]);

@@ -440,6 +440,23 @@ fn a_mark_costs_nothing_of_the_other_pages() {
     assert!(many < 2 * few, "{few} and {many}");
 }
 
+// The address that a used ring has in the log may be another one than its own.
+#[test]
+fn a_used_ring_is_marked_at_its_address_in_the_log() {
+    let program = Program::start("log_address", LEN, &[]);
+    let mut front = started(&program, USUAL);
+    let log = begin(&mut front, USUAL, LOG_LEN);
+    let other = 9 * MIB as u64;
+    let mut ring = front.addresses(0, true);
+    ring[32..40].copy_from_slice(&other.to_le_bytes());
+    assert!(front.is_done(SET_VRING_ADDR, &ring, &[]));
+    program.rest();
+    taken(&log);
+    front.read_disk(0, 1, 512);
+    program.rest();
+    assert!(taken(&log).contains(&(other / PAGE)));
+}
+
 // Several back ends mark pages in one log: each changes its own bits.
 #[test]
 fn a_mark_leaves_the_other_bits() {

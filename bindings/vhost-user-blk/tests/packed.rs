@@ -560,13 +560,14 @@ fn taken(log: &OwnedFd) -> BTreeSet<u64> {
     (0..RAM as u64 / PAGE).filter(is_set).collect()
 }
 
+// Of the larger ring a quarter was never asked for.
 #[test]
 fn the_pages_that_are_written_are_marked() {
     for (table, size, before) in [
         (0, 64, 1),
         (ACCESS_PLATFORM, 64, 1),
         (0, 1024, 200),
-        (ACCESS_PLATFORM, 1024, 300),
+        (ACCESS_PLATFORM, 1024, 200),
     ] {
         let program = Program::start(&format!("packed_log_{table}_{size}"), LEN, &[]);
         let features = PACKED | table;

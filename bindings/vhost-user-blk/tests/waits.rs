@@ -83,6 +83,28 @@ fn a_kick_is_taken_as_a_ring_stops() {
     assert!(!can_read(&read, Duration::ZERO));
 }
 
+// The same if it came with the message that stops the ring: the program finds both when it looks.
+#[test]
+fn a_kick_that_comes_with_the_stop_is_taken() {
+    let program = Program::start("late_kick", LEN, &[]);
+    let mut front = started(&program, USUAL);
+    let (counter, [read, write]) = (again(&front.rings[0].kick), pipe());
+    for (base, kick, other) in [(1, &counter, &counter), (2, &read, &write)] {
+        assert!(front.is_done(SET_VRING_KICK, &0_u64.to_le_bytes(), &[kick]));
+        front.rings[0].kick = again(other);
+        front.read_disk(0, 1, 512);
+        program.rest();
+        program.signal(libc::SIGSTOP);
+        front.send(GET_VRING_BASE, 0, &two(0, 0), &[]);
+        front.kick(0);
+        program.signal(libc::SIGCONT);
+        assert_eq!(front.reply(GET_VRING_BASE), two(0, base));
+        assert!(!can_read(kick, Duration::ZERO), "base {base}");
+        front.rings[0].kick = eventfd();
+        front.restart_ring(0, base as u16);
+    }
+}
+
 // A pipe has room for 8,192 notifications.
 #[test]
 fn a_pipe_notifies_again_and_again() {

@@ -364,11 +364,11 @@ module _ (b : BackendState) (agree : AllAgree b.connection b.rings.rings) (none 
 
 module _ (b : BackendState) (runs : RunsIn b) (fits : FitsIn b)
     (count : length b.connection.vrings ≡ length b.rings.rings) (e : Event) (outer : is_outer e ≡ true) where
-  abbrev new : RingsState
-  new = (happens b.rings e).0
+  abbrev later : RingsState
+  later = (happens b.rings e).0
 
   happened_runs : (old : BackendState) (t : Taken) → b.taken ≡ t → old.taken ≡ t → old.connection ≡ b.connection
-      → old.rings ≡ new → RunsIn (happened_by old (happens b.rings e).1 t).0
+      → old.rings ≡ later → RunsIn (happened_by old (happens b.rings e).1 t).0
   happened_runs old taken.Nothing is was same rings =
       let (agree, none) = rw is at runs in
       rw (was, same, rings) (
