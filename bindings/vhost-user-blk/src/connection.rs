@@ -25,8 +25,8 @@ use vm_memory_proved::queue::{Queue, QueueError, QueueState};
 use vm_memory_proved::vhost_user::{self, Backend, Refusal, Request, HEADER_LEN, MAX_DESCRIPTORS, MAX_MESSAGE};
 use vm_memory_proved::{Miss, QueueId};
 
-/// The numbers of the descriptor by which the program is ended, of the socket, and of the one by which the program is told
-/// that the image may have another size. The back end's own channel and the rings come after them.
+/// The numbers of descriptors: of the one that ends the program, of the socket, and of the one that says that the image
+/// may have another size. The back end's own channel and the rings come after them.
 pub const ENDING: u64 = 0;
 pub const SOCKET: u64 = 1;
 pub const HANGUPS: u64 = 2;

@@ -9,7 +9,7 @@ use crate::system::SharedBits;
 use std::cell::Cell;
 use vm_memory_proved::vhost_user::{Backend, Refusal, Vring};
 
-/// The log that the front end shared, and what it is told by that there are new bits.
+/// The log that the front end shared, and the descriptor by which it learns of new bits.
 pub struct Log {
     bits: SharedBits,
     call: Option<Signal>,

@@ -1,4 +1,4 @@
-//! The recipes of the guide, each a function of its own.
+//! The recipes of the guide, each a function of its own, and the program on the page of `live_migration`.
 #![tactic(auto)]
 
 mod bitmaps;
@@ -7,6 +7,7 @@ mod files;
 mod header;
 mod hot_plug;
 mod iommu;
+mod migration;
 mod premise;
 mod requests;
 mod typed;
@@ -22,5 +23,6 @@ fn main(rt: HostRuntime) -> anyhow::Result<()> {
     premise::with_a_test(&rt, rt.alloc())?;
     hot_plug::add_while_reading(&rt, rt.alloc())?;
     writers::two_writers(&rt, rt.alloc())?;
-    requests::serve_requests(&rt, rt.alloc())
+    requests::serve_requests(&rt, rt.alloc())?;
+    migration::move_a_guest(&rt, rt.alloc())
 }

@@ -11,7 +11,7 @@ use Rattle.std.specs.Ordering.{nat_cmp}
 use Rattle.linux_loader.specs.Plan.{Apart, HasBytes, end_of}
 use Rattle.linux_loader.specs.declared.segment.Segment.{Segment}
 
--- ---- segments that stand by their addresses
+-- ---- segments sorted by address
 
 -- an element, whatever is told past the end
 irrelevant : {X : Type 0} (xs : List X) (i : ℕ) (d e : X) → i < length xs → get_or xs i d ≡ get_or xs i e

@@ -25,8 +25,8 @@ const HEADER_START: u64 = 0x1f1;
 
 const MOST_HEADER: u64 = 0x110;
 
-// The places of its fields behind its first byte. `SIZE` is that of the byte at 0x201: how many bytes the header has
-// behind 0x202.
+// The offsets of its fields from its first byte on. `SIZE` is that of the byte at 0x201: how many bytes the header has
+// after 0x202.
 const SIZE: usize = 0x10;
 
 const MAGIC: usize = 0x11;
@@ -65,7 +65,7 @@ fn read_bytes<F: KernelImage>(
     Ok(bytes)
 }
 
-// The header of an image of so many bytes, and some more.
+// The header of an image of `size` bytes, and some more.
 fn read_header<F: KernelImage>(
     alloc: Global,
     image: &mut F,
@@ -148,7 +148,7 @@ fn load_address(
     Ok(addr)
 }
 
-// The protected mode kernel of an image of so many bytes.
+// The protected mode kernel of an image of `size` bytes.
 fn kernel_of(header: &[u8], size: u64, addr: u64) -> Result<Segment, LoaderError>
     requires { 39 ≤ length header.now }
     ensures is { result ≡ kernel_of header.now size addr }
@@ -171,7 +171,7 @@ fn kernel_of(header: &[u8], size: u64, addr: u64) -> Result<Segment, LoaderError
     })
 }
 
-// The kernel of an image of so many bytes with this header.
+// The kernel of an image of `size` bytes with this header.
 fn kernel_in(
     header: &[u8],
     size: u64,
@@ -236,7 +236,7 @@ fn plan_with(
     }
 }
 
-// What is to be loaded of an image of so many bytes.
+// What is to be loaded of an image of `size` bytes.
 fn plan_of(
     alloc: Global,
     header: &[u8],

@@ -118,7 +118,7 @@ fn pair_of(alloc: Global, key: &[u8], value: &[u8]) -> Result<Vec<u8>, AllocErro
     Ok(bytes)
 }
 
-// The bytes of a text and more, with a space between them and a zero behind.
+// The bytes of a text and more, with a space between them and a zero at the end.
 fn line_of(alloc: Global, text: &[u8], more: &[u8]) -> Result<Vec<u8>, AllocError>
     ensures { IfOk result (λ bytes. bytes.items ≡ text.now ++ separator text.now ++ more.now ++ 0 ∷ []) }
 {
@@ -152,7 +152,7 @@ impl Cmdline {
         Ok(Cmdline { bytes, capacity })
     }
 
-    // Refuses so many bytes more, with the space before them, if they pass the capacity.
+    // Refuses `count` bytes more, with the space before them, if they pass the capacity.
     fn check_room(&self, count: usize) -> Result<(), CmdlineError>
         ensures { result ≡ check_room self.now count }
     {

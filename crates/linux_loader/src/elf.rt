@@ -29,7 +29,7 @@ use vm_memory_guest::{GuestMemory, HostMemory};
 /// ELF files of 64 bits for x86-64: executables and shared objects.
 pub struct Elf;
 
-// The header of an image of so many bytes.
+// The header of an image of `size` bytes.
 fn read_header<F: KernelImage>(
     image: &mut F,
     size: u64,
@@ -116,7 +116,7 @@ fn plan_of(segments: Vec<Segment>, entry: GuestAddress, pvh: Option<u64>) -> Ker
     }
 }
 
-// What is to be loaded of an image of so many bytes with this header, if the segments lie apart.
+// What is to be loaded of an image of `size` bytes with this header, if the segments lie apart.
 fn named<F: KernelImage>(
     alloc: Global,
     image: &mut F,

@@ -50,7 +50,7 @@ pub fn initrd_address(
     highest_page(end, most_of(kernel, limit.0), size)
 }
 
-// The highest page at which so many bytes pass no address, if it lies at or after an end.
+// The highest page at which `size` bytes do not pass `most`, if it lies at or after an end.
 fn highest_page(end: u64, most: u64, size: u64) -> Result<GuestAddress, LoaderError>
     ensures is { result ≡ highest_page end most size }
     ensures above { IfOk result (λ a. end ≤ a.0) }

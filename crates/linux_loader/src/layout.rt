@@ -18,7 +18,7 @@ fn sorted_copy(alloc: Global, segments: &[Segment]) -> Result<Vec<Segment>, Allo
     Ok(sorted)
 }
 
-// Whether no two segments share an address, of some that stand by their addresses.
+// Whether no two of these segments, which are sorted by address, share an address.
 fn sorted_lie_apart(sorted: &[Segment]) -> bool
     requires some { All HasBytes sorted.now }
     requires sorted { IsSortedByKey (λ s. s.addr.0) nat_cmp sorted.now }

@@ -129,7 +129,7 @@ fn fill<M: GuestMemory, F: KernelImage, B: Bitmap>(
     }
 }
 
-// Lends so many zeros the bytes at an address.
+// Writes `count` zeros at an address.
 fn clear_at<M: GuestMemory, B: Bitmap>(
     mem: &M,
     host: &mut HostMemory<B>,

@@ -67,7 +67,7 @@ fn runtime_start(header: &[u8], load: u64) -> Result<u64, LoaderError>
     }
 }
 
-// The area of so many bytes from an address on.
+// The area of `size` bytes from an address on.
 fn area_at(start: u64, size: u32) -> Result<Option<RuntimeArea>, LoaderError>
     ensures { result ≡ area_at start size }
 {
@@ -91,7 +91,7 @@ pub(crate) fn runtime_area(header: &[u8], load: u64) -> Result<Option<RuntimeAre
     area_at(start, size)
 }
 
-// Whether so many bytes at an address share none with an area.
+// Whether `size` bytes at an address share none with an area.
 fn lies_outside(addr: u64, size: u64, area: Option<RuntimeArea>) -> bool
     ensures { result ≡ lies_outside addr size area }
 {
@@ -101,7 +101,7 @@ fn lies_outside(addr: u64, size: u64, area: Option<RuntimeArea>) -> bool
     }
 }
 
-// Refuses so many bytes at an address that share one with an area.
+// Refuses `size` bytes at an address that share one with an area.
 pub(crate) fn check_outside(
     addr: u64,
     size: u64,

@@ -3,7 +3,7 @@
 use std::marker::Model;
 use vm_memory_base::{ReadVolatile, VolatileMemoryResult};
 
-// A source of so many zeros.
+// A source of zeros.
 #[derive(Drop)]
 pub(crate) struct Zeros {
     left: usize,

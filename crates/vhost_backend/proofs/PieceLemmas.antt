@@ -1,9 +1,12 @@
 -- Pieces are the bytes of segments in order.
 use Rattle.std.proofs.Common.{◌≡◌, ◌∙◌, ℕ, zero, suc, ◌+◌, ◌-◌, ◌<◌, ◌≤◌, min, List, [], ◌∷◌, ◌++◌, length, Option, Some, None, IfSome, refl, ap, sym, subst, arith, inl, inr, length-append}
 use Rattle.std.specs.List.{slice_get}
+use Rattle.std.proofs.lemmas.Option.{slice_get_cases}
 use Rattle.std.proofs.lemmas.Bool.{cases_lt, le-ltb, lt-ltb}
-use Rattle.vm_memory_device.specs.Chain.{Entry, entries_from, text}
+use Rattle.vm_memory_device.specs.Chain.{Entry, entries_from, text, writable}
 use Rattle.vm_memory_device.specs.declared.chain.Segment.{Segment}
+use Rattle.vhost_backend.proofs.MarkLemmas.{data_covered}
+use Rattle.vhost_backend.specs.Marks.{Covered, chain_marks}
 use Rattle.vhost_backend.specs.Pieces.{piece_from, piece_of}
 use Rattle.vhost_backend.specs.declared.pieces.Piece.{Piece}
 
@@ -14,7 +17,7 @@ entries_length a (suc zero) = refl
 entries_length a (suc (suc len)) = ap suc (entries_length (a + 1) (suc len))
 
 -- an entry of a segment lies at its place
-abbrev LiesAt : Option Entry → ℕ → Type 0
+abbrev pub LiesAt : Option Entry → ℕ → Type 0
 LiesAt o a = IfSome o (λ e. e.address ≡ a)
 
 entry_lies : (a len k : ℕ) → k < len → LiesAt (slice_get (entries_from a len) k) (a + k)
@@ -46,7 +49,7 @@ behind s ss offset k past =
     get_right (entries_from s.addr.0 s.len) (text ss) (offset - s.len + k) (offset + k) same
 
 -- byte K of a piece
-abbrev ByteOf : List Segment → ℕ → ℕ → Option Piece → Type 0
+abbrev pub ByteOf : List Segment → ℕ → ℕ → Option Piece → Type 0
 ByteOf segments offset k o = IfSome o (λ p. k < p.len
     → LiesAt (slice_get (text segments) (offset + k)) (p.base + p.offset + k) × (offset + k < length (text segments)))
 
@@ -100,3 +103,22 @@ none (s ∷ ss) offset n is = elim (cases_lt offset s.len) [
       let more : length (text ss) ≤ offset - s.len = none ss (offset - s.len) n rest in
       omega (arith, text_length s ss)
 ]
+
+-- each byte of a piece that is written is marked
+pub piece_covered : (segments : List Segment) (offset n k : ℕ) → IfSome (piece_from (writable segments) offset n)
+    (λ p. k < p.len → Covered (chain_marks segments) (p.base + p.offset + k) 1)
+piece_covered segments offset n k = go (piece_from (writable segments) offset n) (bytes (writable segments) offset n k)
+  where
+    lies_in : (a : ℕ) → LiesAt (slice_get (text (writable segments)) (offset + k)) a
+        → offset + k < length (text (writable segments)) → Covered (chain_marks segments) a 1
+    lies_in a lies less = elim (slice_get_cases (text (writable segments)) (offset + k)).1 [
+      | inl (e, inside, found, other) ↦
+          let is : e.address ≡ a = rw found at lies in
+          subst (λ x. Covered (chain_marks segments) x 1) is (data_covered segments (offset + k) e found)
+      | inr (past, missing) ↦ absurd (omega (arith, less, past))
+    ]
+
+    go : (o : Option Piece) → ByteOf (writable segments) offset k o
+        → IfSome o (λ p. k < p.len → Covered (chain_marks segments) (p.base + p.offset + k) 1)
+    go None known = tt
+    go (Some p) known = λ inside. let (lies, less) = known inside in lies_in (p.base + p.offset + k) lies less

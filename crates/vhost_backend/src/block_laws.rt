@@ -1,6 +1,6 @@
 //! What holds of the queue of a block device's ring, whatever its guest writes: each function here is a theorem, and
 //! does nothing.
-ghost use Rattle.std.specs.Prelude.{◌≡◌, ℕ, List, [], Some, length, true, slice_get};
+ghost use Rattle.std.specs.Prelude.{◌≡◌, ◌+◌, ◌<◌, ℕ, List, [], Some, IfSome, length, true, slice_get};
 ghost use Rattle.vm_memory_device.specs.Chain.{Entry, text, writable};
 ghost use Rattle.vm_memory_device.specs.declared.chain.Segment.{Segment};
 ghost use Rattle.virtio_queue.specs.Any.{enabling, returning};
@@ -9,6 +9,7 @@ ghost use Rattle.virtio_queue.specs.declared.packed.state.PackedBuffer.{PackedBu
 ghost use Rattle.virtio_blk.specs.declared.request.Terms.{Terms};
 ghost use Rattle.vhost_backend.specs.BlockQueue.{Agrees, BlockQueueState, FindsAll, FoundNone, HappensNext};
 ghost use Rattle.vhost_backend.specs.Marks.{Covered, Stores, asking_marks, chain_marks, return_marks};
+ghost use Rattle.vhost_backend.specs.Pieces.{piece_from, side};
 ghost use Rattle.vhost_backend.specs.Ring.{RingState, may_run};
 ghost use Rattle.vhost_backend.specs.Story.{RingStep, On, stepped, taken};
 ghost use Rattle.vhost_backend.specs.declared.ring.RingEvent.{RingEvent};
@@ -16,12 +17,15 @@ ghost use Rattle.vhost_backend.specs.declared.ring.RingEvent.TheVariants.{Emptie
 
 use crate::ring_memory::RingMemory;
 
-/// Each byte that a request may change lies in a mark that is made before its chain is returned: those of its data, and
-/// its status. Each byte that a return or a wait stores to a ring lies in a mark that is made after it. So
+/// Each byte that a request may change lies in a mark that is made before its chain is returned: those of its data, as
+/// pieces have them, and its status. Each byte that a return or a wait stores to a ring lies in a mark that is made after it. So
 /// [`give_back`](crate::BlockQueue::give_back) and [`next_event`](crate::BlockQueue::next_event) lose no page.
 pub fn no_page_is_lost()
     ensures requests { (segments : List Segment) (k : ℕ) (e : Entry) → slice_get (text (writable segments)) k ≡ Some e
         → Covered (chain_marks segments) e.address 1 }
+    ensures pieces { (segments : List Segment) (offset n k : ℕ)
+        → IfSome (piece_from (side true segments) offset n) (λ p. k < p.len
+        → Covered (chain_marks segments) (p.base + p.offset + k) 1) }
     ensures returns { (q : AnyQueue) (buffer : PackedBuffer) (len : ℕ)
         → Stores (Covered (return_marks q)) (returning q buffer len) }
     ensures waits { (q : AnyQueue) → Stores (Covered (asking_marks q)) (enabling q) }

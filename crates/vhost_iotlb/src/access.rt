@@ -67,7 +67,7 @@ fn stopped_at(missed: Option<u64>, forbidden: Option<u64>, access: Permissions) 
     }
 }
 
-// How many of so many bytes from an address on lie in front of where an access stopped.
+// How many of `len` bytes from an address on lie before where an access stopped.
 fn front_of(iova: u64, len: usize, outcome: Outcome) -> usize
     ensures value { result ≡ front_of iova len outcome }
     ensures most { result ≤ len }
@@ -90,7 +90,7 @@ fn is_untranslated(error: &GuestMemoryError) -> bool
     )
 }
 
-// Where an access goes on of which so many bytes are done, if the host holds what it names.
+// Where an access goes on of which `done` bytes are done, if the host holds what it names.
 #[inline]
 fn next_place<M: GuestMemory, B: Bitmap>(
     memory: &M,

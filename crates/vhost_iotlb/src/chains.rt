@@ -9,7 +9,7 @@ use vm_memory_base::{Bitmap, IommuError, IovaRange, Permissions};
 use vm_memory_device::{Chain, ChainReader, ChainWriter};
 use vm_memory_guest::{GuestMemory, GuestMemoryError, HostMemory, TlbId};
 
-// How far an access of so many bytes gets that was refused for this error, and what it comes to: it stops at the first
+// How far an access of `len` bytes gets that was refused for this error, and what it comes to: it stops at the first
 // address that the table misses or forbids, if it was refused for that.
 fn front_of<B: Bitmap>(
     host: &HostMemory<B>,
@@ -32,7 +32,7 @@ fn front_of<B: Bitmap>(
     }
 }
 
-// What a try came to that moved so many of so many bytes: none of some is a failure.
+// What a try came to that moved `count` of `len` bytes: none of some is a failure.
 fn some_of(count: usize, len: usize) -> (usize, Outcome)
     ensures most { result.0 ≤ len }
     ensures some { result.1 ≡ Outcome.Done → 0 < result.0 }

@@ -152,7 +152,7 @@ fn applied<H: SharedHost>(table: &DeviceTable, host: &mut H, message: &IotlbMess
     }
 }
 
-// What is asked for on the table by the request of a number, if it is of the table.
+// The IOTLB message of a request, or what is wrong with it; none if the request is another.
 fn on_table(
     number: u32,
     request: Result<FrontendReq, MessageRefusal>,
@@ -241,7 +241,7 @@ fn waited_of(handled: Handled) -> Waited
     }
 }
 
-// The value of a reply that came while so many were awaited, if that was the last one.
+// The value of a reply that came while `awaited` replies were due, if it was the last one.
 fn last_value(awaited: u64, value: u64) -> Option<u64>
     ensures { result ≡ (if awaited == 1 then Some value else None) }
 {
@@ -461,7 +461,7 @@ impl<F: Receive + Write, O: Receive + Write> DeviceIotlb<F, O> {
         self.ask(message)
     }
 
-    // Looks until the front end maps something, for so many looks at most. It returns how many are left, or another
+    // Looks until the front end maps something, at most `looks` times. Returns how many looks are left, or another
     // message that comes first.
     fn wait_on<H: SharedHost>(
         &mut self,

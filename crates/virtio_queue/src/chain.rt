@@ -13,8 +13,8 @@ use std::alloc::Global;
 use std::mem;
 use vm_memory_device::{Chain, Segment};
 
-// Follows `next` from an index in a table of so many descriptors, and adds the segments of direct ones. It answers
-// the indirect descriptor that ends them, if one does.
+// Follows `next` from an index in a table of `len` descriptors, and appends the segments of direct ones. Returns the
+// indirect descriptor that ends them, if one does.
 #[inline(always)]
 fn follow<L: Looks>(
     looks: &mut L,

@@ -98,7 +98,7 @@ impl DriverQueue {
         Ok(queue)
     }
 
-    // The start of the ring of a field, and how far behind it the field lies.
+    // The start of the ring of a field, and the field's offset in it.
     fn place(&self, field: QueueField) -> (u64, u64)
         ensures place { result ≡ (ring_of self.now field, offset_of self.now field) }
         ensures near { result.1 + 2 < 2 ^ 32 }

@@ -27,7 +27,7 @@ use vm_memory_guest::{
     VolatileSlice,
 };
 
-// The address of a field of `size` bytes that lies so far behind an address.
+// The address of a field of `size` bytes at `base + offset`.
 #[inline]
 pub(crate) fn place(base: u64, offset: u64, size: u64) -> Result<u64, QueueError>
     requires some { 0 < size }
@@ -40,7 +40,7 @@ pub(crate) fn place(base: u64, offset: u64, size: u64) -> Result<u64, QueueError
     }
 }
 
-// Loads the number of 16 bits so far behind an address.
+// Loads the number of 16 bits at `base + offset`.
 #[inline(always)]
 pub(crate) fn load_word<M: GuestMemory, B: Bitmap>(
     mem: &M,
@@ -82,7 +82,7 @@ pub(crate) fn descriptor_at<M: GuestMemory, B: Bitmap>(
     }
 }
 
-// Stores a number of 16 bits so far behind an address. Then it lies there.
+// Stores a number of 16 bits at `base + offset`. Then it lies there.
 #[inline]
 pub(crate) fn store_word<M: GuestMemory, B: Bitmap>(
     mem: &M,
@@ -133,8 +133,8 @@ fn first_word<P: GuestMemoryBackend, B: Bitmap>(
     }
 }
 
-// The window that an access of a number of 16 bits takes so far behind an address. What is in it can be accessed with
-// no further look-up, so that it cannot be refused.
+// The window of a number of 16 bits at `base + offset`. It is accessed with no further look-up, so that cannot be
+// refused.
 #[inline(always)]
 pub(crate) fn window_at<M: GuestMemory, B: Bitmap>(
     mem: &M,
@@ -238,7 +238,7 @@ pub(crate) fn write_rest<M: GuestMemory, B: Bitmap>(
     }
 }
 
-// Writes a value so far behind an address, as far as memory goes.
+// Writes a value at `base + offset`, as far as memory goes.
 pub(crate) fn put_value<T: ByteValued, M: GuestMemory, B: Bitmap>(
     mem: &M,
     host: &mut HostMemory<B>,
@@ -261,7 +261,7 @@ pub(crate) fn put_value<T: ByteValued, M: GuestMemory, B: Bitmap>(
     }
 }
 
-// Reads two numbers of 32 bits so far behind an address.
+// Reads two numbers of 32 bits at `base + offset`.
 pub(crate) fn read_pair<M: GuestMemory, B: Bitmap>(
     mem: &M,
     host: &HostMemory<B>,
@@ -282,7 +282,7 @@ pub(crate) fn read_pair<M: GuestMemory, B: Bitmap>(
     }
 }
 
-// Whether so many bytes at an address lie whole in memory and may be accessed so.
+// Whether `count` bytes at an address lie whole in memory and may be accessed so.
 pub(crate) fn lies_whole<M: GuestMemory, B: Bitmap>(
     mem: &M,
     host: &HostMemory<B>,
@@ -304,7 +304,7 @@ pub(crate) fn lies_whole<M: GuestMemory, B: Bitmap>(
     }
 }
 
-// The address of so many bytes that can be written so far behind an address.
+// The address `base + offset`, if `size` bytes can be written there.
 #[inline(always)]
 pub(crate) fn room_at<M: GuestMemory, B: Bitmap>(
     mem: &M,
@@ -327,7 +327,7 @@ pub(crate) fn room_at<M: GuestMemory, B: Bitmap>(
     Err(room_fault(mem, host, addr, size))
 }
 
-// Why so many bytes cannot be written at an address, at which they do not lie whole.
+// The error for an entry of `size` bytes that does not lie whole in memory.
 #[cold]
 #[inline(never)]
 fn room_fault<M: GuestMemory, B: Bitmap>(

@@ -20,7 +20,7 @@ pub trait Looks {
     /// A look: what looked before it, the step, what was found or why nothing, and what looks after it.
     ghost looks: { Self → (s : Step) → Result (Given s) QueueError → Self → Type 0 };
 
-    /// The number of 16 bits so far behind an address, by one load.
+    /// The number of 16 bits at `base + offset`, by one load.
     fn word(&mut self, base: u64, offset: u64) -> Result<u16, QueueError>
         requires { offset + 2 < 2 ^ 32 }
         ensures { looks self.old (word base offset) result self.new };

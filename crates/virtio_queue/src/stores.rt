@@ -30,7 +30,7 @@ pub trait Stores<H> {
     /// A place that was looked up may still be used.
     ghost leads: { Self → H → (s : Step) → Given s → Type 0 };
 
-    /// Looks up where `size` bytes go so far behind an address.
+    /// Looks up where `size` bytes at `base + offset` lie.
     fn room(&self, host: &mut H, base: u64, offset: u64, size: u64) -> Result<u64, QueueError>
         requires held { held self.now host.old }
         requires some { 0 < size }
@@ -40,7 +40,7 @@ pub trait Stores<H> {
         ensures stay { (s : Step) (x : Given s) → leads self.now host.old s x → leads self.now host.new s x }
         ensures held { held self.now host.new };
 
-    /// Looks up where a load or a store of a number of 16 bits goes so far behind an address.
+    /// Looks up where a number of 16 bits at `base + offset` is loaded or stored.
     fn spot(
         &self,
         host: &mut H,

@@ -164,7 +164,7 @@ fn copy(machine: &mut ScriptMachine, call: &Call, answer: &mut Answer)
     done(machine.copy(from, to), answer);
 }
 
-// Reads at most so many bytes of a memory into the front of the output.
+// Reads at most `length` bytes of a memory into the front of the output.
 #[inline(never)]
 pub(crate) fn read(machine: &ScriptMachine, call: &Call, output: &mut [u8], answer: &mut Answer)
     ensures { let now = state_made machine.now in
@@ -181,7 +181,7 @@ pub(crate) fn read(machine: &ScriptMachine, call: &Call, output: &mut [u8], answ
     );
 }
 
-// Reads just so many bytes of a memory into the front of the output.
+// Reads exactly `length` bytes of a memory into the front of the output.
 #[inline(never)]
 pub(crate) fn read_slice(
     machine: &ScriptMachine,

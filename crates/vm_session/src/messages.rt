@@ -28,7 +28,7 @@ use vm_memory_guest::{GuestMemory, GuestMemoryRegion, HostMemory, TlbId};
 // How many bytes a row has: three numbers.
 const ROW_LEN: usize = 24;
 
-// The number of 8 bytes at the front, and the bytes behind it.
+// The number of 8 bytes at the front, and the bytes after it.
 fn number_at(bytes: &[u8]) -> (u64, &[u8])
     requires { 8 ≤ length bytes.now }
     ensures number { result.0 ≡ from_le_bytes w64 (take 8 bytes.now) }
@@ -101,7 +101,7 @@ fn applied(outcome: Result<usize, Refusal>) -> Answer
     }
 }
 
-// Whether some row has so many bytes of the front end's memory from an address on. It allocates nothing.
+// Whether some row has `size` bytes of the front end's memory from an address on. It allocates nothing.
 fn any_has_range(rows: &[u8], user_address: u64, size: u64) -> bool
     ensures { result ≡ is_some (guest_of (regions_in rows.now) user_address size) }
 {

@@ -234,8 +234,8 @@ impl SessionParts {
         }
     }
 
-    // Serves a call on a queue and a memory. Each kind that is made often has a function of its own, since a function
-    // pays at its entry for all values that it may come to have.
+    // Serves a call on a queue and a memory. Each kind that is made often has a function of its own, since Rattle
+    // zeroes all locals of a function at entry.
     #[inline(always)]
     pub(crate) fn work(
         &mut self,
@@ -439,8 +439,8 @@ impl SessionParts {
         }
     }
 
-    // The calls that are made most often: those that access bytes of a memory. Each has a function of its own, since a
-    // function pays at its entry for all values that it may come to have.
+    // The calls that are made most often: those that access bytes of a memory. Each has a function of its own, since
+    // Rattle zeroes all locals of a function at entry.
     #[inline(always)]
     pub(crate) fn access(
         &mut self,

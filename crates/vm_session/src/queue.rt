@@ -53,7 +53,7 @@ impl Model for SessionQueue {
         × (q.count ≤ q.most) };
 }
 
-// Nothing in flight, for so many heads.
+// No chain in flight, for each head of a queue of this size.
 fn none_in_flight(alloc: Global, size: u16) -> Result<Vec<Option<Chain>>, AllocError>
     ensures { IfOk result (λ flight. flight.items ≡ replicate size None) }
 {
@@ -73,7 +73,7 @@ fn clear(flight: &mut [Option<Chain>])
     }
 }
 
-// Keeps a queue that nobody has set up, of which so many descriptors may be in flight.
+// Keeps a queue that nobody has set up, of which at most `most` descriptors may be in flight.
 fn keep_queue(alloc: Global, queues: &mut Vec<SessionQueue>, queue: AnyQueue, most: usize) -> Answer
     ensures { KeepsQueue (with_none queue most) queues.old.items result queues.new.items }
 {
@@ -139,7 +139,7 @@ impl SessionQueue {
         })
     }
 
-    // Makes it what it was when it was made.
+    // Resets to the state after creation.
     pub(crate) fn reset(&mut self)
         ensures { self.new ≡ cleared self.old }
     {

@@ -27,7 +27,6 @@ struct PopWork<'a> {
 }
 
 impl<B: Bitmap> Work<B> for PopWork<'_> {
-    // It keeps its references: what they point to is what the caller finds then.
     ghost does = { λ w m host after host'. (after.queue.ghost_name ≡ w.queue.ghost_name)
         × (after.answer.ghost_name ≡ w.answer.ghost_name)
         × Pops (Still B.marks m) w.queue.now host after.answer.now after.queue.now host' };
@@ -93,7 +92,6 @@ struct ReadWork<'a> {
 }
 
 impl<B: Bitmap> Work<B> for ReadWork<'_> {
-    // It keeps its references: what they point to is what the caller finds then.
     ghost does = { λ w m host after host'. (after.output.ghost_name ≡ w.output.ghost_name)
         × (after.answer.ghost_name ≡ w.answer.ghost_name)
         × ReadsInto m w.call.now w.queue.now host w.output.now after.answer.now after.output.now × (host' ≡ host) };
@@ -139,7 +137,6 @@ struct WriteWork<'a> {
 }
 
 impl<B: Bitmap> Work<B> for WriteWork<'_> {
-    // It keeps its references: what they point to is what the caller finds then.
     ghost does = { λ w m host after host'. (after.answer.ghost_name ≡ w.answer.ghost_name)
         × WritesChain B.marks m w.queue.now w.call.now.third w.call.now.address w.input.now host after.answer.now
         host' };
@@ -204,7 +201,6 @@ struct UsedWork<'a> {
 }
 
 impl<B: Bitmap> Work<B> for UsedWork<'_> {
-    // It keeps its references: what they point to is what the caller finds then.
     ghost does = { λ w m host after host'. (after.queue.ghost_name ≡ w.queue.ghost_name)
         × (after.answer.ghost_name ≡ w.answer.ghost_name)
         × ReturnsIf (Still B.marks m) w.call.now w.queue.now host after.answer.now after.queue.now host' };
@@ -289,7 +285,6 @@ struct CompleteWork<'a> {
 }
 
 impl<B: Bitmap> Work<B> for CompleteWork<'_> {
-    // It keeps its references: what they point to is what the caller finds then.
     ghost does = { λ w m host after host'. (after.queue.ghost_name ≡ w.queue.ghost_name)
         × (after.answer.ghost_name ≡ w.answer.ghost_name)
         × CompletesIf B.marks m (Still B.marks m) w.call.now w.input.now w.queue.now host after.answer.now
@@ -334,7 +329,6 @@ struct NotifyWork<'a> {
 }
 
 impl<B: Bitmap> Work<B> for NotifyWork<'_> {
-    // It keeps its references: what they point to is what the caller finds then.
     ghost does = { λ w m host after host'. (after.queue.ghost_name ≡ w.queue.ghost_name)
         × (after.answer.ghost_name ≡ w.answer.ghost_name)
         × NeedsNotification (Still B.marks m) w.queue.now host after.answer.now after.queue.now host' };

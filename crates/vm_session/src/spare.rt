@@ -18,7 +18,7 @@ pub(crate) struct SpareLists {
 }
 
 impl SpareLists {
-    // No lists, of a queue of which so many descriptors may be in flight.
+    // No lists, for a queue of which at most `most` descriptors may be in flight.
     #[inline]
     pub(crate) fn new(alloc: Global, most: usize) -> SpareLists {
         SpareLists {

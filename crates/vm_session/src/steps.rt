@@ -32,7 +32,7 @@ pub(crate) fn sources_of(
     Ok(Some(Items::from_vec(steps)))
 }
 
-// The step of a source that ends with this number behind its bytes.
+// The step of a source that has this number after its bytes.
 fn source_of(word: usize, bytes: Vec<u8>) -> Option<SourceStep>
     ensures { result ≡ source_at word bytes.items }
 {

@@ -16,7 +16,7 @@ use std::alloc::{AllocError, Global};
 use vm_memory::{Refusal, ScriptMachine, SinkList, SourceList};
 use vm_memory_base::{GuestAddress, ScriptSink, ScriptSource};
 
-// Receives at most so many bytes of a memory.
+// Receives at most `length` bytes of a memory.
 pub(crate) fn receive(
     alloc: Global,
     machine: &mut ScriptMachine,
@@ -39,7 +39,7 @@ pub(crate) fn receive(
     answer
 }
 
-// Receives just so many bytes of a memory.
+// Receives exactly `length` bytes of a memory.
 pub(crate) fn receive_whole(
     alloc: Global,
     machine: &mut ScriptMachine,
@@ -62,7 +62,7 @@ pub(crate) fn receive_whole(
     answer
 }
 
-// Sends at most so many bytes of a memory. What the sink takes goes to the front of the output.
+// Sends at most `length` bytes of a memory. What the sink takes goes to the front of the output.
 pub(crate) fn send(
     alloc: Global,
     machine: &ScriptMachine,
@@ -92,7 +92,7 @@ pub(crate) fn send(
     sent(answer, sink.into_taken().as_slice(), output)
 }
 
-// Sends just so many bytes of a memory.
+// Sends exactly `length` bytes of a memory.
 pub(crate) fn send_whole(
     alloc: Global,
     machine: &ScriptMachine,

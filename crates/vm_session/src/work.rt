@@ -70,7 +70,6 @@ fn finish_if<H, D: DeviceMemory<H>>(
 }
 
 impl<B: Bitmap> Work<B> for QueueWork<'_> {
-    // It keeps its reference: what that points to is what the caller finds then.
     ghost does = { λ w m host after host'. (after.answer.ghost_name ≡ w.answer.ghost_name)
         × ((input out : List ℕ) → Works B.marks m (Still B.marks m) w.kind w.call.now input w.queue.now host out
         after.answer.now w.queue.now host' out) };

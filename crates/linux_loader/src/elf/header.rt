@@ -75,7 +75,7 @@ fn check_kind(header: &[u8]) -> Result<(), LoaderError>
     Ok(())
 }
 
-// What the header tells of the places of an image of so many bytes.
+// What the header says of the places of an image of `size` bytes.
 fn places_of(header: &[u8], size: u64, highmem_start: u64) -> Result<ElfHeader, LoaderError>
     requires { length header.now ≡ 64 }
     ensures is { result ≡ places_of size highmem_start header.now }
@@ -106,7 +106,7 @@ fn places_of(header: &[u8], size: u64, highmem_start: u64) -> Result<ElfHeader, 
     })
 }
 
-// What the header tells of an image of so many bytes.
+// What the header says of an image of `size` bytes.
 pub(crate) fn header_of(
     header: &[u8],
     size: u64,
@@ -135,7 +135,7 @@ fn program_header(bytes: &[u8]) -> ProgramHeader
     }
 }
 
-// The program headers of a table of so many.
+// The program headers of a table of `count`.
 pub(crate) fn program_headers(
     alloc: Global,
     table: &[u8],
@@ -151,7 +151,7 @@ pub(crate) fn program_headers(
     Ok(headers)
 }
 
-// The segment that a program header names in an image of so many bytes, if it names one with a byte.
+// The segment that a program header names in an image of `size` bytes, if it names one with a byte.
 fn segment_of(
     header: &ProgramHeader,
     size: u64,
@@ -186,7 +186,7 @@ fn segment_of(
     }))
 }
 
-// Whether what a program header names lies in an image of so many bytes. None of no bytes lies anywhere.
+// Whether what a program header names lies in an image of `size` bytes. None of no bytes lies anywhere.
 pub(crate) fn lies_in(header: &ProgramHeader, size: u64) -> bool
     ensures { result ≡ lies_in size header.now }
 {

@@ -45,7 +45,7 @@ struct Note {
     size: u64,
 }
 
-// The number in a descriptor of so many bytes at a place.
+// The number of `size` bytes at a place of a descriptor.
 fn number_in(bytes: &[u8], at: u64, size: u64) -> Result<u64, LoaderError>
     requires { at + size ≤ length bytes.now }
     ensures { result ≡ number_in size at bytes.now }
@@ -121,7 +121,7 @@ fn note_align(align: u64) -> Result<u64, LoaderError>
     Err(LoaderError::InvalidNoteAlign)
 }
 
-// The PVH entry that a program header of an image of so many bytes leads to.
+// The PVH entry that a program header of an image of `size` bytes leads to.
 fn entry_of<F: KernelImage>(
     alloc: Global,
     image: &mut F,

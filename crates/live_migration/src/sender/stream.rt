@@ -138,7 +138,7 @@ fn targets_of<B: ExactBitmap>(
     Ok(targets)
 }
 
-// Whether a target's block is none of those of others.
+// Whether no other target has this block.
 pub(super) fn is_new(targets: &[Target], target: &Target) -> bool
     ensures { result ≡ true → IsOther targets.now target.now }
 {

@@ -48,8 +48,8 @@ fn with_flags(flags: u16, descriptor: PackedDescriptor) -> PackedDescriptor
     }
 }
 
-// Adds the segments of the descriptors from a slot on that another follows, at most so many. It answers the last one of
-// the chain, and how many they are. The flags of the first one are known.
+// Appends the segments of the descriptors from the next slot on, up to the last one of the chain. Returns this one, and
+// how many descriptors the chain has, at most `room`. The flags of the first one are known.
 fn list<L: Looks>(
     looks: &mut L,
     state: &PackedState,
@@ -88,7 +88,7 @@ fn list<L: Looks>(
     Err(QueueError::DescriptorLoop)
 }
 
-// Adds the segments of so many descriptors of an indirect table.
+// Appends the segments of the first `len` descriptors of an indirect table.
 fn add_rows<L: Looks>(
     looks: &mut L,
     table: u64,

@@ -58,7 +58,7 @@ pub struct PackedDriver {
     pub next_used: RingPosition,
 }
 
-// A position so many slots on, in a ring of any size.
+// The position `count` slots further, in a ring of any size.
 fn moved_in(size: u16, position: RingPosition, count: u16) -> Result<RingPosition, QueueError>
     ensures { result ≡ moved_in size position count }
 {
@@ -109,7 +109,7 @@ impl PackedDriver {
         Ok(queue)
     }
 
-    // The start of the area of a field, and how far behind it the field lies.
+    // The start of the area of a field, and the field's offset in it.
     fn place(&self, field: PackedField) -> (u64, u64)
         ensures place { result ≡ (area_of self.now field, offset_of field) }
         ensures near { result.1 + 2 < 2 ^ 32 }

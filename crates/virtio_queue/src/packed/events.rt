@@ -40,7 +40,7 @@ fn count_of(size: u32, position: RingPosition) -> u32
     if position.wrap { slot } else { size + slot }
 }
 
-// Whether the position of an event is one of so many in front of the next one.
+// Whether the position of an event is one of the `count` before the next one.
 #[inline]
 fn is_passed(size: u16, count: u32, next: RingPosition, event: RingPosition) -> bool
     requires fits { size ≤ 2 ^ 15 }

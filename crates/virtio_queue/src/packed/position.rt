@@ -54,7 +54,7 @@ impl RingPosition {
         if self.wrap { slot + 0x8000 } else { slot }
     }
 
-    /// The position so many slots on, at most the size: past the end the wrap counter flips.
+    /// The position `count` slots further, at most the size: past the end the wrap counter flips.
     #[inline]
     pub fn moved(self, size: u16, count: u16) -> RingPosition
         requires fits { size ≤ 2 ^ 15 }

@@ -51,7 +51,7 @@ fn wants_notification<L: Looks>(
     Ok(flags & VRING_AVAIL_F_NO_INTERRUPT == 0)
 }
 
-// How far behind the start of the used ring lies what says when to notify the device.
+// The offset in the used ring of what says when to notify the device.
 #[inline]
 fn kick_offset(state: &QueueState) -> u64
     ensures offset { result ≡ kick_offset state.now }

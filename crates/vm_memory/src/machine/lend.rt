@@ -15,7 +15,8 @@ use vm_memory_guest::{GuestMemory, GuestMemoryRegion, HostMemory};
 /// A machine keeps what its memories name in its host, so it does not lend both by references. It does work that is
 /// handed to it.
 pub trait Work<B> {
-    /// What the work does: itself, a memory and the host before, and itself and the host after.
+    /// What the work does: itself, a memory and the host before, and itself and the host after. A work that has
+    /// references has to say that it keeps each of them (`ghost_name`): then its caller finds there what it wrote.
     ghost does: { Self → Memory → Host B → Self → Host B → Type 0 };
 
     /// Does the work. It adds no block, space or table, and removes none.
