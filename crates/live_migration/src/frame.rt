@@ -1,8 +1,10 @@
 //! Frames of the stream.
-ghost use Rattle.std.specs.Prelude.{◌≡◌, ◌+◌, ◌^◌, ◌<◌, ◌≤◌, ℕ, List, [], ◌∷◌, ◌++◌, length, take, IfOk, OnOk, OnErr, Ok};
+ghost use Rattle.std.specs.Prelude.{◌≡◌, ◌+◌, ◌^◌, ◌<◌, ◌≤◌, ℕ, List, [], ◌∷◌, ◌++◌, length, take, IfOk, OnOk, OnErr};
+ghost use Rattle.std.specs.Prelude.{Ok};
 ghost use Rattle.std.specs.Int.{w32, w64, to_le_bytes};
 ghost use Rattle.live_migration.specs.Frame.{Message, IsMessage, head, kind_of, message_of, payload_of, spelling};
-ghost use Rattle.live_migration.specs.Reading.{Gives, message_in, pages_in, zero_page_in, round_end_in, section_in, empty_in};
+ghost use Rattle.live_migration.specs.Reading.{Gives, message_in, pages_in, zero_page_in, round_end_in, section_in};
+ghost use Rattle.live_migration.specs.Reading.{empty_in};
 
 use crate::fields::{u32_at, u64_at};
 use crate::refusal::Refusal;
@@ -257,7 +259,8 @@ impl<'a> Frame<'a> {
     }
 
     /// Appends the frame to other bytes, as it goes over the stream. `AllocError` if its allocation fails, and
-    /// then nothing changes. Its fields have to fit: at most 2^20 bytes, a digest of 32 or none, and a name of at most 255.
+    /// then nothing changes. Its fields have to fit: at most 2^20 bytes, a digest of 32 or none, and a name of at most
+    /// 255.
     pub fn encode(&self, out: &mut Vec<u8>) -> Result<(), AllocError>
         requires { IsMessage (message_of self.now) }
         ensures ok { OnOk result (out.new.items ≡ out.old.items ++ spelling (message_of self.now)) }

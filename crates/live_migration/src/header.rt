@@ -1,7 +1,9 @@
 //! The header of the stream: which blocks there are.
 ghost use Rattle.std.specs.Prelude.{◌≡◌, ◌+◌, ◌^◌, ◌<◌, ◌≤◌, ◌++◌, ℕ, Bool, List, length, IfOk, IsOk, Ok, ◌↔◌};
 ghost use Rattle.std.specs.Int.{w32, w64, to_le_bytes};
-ghost use Rattle.live_migration.specs.Header.{FitsFields, GivesUnlessMemory, entry_bytes, IsHeader, checked, entries_in, entry_in, front_in, header_bytes, header_in, option_bits, parts_of};
+ghost use Rattle.live_migration.specs.Header.{FitsFields, GivesUnlessMemory, entry_bytes, IsHeader, checked};
+ghost use Rattle.live_migration.specs.Header.{entries_in, entry_in, front_in, header_bytes, header_in, option_bits};
+ghost use Rattle.live_migration.specs.Header.{parts_of};
 ghost use Rattle.live_migration.specs.Reading.{Gives};
 ghost use Rattle.live_migration.specs.declared.header.BlockEntry.{BlockEntry};
 

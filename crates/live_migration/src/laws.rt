@@ -1,5 +1,6 @@
 //! What becomes of the pages of a migration: each function here is a theorem, and does nothing.
-ghost use Rattle.std.specs.Prelude.{◌≡◌, ◌+◌, ◌*◌, ◌^◌, ◌<◌, ◌≤◌, ◌⊎◌, ℕ, Bool, List, [], ◌∷◌, ◌++◌, Option, Some, All, Contains, true, length, flat_map, slice_get};
+ghost use Rattle.std.specs.Prelude.{◌≡◌, ◌+◌, ◌*◌, ◌^◌, ◌<◌, ◌≤◌, ◌⊎◌, ℕ, Bool, List, [], ◌∷◌, ◌++◌, Option, Some, All};
+ghost use Rattle.std.specs.Prelude.{Contains, true, length, flat_map, slice_get};
 ghost use Rattle.std.specs.Io.KnownBytes.{Appends};
 ghost use Rattle.std.specs.List.{AllByRecursion};
 ghost use Rattle.live_migration.specs.Calls.{Call, DoAll, EndsPaused, HasBegun, Moment, ReadsAll};
@@ -47,8 +48,8 @@ pub fn no_page_is_lost()
     dirty_pages_are_listed();
 }
 
-/// A stream means one thing: the frames of a stream are decided by its bytes, and so are the options and the blocks of a
-/// header, and what comes after it.
+/// A stream means one thing: the frames of a stream are decided by its bytes, and so are the options and the blocks of
+/// a header, and what comes after it.
 pub fn streams_mean_one_thing()
     ensures frames { (ms ns : List Message) → AllByRecursion IsMessage ms → AllByRecursion IsMessage ns
         → flat_map spelling ms ≡ flat_map spelling ns → ms ≡ ns }
@@ -79,9 +80,9 @@ pub fn writes_mark_what_they_change<B: ExactBitmap>()
 }
 
 /// What a sender sends, its receiver has. A sender begins on an empty stream. Then come any calls that
-/// succeed, or are refused and leave the stream, and any writes that mark what they change. There are events that may come by which the sender does as the
-/// rounds say, and once go is sent, a receiver that reads the whole stream has of each block the image of the rounds.
-/// If the guest was paused for a last round, both ends have the same blocks.
+/// succeed, or are refused and leave the stream, and any writes that mark what they change. There are events that may
+/// come by which the sender does as the rounds say, and once go is sent, a receiver that reads the whole stream has of
+/// each block the image of the rounds. If the guest was paused for a last round, both ends have the same blocks.
 pub fn receivers_have_what_was_sent<B: ExactBitmap, C: Bitmap>()
     ensures rounds { (calls : List Call) (first last : Moment B) → HasBegun B.pages first
         → DoAll B.pages calls first last

@@ -1,5 +1,7 @@
 //! Pages that come into the blocks of a host.
-ghost use Rattle.std.specs.Prelude.{◌≡◌, ◌+◌, ◌-◌, ◌*◌, ◌<◌, ◌≤◌, ◌⊎◌, ◌%◌, ℕ, [], ◌∷◌, length, take, drop, replicate, min, true, IsTrue, ◌↔◌, Some, IfSome, IfNone, IfOk, OnOk, OnErr, slice_get, slice_index};
+ghost use Rattle.std.specs.Prelude.{◌≡◌, ◌+◌, ◌-◌, ◌*◌, ◌<◌, ◌≤◌, ◌⊎◌, ◌%◌, ℕ, [], ◌∷◌, length, take, drop, replicate};
+ghost use Rattle.std.specs.Prelude.{min, true, IsTrue, ◌↔◌, Some, IfSome, IfNone, IfOk, OnOk, OnErr, slice_get};
+ghost use Rattle.std.specs.Prelude.{slice_index};
 ghost use Rattle.live_migration.specs.Bare.{AreBare};
 ghost use Rattle.live_migration.specs.Image.{are_zero, page_bytes, placed};
 ghost use Rattle.live_migration.specs.Placing.{Applies, HasPlaced, IsInside, LieIn, MarksChanged};

@@ -21,7 +21,8 @@ pub struct Rate {
 pub enum Stop {
     /// Fewer pages than these are dirty.
     Below(u64),
-    /// What is left takes less than this many microseconds at the rate of the last rounds. Not before anything was sent.
+    /// What is left takes less than this many microseconds at the rate of the last rounds. Not before anything was
+    /// sent.
     Within(u64),
 }
 

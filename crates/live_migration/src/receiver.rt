@@ -1,5 +1,6 @@
 //! The receiving end.
-ghost use Rattle.std.specs.Prelude.{◌≡◌, ℕ, ◌+◌, ◌^◌, ◌<◌, ◌≤◌, List, ◌++◌, length, replicate, IfOk, OnOk, OnErr, IsOk, Ok};
+ghost use Rattle.std.specs.Prelude.{◌≡◌, ℕ, ◌+◌, ◌^◌, ◌<◌, ◌≤◌, List, ◌++◌, length, replicate, IfOk, OnOk, OnErr, IsOk};
+ghost use Rattle.std.specs.Prelude.{Ok};
 ghost use Rattle.live_migration.specs.Frame.{message_of};
 ghost use Rattle.live_migration.specs.Stages.{stage_after};
 

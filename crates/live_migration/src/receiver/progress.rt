@@ -1,5 +1,6 @@
 //! How far a receiver has come.
-ghost use Rattle.std.specs.Prelude.{◌≡◌, ℕ, Bool, ◌+◌, ◌^◌, ◌<◌, ◌≤◌, List, [], ◌∷◌, ◌++◌, length, replicate, sum_by, IfOk, OnOk, OnErr, Ok, Err};
+ghost use Rattle.std.specs.Prelude.{◌≡◌, ℕ, Bool, ◌+◌, ◌^◌, ◌<◌, ◌≤◌, List, [], ◌∷◌, ◌++◌, length, replicate, sum_by};
+ghost use Rattle.std.specs.Prelude.{IfOk, OnOk, OnErr, Ok, Err};
 ghost use Rattle.live_migration.specs.Digests.{HasNoted, digest_of};
 
 use super::{Stage, stage_after};
@@ -56,7 +57,8 @@ impl Progress {
     ghost use Rattle.live_migration.specs.Frame.{Message, RoundEnd, message_of, head};
     ghost use Rattle.live_migration.specs.Bare.{AreBare};
     ghost use Rattle.live_migration.specs.Placing.{Applies, IsInside, MarksChanged};
-    ghost use Rattle.live_migration.specs.Receiving.{IsRightEnd, IsSectionKept, cost_of, round_after, section_in, sections_told};
+    ghost use Rattle.live_migration.specs.Receiving.{IsRightEnd, IsSectionKept, cost_of, round_after, section_in};
+    ghost use Rattle.live_migration.specs.Receiving.{sections_told};
     ghost use Rattle.live_migration.specs.Stages.{stage_after};
     ghost use Rattle.live_migration.specs.declared.refusal.Refusal.TheVariants as refusals;
 

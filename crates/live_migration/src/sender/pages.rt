@@ -1,10 +1,12 @@
 //! Pages of a block that are taken and copied.
-ghost use Rattle.std.specs.Prelude.{◌≡◌, ◌≢◌, true, false, ℕ, ◌+◌, ◌*◌, ◌^◌, ◌<◌, ◌≤◌, ◌↔◌, IsTrue, [], ◌∷◌, ◌⊎◌, length, take, Some, IfErr, IfOk, OnOk, OnErr, slice_index};
+ghost use Rattle.std.specs.Prelude.{◌≡◌, ◌≢◌, true, false, ℕ, ◌+◌, ◌*◌, ◌^◌, ◌<◌, ◌≤◌, ◌↔◌, IsTrue, [], ◌∷◌, ◌⊎◌};
+ghost use Rattle.std.specs.Prelude.{length, take, Some, IfErr, IfOk, OnOk, OnErr, slice_index};
 ghost use Rattle.std.specs.Int.{div_ceil};
 ghost use Rattle.vm_memory_base.specs.Address.{numbers};
 ghost use Rattle.vm_memory_guest.specs.Host as names;
 ghost use Rattle.vm_memory_guest.specs.Host.{Holds, block_at, shape_of};
-ghost use Rattle.live_migration.specs.Sending.{AreMarkedAgain, CopiesRuns, Harvests, IsAsItWas, IsMarkedAgain, IsRun, IsTracked, IsWrittenPage, MarksBlock, TakesPages};
+ghost use Rattle.live_migration.specs.Sending.{AreMarkedAgain, CopiesRuns, Harvests, IsAsItWas, IsMarkedAgain, IsRun};
+ghost use Rattle.live_migration.specs.Sending.{IsTracked, IsWrittenPage, MarksBlock, TakesPages};
 
 use crate::frame::{Frame, MOST_PAGE_BYTES};
 use crate::header::BlockEntry;

@@ -25,7 +25,8 @@ pub struct Rounds {
 
 impl Rounds {
     ghost use Rattle.live_migration.specs.Following.{StaysAsItWas};
-    ghost use Rattle.live_migration.specs.Sending.{AreMarkedAgain, CopiesPages, HarvestsNext, IsBusy, NoneHarvested, harvested};
+    ghost use Rattle.live_migration.specs.Sending.{AreMarkedAgain, CopiesPages, HarvestsNext, IsBusy, NoneHarvested};
+    ghost use Rattle.live_migration.specs.Sending.{harvested};
 
     /// Takes the pages of the next block of the round, so that they wait to be copied and none of the block is dirty,
     /// and returns how many. In the first round these are all pages of the block, whoever harvested before.
@@ -77,8 +78,8 @@ impl Rounds {
     /// pages, zeros among them, and at most 2^20 + 20 bytes wait to be sent then. It returns how many pages were
     /// copied, which is 0 if there is no room.
     ///
-    /// `Order` if no block was harvested yet, of a sender without blocks, and past 2^32 - 1 blocks. `Changed` if the host
-    /// no longer has the block as it was, and `Memory` if the first allocation fails. Then nothing changes.
+    /// `Order` if no block was harvested yet, of a sender without blocks, and past 2^32 - 1 blocks. `Changed` if the
+    /// host no longer has the block as it was, and `Memory` if the first allocation fails. Then nothing changes.
     pub fn copy_batch<B: Bitmap>(&mut self, host: &HostMemory<B>) -> Result<usize, SendError>
         ensures copied { IfOk result (λ count. CopiesPages count self.old self.new host.now) }
         ensures order { IsErrOf result SendError.Order → NoneHarvested self.old }

@@ -1,5 +1,7 @@
 //! A sender with its stream: what was copied is sent, rounds end, and the guest is given up.
-ghost use Rattle.std.specs.Prelude.{◌≡◌, ◌≢◌, true, ℕ, Bool, ◌+◌, ◌-◌, ◌^◌, ◌<◌, ◌≤◌, List, [], ◌++◌, length, map, take, Some, IfErr, IfOk, IsOk, IsOkUnless, OnOk, OnErr, IsErr, IsErrOf, IsTrue, ◌↔◌, ◌⊎◌};
+ghost use Rattle.std.specs.Prelude.{◌≡◌, ◌≢◌, true, ℕ, Bool, ◌+◌, ◌-◌, ◌^◌, ◌<◌, ◌≤◌, List, [], ◌++◌, length, map};
+ghost use Rattle.std.specs.Prelude.{take, Some, IfErr, IfOk, IsOk, IsOkUnless, OnOk, OnErr, IsErr, IsErrOf, IsTrue};
+ghost use Rattle.std.specs.Prelude.{◌↔◌, ◌⊎◌};
 ghost use Rattle.std.specs.Io.KnownBytes.{Appends, Keeps};
 ghost use Rattle.live_migration.specs.Digests.{HasNoted, digest_of};
 ghost use Rattle.live_migration.specs.Frame.{Done, Go, IsMessage, RoundEnd, Section, message_of, spelling};
@@ -223,7 +225,8 @@ impl Rounds {
 
 impl Sender {
     ghost use Rattle.live_migration.specs.Following.{StaysAsItWas};
-    ghost use Rattle.live_migration.specs.Sending.{AreMarkedAgain, HarvestsNext, CopiesPages, IsBusy, IsIdle, IsThrough, NoneHarvested, harvested};
+    ghost use Rattle.live_migration.specs.Sending.{AreMarkedAgain, HarvestsNext, CopiesPages, IsBusy, IsIdle};
+    ghost use Rattle.live_migration.specs.Sending.{IsThrough, NoneHarvested, harvested};
 
     /// Writes the header of these options and blocks of a host, each with its address. The first round is sent after
     /// `ready`. The
@@ -329,8 +332,8 @@ impl Sender {
         }
     }
 
-    /// As `send_batch` to a list, for a caller who writes it to the stream. If the list is empty, it becomes the batch, and
-    /// no byte is copied.
+    /// As `send_batch` to a list, for a caller who writes it to the stream. If the list is empty, it becomes the batch,
+    /// and no byte is copied.
     pub fn take_batch(&mut self, bytes: &mut Vec<u8>) -> Result<(), SendError>
         ensures sent { OnOk result (Sends self.old.rounds.batch.items (Some bytes.old.items) (Some bytes.new.items)
             self.old.hasher self.new.hasher) }
@@ -361,8 +364,8 @@ impl Sender {
     }
 
     /// Sends the state of a device or a queue, in a round: its name has at most 255 bytes, and the state at most 2^20,
-    /// else `Section`. `Order` before `ready` and after the rounds. `Memory` if an allocation fails, and `Failed` if the
-    /// stream does: then nothing more is sent.
+    /// else `Section`. `Order` before `ready` and after the rounds. `Memory` if an allocation fails, and `Failed` if
+    /// the stream does: then nothing more is sent.
     pub fn send_section<W: Write>(
         &mut self,
         alloc: Global,
