@@ -114,6 +114,62 @@ fn what_the_front_end_does_not_map_fails() {
     assert_eq!(front.read_disk(0, 4, 512), [9; 512]);
 }
 
+// Without a channel nobody can be asked: the ring fails, and does not wait.
+#[test]
+fn a_ring_without_a_channel_fails() {
+    let program = Program::start("no_channel", LEN, &[]);
+    let mut front = program.connect();
+    front.negotiate(BEHIND);
+    front.set_memory();
+    front.start_ring(64, 0);
+    front.kick(0);
+    assert!(can_read(&front.rings[0].err, LONG));
+    assert_eq!(front.stop_ring(0), 0);
+    front.translate(SHIFT);
+    front.restart_ring(0, 0);
+    front.read_disk(0, 1, 512);
+}
+
+// The channel closes while a mapping is awaited: the request fails. A new channel is asked.
+#[test]
+fn a_channel_that_closes_answers_no() {
+    let program = Program::start("closed_channel", LEN, &[]);
+    let mut front = started(&program, BEHIND);
+    front.read_disk(0, 1, 512);
+    let (page, data) = (data_page(&front), front.places(0, 0).0 as u64);
+    front.remap(page, Some((data, READ | WRITE)));
+    front.put_request(0, 0, 1, 3, 512);
+    front.publish(0, 0);
+    front.kick(0);
+    front.hold(page);
+    let shift = front.shift;
+    drop(front.io.take());
+    assert_eq!(front.take_used(0), (0, 1));
+    assert_eq!(front.read(front.places(0, 0).1, 1), [1]);
+    front.translate(shift);
+    front.read_disk(0, 1, 512);
+}
+
+// A request came back before the one that waits, and then the ring stops: the driver is interrupted.
+#[test]
+fn a_ring_that_stops_as_it_waits_interrupts() {
+    let program = Program::start("waiting_interrupt", LEN, &[]);
+    let mut front = started(&program, BEHIND);
+    front.read_disk(0, 1, 512);
+    program.rest();
+    take(&front.rings[0].call);
+    front.put_request(0, 0, 0, 1, 512);
+    front.put_request(0, 3, 0, 2, 512);
+    front.publish(0, 0);
+    front.publish(0, 3);
+    front.kick(0);
+    let data = front.places(0, 3).0 as u64;
+    front.hold(SHIFT + data);
+    assert_eq!(front.used_idx(0), 2);
+    assert_eq!(front.stop_ring(0), 2);
+    assert!(can_read(&front.rings[0].call, LONG));
+}
+
 // The page of the header and the status may only be read. The request comes back without a byte that was not written.
 #[test]
 fn a_status_that_is_forbidden_is_not_written() {

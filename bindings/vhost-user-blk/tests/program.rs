@@ -331,18 +331,24 @@ fn a_driver_that_breaks_a_rule_is_told() {
     let mut front = started(&program, USUAL);
     front.start_ring(16, 0);
     front.read_disk(0, 1, 512);
-    // A head past the ring.
+    program.rest();
+    take(&front.rings[0].call);
+    // A head past the ring. The driver is interrupted for the request before it.
+    front.put_request(0, 0, 0, 2, 512);
+    front.publish(0, 0);
     front.publish(0, 64);
     front.kick(0);
     assert!(can_read(&front.rings[0].err, LONG));
+    assert!(can_read(&front.rings[0].call, LONG));
+    assert_eq!(front.take_used(0), (0, 513));
     // The other ring goes on, and this one once it is started again.
     assert_eq!(front.read_disk(1, 3, 512), image_of(LEN)[3 * 512..4 * 512]);
-    assert_eq!(front.stop_ring(0), 1);
-    front.rings[0].next_avail = 1;
+    assert_eq!(front.stop_ring(0), 2);
+    front.rings[0].next_avail = 2;
     front
         .word((1 << 20) + 0x4002)
-        .store(1, std::sync::atomic::Ordering::SeqCst);
-    front.restart_ring(0, 1);
+        .store(2, std::sync::atomic::Ordering::SeqCst);
+    front.restart_ring(0, 2);
     assert_eq!(front.read_disk(0, 4, 512), image_of(LEN)[4 * 512..5 * 512]);
     // The size of a split ring is a power of two.
     front.start_ring(3, 0);

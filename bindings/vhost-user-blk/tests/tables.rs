@@ -98,6 +98,12 @@ fn what_stays_of_a_table_stays_mapped() {
     }
 }
 
+// By event indices the program asks to be notified of the next request.
+fn expect_event(program: &Program, front: &FrontEnd) {
+    program.rest();
+    assert_eq!(front.avail_event(0), front.rings[0].next_avail);
+}
+
 // Each table differs from the one before by its file alone, by the offset, or by both.
 #[test]
 fn a_file_and_its_offset_are_compared() {
@@ -124,6 +130,7 @@ fn a_file_and_its_offset_are_compared() {
         front.write_disk(0, sector, &[round as u8; 512]);
         assert_eq!(front.read_disk(0, sector, 512), [round as u8; 512]);
         assert!(old.is(&stale), "round {round}");
+        expect_event(&program, &front);
     }
 }
 
@@ -148,6 +155,9 @@ fn an_empty_table_takes_the_memory() {
             assert_eq!(front.used_idx(0), front.rings[0].next_used);
             front.set_memory();
             assert_eq!(front.take_used(0), (0, 513));
+            if features & EVENT_IDX != 0 {
+                expect_event(&program, &front);
+            }
         }
     }
 }

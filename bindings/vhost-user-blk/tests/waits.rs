@@ -5,13 +5,14 @@ mod front_end;
 
 use front_end::*;
 use std::fs::File;
+use std::hint::spin_loop;
 use std::io::Write;
 use std::os::fd::{AsRawFd, OwnedFd};
 use std::os::unix::net::UnixStream;
+use std::sync::atomic::{fence, Ordering::SeqCst};
 use std::time::{Duration, Instant};
 
 const LEN: usize = 1 << 20;
-const SET_LOG_FD: u32 = 7;
 
 // What is prompt on a machine that has other work.
 const PROMPT: Duration = Duration::from_secs(30);
@@ -37,6 +38,37 @@ fn publish(front: &mut FrontEnd, head: u16) {
     front.put_request(0, 0, 0, 1, 512);
     front.publish(0, head);
     front.kick(0);
+}
+
+// A driver that publishes as soon as a request comes back, and notifies only if it is asked to: what it publishes while the
+// program is about to wait is not lost.
+#[test]
+fn the_program_looks_again_before_it_waits() {
+    let program = Program::start("second_look", LEN, &[]);
+    for features in [USUAL, USUAL | EVENT_IDX] {
+        let mut front = started(&program, features);
+        let (flags, begun) = (front.used_ring(0) as usize, Instant::now());
+        front.put_request(0, 0, 0, 1, 512);
+        for index in 0..20_000_u16 {
+            front.publish(0, 0);
+            fence(SeqCst);
+            let is_asked = match features & EVENT_IDX {
+                0 => front.word(flags).load(SeqCst) & 1 == 0,
+                _ => front.avail_event(0) == index,
+            };
+            if is_asked {
+                front.kick(0);
+            }
+            let published = Instant::now();
+            while front.used_idx(0) == index {
+                assert!(published.elapsed() < LONG, "request {index} is lost");
+                spin_loop();
+            }
+            if begun.elapsed() > Duration::from_secs(3) {
+                break;
+            }
+        }
+    }
 }
 
 // A kick that has nothing to read, and whose reads wait.
