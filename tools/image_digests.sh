@@ -1,7 +1,7 @@
 #!/bin/sh
-# Prints the SHA-256 of each part of a kernel image as a loader leaves it in memory, taken from the file alone: of an ELF
-# file by readelf and dd, of a bzImage by dd from the end of its setup sectors on. Lines of crates/vmmem_boot end in the
-# same digests.
+# Prints the SHA-256 of each part of a kernel image as a loader leaves it in memory, taken from the file alone: of an
+# ELF file by readelf and dd, of a bzImage by dd from the end of its setup sectors on. Lines of crates/vmmem_boot end in
+# the same digests.
 # usage: tools/image_digests.sh IMAGE
 set -eu
 image=$1

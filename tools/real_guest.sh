@@ -18,8 +18,8 @@
 # guest may take. A guest that waits for what does not come fails before that, and one that is only slow does not fail.
 #
 # QEMU 7.2 seems to forget some pages that emulated processors wrote, each time it looks for such pages while a guest
-# moves: with QEMU's own device the guest crashed, too, and with QEMU 10.0 it did not. So QEMU looks once before the end,
-# and copies slowly meanwhile (move_by).
+# moves: with QEMU's own device the guest crashed, too, and with QEMU 10.0 it did not. So QEMU looks once before the
+# end, and copies slowly meanwhile (move_by).
 set -u
 QEMU=${QEMU:-qemu-system-x86_64}
 TOP=$(cd "$(dirname "${BASH_SOURCE[0]}")/.." && pwd)
@@ -36,9 +36,9 @@ SIZE=$((SECTORS * 512))
 PATTERN_SIZE=$((4 << 20))
 HALF=$((32 << 20))
 
-# A variant: what the guest does, the words of the device, those of the back end, how the back end is ended meanwhile, how
-# the guest runs its IOMMU, if it has one, by which way it moves to another QEMU, for how long it works, and the words of
-# its memory.
+# A variant: what the guest does, the words of the device, those of the back end, how the back end is ended meanwhile,
+# how the guest runs its IOMMU, if it has one, by which way it moves to another QEMU, for how long it works, and the
+# words of its memory.
 variant() {
     work=full device="" backend="" ending="" queues=1 ops=40 files=6 iommu="" moving="" soak="" ram=""
     case $1 in
@@ -207,8 +207,9 @@ is_writing() {
     grep -qs '^State:[[:space:]]*D' "/proc/$(cat "$room/pid" 2> /dev/null)/status"
 }
 
-# Ends QEMU if its guest waits, or when its time is up. On a busy machine a guest gets little of a processor, but goes on
-# wanting it; one that waits for its disk does not want it. When the time is up it has failed only if it ran in circles.
+# Ends QEMU if its guest waits, or when its time is up. On a busy machine a guest gets little of a processor, but goes
+# on wanting it; one that waits for its disk does not want it. When the time is up it has failed only if it ran in
+# circles.
 watch_guest() {
     local said=-1 now begun=$SECONDS quiet_since had had_then wanted wanted_then limit=$((LIMIT + ${soak:-0}))
     while sleep 1 && kill -0 "$qemu_pid" 2> /dev/null; do

@@ -1,7 +1,7 @@
 #!/bin/busybox sh
 # shellcheck shell=dash disable=SC2154,SC3028
-# The first process of the guest that tools/real_guest.sh boots. It uses its disk, says on the console what it writes, and
-# ends with a line "guest ok" or "guest FAILED: why". The kernel hands on these words of its command line:
+# The first process of the guest that tools/real_guest.sh boots. It uses its disk, says on the console what it writes,
+# and ends with a line "guest ok" or "guest FAILED: why". The kernel hands on these words of its command line:
 #   disk=NAME    the disk's name in /dev
 #   work=full    raw accesses and files, and the driver and the device are taken away and found again
 #   work=read    the disk is only read
@@ -263,9 +263,9 @@ grow() {
     check_files "after it grew"
 }
 
-# Load until the guest has moved, and memory that the disk alone fills while it moves: a back end that forgets to mark what
-# it writes leaves other bytes there. Three lines come on the console: the guest is about to move, most of its memory was
-# copied, and it has moved.
+# Load until the guest has moved, and memory that the disk alone fills while it moves: a back end that forgets to mark
+# what it writes leaves other bytes there. Three lines come on the console: the guest is about to move, most of its
+# memory was copied, and it has moved.
 move_away() {
     AREA=$((1 << 20))
     check_disk 0
@@ -284,7 +284,8 @@ move_away() {
     wait_for_file /tmp/moving
     # The kernel forgets what it read of a disk that nobody has open.
     exec 9< "/dev/$disk"
-    # The pages that are free now have other bytes, and the processor writes them no more: the kernel clears no new page.
+    # The pages that are free now have other bytes, and the processor writes them no more: the kernel clears no new
+    # page.
     echo 3 > /proc/sys/vm/drop_caches
     dd if=/dev/zero of=/tmp/fill bs=1M count=24 status=none
     rm /tmp/fill

@@ -1,5 +1,6 @@
 /* Each function of the header on a session, called with arguments of which no two are alike, and what is answered by
- * docs/BINDINGS.md and bindings/commands.txt. It ends with 0, or names the first line of which the answer is another one.
+ * docs/BINDINGS.md and bindings/commands.txt. It ends with 0, or names the first line of which the answer is another
+ * one.
  */
 #include "vm_memory.h"
 

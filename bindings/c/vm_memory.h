@@ -1,15 +1,15 @@
 /*
  * The proved machine, for C11 and C++17.
  *
- * A session is a machine. Each function below is one call of it. If a script has a line for it (docs/SCRIPT.md), the name
- * and the order are those of the line, but what a script can only make before its first command can be made at any
+ * A session is a machine. Each function below is one call of it. If a script has a line for it (docs/SCRIPT.md), the
+ * name and the order are those of the line, but what a script can only make before its first command can be made at any
  * time. A script has no queues. docs/BINDINGS.md has the rules.
  *
  * The caller opens a session before it calls it, and closes it once. It makes one call at a time of a session, from any
  * thread, keeps no pointer into it except those that vmm_shared_block gives, does not copy its handle, and gives true
- * lengths. An installed library is whole. Over libvm_memory_c.a alone build a program with vm_memory_heap.c, which has the
- * allocator that it calls, one with shared blocks also with vm_memory_shared.c, and one that asks for the version also
- * with vm_memory_version.c.
+ * lengths. An installed library is whole. Over libvm_memory_c.a alone build a program with vm_memory_heap.c, which has
+ * the allocator that it calls, one with shared blocks also with vm_memory_shared.c, and one that asks for the version
+ * also with vm_memory_version.c.
  */
 #ifndef VM_MEMORY_H
 #define VM_MEMORY_H
@@ -150,8 +150,8 @@ void vmm_forget_regions(vmm_session *session);
 
 /* Gives a block back, so that the session forgets its bytes and its dirty pages. Its number stays, and each later call that
  * names it is VMM_NO_SUCH. Returns VMM_DONE, and then bytes of the caller's are the caller's again; or VMM_NO_SUCH,
- * VMM_IN_USE (a region, a layout or a memory is there: vmm_forget_regions comes first) or VMM_OUT_OF_MEMORY, and nothing
- * changed. */
+ * VMM_IN_USE (a region, a layout or a memory is there: vmm_forget_regions comes first) or VMM_OUT_OF_MEMORY, and
+ * nothing changed. */
 uint32_t vmm_give_back(vmm_session *session, size_t block);
 
 /* A call with an input and an output, either of which may be of no bytes and null. */
@@ -187,11 +187,11 @@ static inline vmm_answer vmm_block(vmm_session *s, size_t size, size_t page) {
 }
 
 /* A block whose bytes are the caller's: those at `place`, as they are. Nothing is copied or cleared, and no page is dirty.
- * The caller promises that they are mapped, can be read and written, and are this block's alone, beside its guest, until
- * the block is given back or the session closed: no other block has one of them, no input or output of a call lies in
- * them, and nothing in this process but the library reads or writes them while a call runs. Then they are the caller's to
- * free. It is refused as vmm_block is, and if `place` is null or has no bytes or 2^63 and more with VMM_INVALID_SIZE, and
- * nothing changed then. */
+ * The caller promises that they are mapped, can be read and written, and are this block's alone, beside its guest,
+ * until the block is given back or the session closed: no other block has one of them, no input or output of a call
+ * lies in them, and nothing in this process but the library reads or writes them while a call runs. Then they are the
+ * caller's to free. It is refused as vmm_block is, and if `place` is null or has no bytes or 2^63 and more with
+ * VMM_INVALID_SIZE, and nothing changed then. */
 static inline vmm_answer vmm_block_at(vmm_session *s, vmm_place place, size_t page) {
     vmm_answer answer = {VMM_INVALID_SIZE, 0, 0, 0, {0, 0, 0}};
     if (place.at && place.size != 0 && place.size >> 63 == 0) {
@@ -207,10 +207,11 @@ typedef struct vmm_shared {
 } vmm_shared;
 
 /* A block whose bytes the caller shares with its guest: those of the file `fd` from `offset` on, or with `fd` -1 private
- * memory. They are mapped, and `*shared` says where: the caller calls vmm_unmap after it gave the block back or closed the
- * session. It is refused as vmm_block is, or with VMM_NOT_PAGED (the size or the offset is no multiple of the system's
- * page), VMM_NO_FILE (`fd` is no regular file), VMM_FILE_SHORT, or VMM_NOT_MAPPED (`count` is the system's error), and
- * nothing changed then. On huge pages those that the bytes have in part are mapped whole. vm_memory_shared.c has this. */
+ * memory. They are mapped, and `*shared` says where: the caller calls vmm_unmap after it gave the block back or closed
+ * the session. It is refused as vmm_block is, or with VMM_NOT_PAGED (the size or the offset is no multiple of the
+ * system's page), VMM_NO_FILE (`fd` is no regular file), VMM_FILE_SHORT, or VMM_NOT_MAPPED (`count` is the system's
+ * error), and nothing changed then. On huge pages those that the bytes have in part are mapped whole.
+ * vm_memory_shared.c has this. */
 vmm_answer vmm_shared_block(vmm_session *session, size_t size, size_t page, int fd, uint64_t offset,
                             vmm_shared *shared);
 void vmm_unmap(vmm_shared *shared);
@@ -385,11 +386,11 @@ typedef struct vmm_user_region {
 
 /* Applies a message of a front end to the I/O table of a memory, whose IOMMU is on. The input has the 32 bytes of the
  * message, and then a vmm_user_region for each part of the announced memory. An INVALIDATE needs none, and is never
- * refused because an allocation fails. A malformed message is refused with VMM_MESSAGE_KIND and so on, and maps nothing;
- * if it is an INVALIDATE, all addresses are unmapped. A call that was refused with VMM_IOMMU_MISSING is made again after
- * its UPDATE was applied so, until it is not. It ends then: if the table has a limit, the call is refused with
- * VMM_IOTLB_TOO_SMALL if it needs more ranges than that (docs/BINDINGS.md). The value of the answer is how many ranges
- * the table evicted for an UPDATE. */
+ * refused because an allocation fails. A malformed message is refused with VMM_MESSAGE_KIND and so on, and maps
+ * nothing; if it is an INVALIDATE, all addresses are unmapped. A call that was refused with VMM_IOMMU_MISSING is made
+ * again after its UPDATE was applied so, until it is not. It ends then: if the table has a limit, the call is refused
+ * with VMM_IOTLB_TOO_SMALL if it needs more ranges than that (docs/BINDINGS.md). The value of the answer is how many
+ * ranges the table evicted for an UPDATE. */
 static inline vmm_answer vmm_iotlb_message(vmm_session *s, size_t memory, const void *input, size_t input_size) {
     vmm_request call = vmm_at(VMM_IOTLB_MESSAGE, memory, 0, 0);
     return vmm_asked(s, &call, input, input_size, NULL, 0);
@@ -457,8 +458,8 @@ static inline vmm_answer vmm_queue(vmm_session *s, size_t max_size, size_t descr
 }
 
 /* The same for a packed queue, whose greatest size is any from 1 to 32768. Every call below is for both kinds, where it
- * does not say otherwise. The head of a chain of a packed queue is the driver's id for it. A chain whose id is not below
- * the greatest size is refused with VMM_INVALID_DESCRIPTOR_INDEX. */
+ * does not say otherwise. The head of a chain of a packed queue is the driver's id for it. A chain whose id is not
+ * below the greatest size is refused with VMM_INVALID_DESCRIPTOR_INDEX. */
 static inline vmm_answer vmm_packed_queue(vmm_session *s, size_t max_size, size_t descriptors) {
     vmm_request call = vmm_at(VMM_PACKED_QUEUE, 0, 0, max_size);
     call.other_length = descriptors;
@@ -509,8 +510,8 @@ static inline vmm_answer vmm_set_next_used(vmm_session *s, size_t queue, uint16_
 }
 
 /* Sets both positions of a packed queue, as messages of vhost have them: in the low half where the next chain is popped, in
- * the high half where the next one is returned, each as a slot with its wrap counter in bit 15. If it cannot stand there, the
- * code is VMM_INVALID_AVAIL_RING_INDEX, and for a split queue VMM_BAD_CALL. */
+ * the high half where the next one is returned, each as a slot with its wrap counter in bit 15. If it cannot stand
+ * there, the code is VMM_INVALID_AVAIL_RING_INDEX, and for a split queue VMM_BAD_CALL. */
 static inline vmm_answer vmm_set_vring_base(vmm_session *s, size_t queue, uint32_t base) {
     return vmm_set_queue(s, queue, VMM_VRING_BASE, base);
 }
@@ -648,8 +649,8 @@ static inline vmm_answer vmm_disable_notification(vmm_session *s, size_t queue, 
 /* Requests of a block device whose disk is the caller's: crates/virtio_blk/README.md. */
 
 /* What a request is held against: the disk has `sectors` sectors, and the driver accepted these features, each as its bit:
- * 9 is FLUSH. If it accepted SEG_MAX, a request has at most `seg_max` data segments, two fewer than its chain has in all,
- * and if it accepted SIZE_MAX, each segment of the chain has at most `size_max` bytes. 0 is no limit. */
+ * 9 is FLUSH. If it accepted SEG_MAX, a request has at most `seg_max` data segments, two fewer than its chain has in
+ * all, and if it accepted SIZE_MAX, each segment of the chain has at most `size_max` bytes. 0 is no limit. */
 typedef struct vmm_blk_terms {
     uint64_t sectors, features;
     int read_only;
@@ -714,9 +715,9 @@ typedef struct vmm_vhost_wanted_bytes {
 } vmm_vhost_wanted_bytes;
 
 /* What a message asks for, by the number of its request. Fields that the request does not name are 0. `index` is the
- * ring. `flag` is 1 if a descriptor came (KICK, CALL, ERR), if the ring is enabled (ENABLE), or if it is for a migration
- * (GET_CONFIG, SET_CONFIG). `value` is the number of a SET_VRING_NUM or SET_VRING_BASE, the bits of features, or where a
- * part of the configuration or a log begins, and `size` how many bytes that has. */
+ * ring. `flag` is 1 if a descriptor came (KICK, CALL, ERR), if the ring is enabled (ENABLE), or if it is for a
+ * migration (GET_CONFIG, SET_CONFIG). `value` is the number of a SET_VRING_NUM or SET_VRING_BASE, the bits of features,
+ * or where a part of the configuration or a log begins, and `size` how many bytes that has. */
 typedef struct vmm_vhost_request {
     uint32_t request, index, flag;
     uint64_t value, size;
@@ -730,8 +731,8 @@ typedef struct vmm_vhost_region_row {
 
 /* A ring that is to be served: how many descriptors it has, the index of the next available one from which it was
  * started, and its addresses in guest memory, or I/O addresses if ACCESS_PLATFORM was accepted. The used ring has
- * `used_size` bytes. If `is_logged` is 1, writes to it are marked in the log at the address `log`. `kick` and `call`: 0 if
- * no message said so, 1 for no descriptor, 2 for one. */
+ * `used_size` bytes. If `is_logged` is 1, writes to it are marked in the log at the address `log`. `kick` and `call`: 0
+ * if no message said so, 1 for no descriptor, 2 for one. */
 typedef struct vmm_vhost_vring {
     uint32_t size, base;
     uint64_t descriptor, available, used, used_size, log;
@@ -790,16 +791,16 @@ uint32_t vmm_vhost_region(vmm_vhost *connection, size_t number, vmm_vhost_region
 uint32_t vmm_vhost_logged(vmm_vhost *connection, uint64_t address, uint64_t size, vmm_vhost_pages *pages);
 
 /* The messages on the back end's own channel, as vmm_vhost_reply gives a reply: a MISS, which asks for the mapping of an
- * address and for a reply; an ACCESS_FAIL, which says that a mapping forbids an access; and one that has the front end read
- * the configuration again. The access is VMM_R, VMM_W or VMM_RW, and otherwise there is no message. They need no
+ * address and for a reply; an ACCESS_FAIL, which says that a mapping forbids an access; and one that has the front end
+ * read the configuration again. The access is VMM_R, VMM_W or VMM_RW, and otherwise there is no message. They need no
  * connection. */
 size_t vmm_vhost_miss(uint64_t iova, uint32_t access, uint8_t *output, size_t output_size);
 size_t vmm_vhost_access_fail(uint64_t iova, uint32_t access, uint8_t *output, size_t output_size);
 size_t vmm_vhost_config_change(uint8_t *output, size_t output_size);
 
 /* The number in a reply that came on that channel, which has 20 bytes: 0 if what was asked for was done. VMM_VHOST_HEADER
- * if there are fewer bytes than a header has, VMM_VHOST_VERSION, VMM_VHOST_DIRECTION, VMM_VHOST_REQUEST if the back end sends
- * no such message, and VMM_VHOST_PAYLOAD_SIZE. */
+ * if there are fewer bytes than a header has, VMM_VHOST_VERSION, VMM_VHOST_DIRECTION, VMM_VHOST_REQUEST if the back end
+ * sends no such message, and VMM_VHOST_PAYLOAD_SIZE. */
 uint32_t vmm_vhost_answered(const uint8_t *message, size_t message_size, uint64_t *value);
 
 void vmm_vhost_state(vmm_vhost *connection, vmm_vhost_negotiated *state);

@@ -4,8 +4,8 @@
 //! valgrind --tool=callgrind --collect-atstart=no --toggle-collect=turn_of_KIND kinds KIND
 //! ```
 //!
-//! KIND is `split` or `packed`, and a second word `behind` puts the queue behind an IOMMU. A turn has 64 requests, each a
-//! chain of two descriptors: the device pops it, reads 16 bytes, writes 512 and returns it, and asks once whether to
+//! KIND is `split` or `packed`, and a second word `behind` puts the queue behind an IOMMU. A turn has 64 requests, each
+//! a chain of two descriptors: the device pops it, reads 16 bytes, writes 512 and returns it, and asks once whether to
 //! notify. There are 100 turns.
 
 use std::env::args;

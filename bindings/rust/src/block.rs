@@ -75,8 +75,8 @@ pub struct Terms {
     /// The most data segments of a request, if the driver accepted SEG_MAX: a chain may have two more, for the header
     /// and the status. 0 is no limit.
     pub seg_max: Option<u32>,
-    /// The most bytes of a segment, if the driver accepted SIZE_MAX. It counts for each segment of a chain, those of the
-    /// header and the status too. 0 is no limit.
+    /// The most bytes of a segment, if the driver accepted SIZE_MAX. It counts for each segment of a chain, those of
+    /// the header and the status too. 0 is no limit.
     pub size_max: Option<u32>,
 }
 
@@ -138,8 +138,8 @@ impl Request {
 impl DescriptorChain<'_> {
     /// Reads the header of a request and says what the device has to do. Nothing changes.
     ///
-    /// A wrong request is not an error, but [`Request::Refused`]. One that breaks a limit of the terms is refused before
-    /// its header is read. If an IOMMU refuses an access to the header, or an
+    /// A wrong request is not an error, but [`Request::Refused`]. One that breaks a limit of the terms is refused
+    /// before its header is read. If an IOMMU refuses an access to the header, or an
     /// allocation fails, nothing is decided. A device whose mappings come later makes the call again then.
     #[inline]
     pub fn begin_request(&self, mem: &GuestMemory<'_>, terms: Terms) -> Result<Request, QueueError> {

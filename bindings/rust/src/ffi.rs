@@ -150,8 +150,8 @@ pub(crate) struct Session {
     handle: Cell<Handle>,
     // What the last call that a table refused missed first.
     miss: Cell<Miss>,
-    // The numbers of its shared blocks, and their bytes. It is closed before they are unmapped, since fields are dropped
-    // last.
+    // The numbers of its shared blocks, and their bytes. It is closed before they are unmapped, since fields are
+    // dropped last.
     mappings: RefCell<Vec<(usize, Mapping)>>,
 }
 
@@ -175,11 +175,11 @@ impl Session {
     /// Makes a call. The answer is read where the library puts it, as a copy of it would wait for these stores.
     #[inline]
     pub(crate) fn call(&self, call: &Call, input: &[u8], output: &mut [u8], answer: &mut Answer) {
-        // SAFETY: the declaration fits the library's function. The handle is that of an open session, as each call leaves
-        // it, and no other call of it runs: the session is on this thread alone, and the library calls nothing back. So
-        // nothing else reads or writes what the cell has while the library does. The other pointers and the lengths are
-        // those of a `&Call`, a `&[u8]`, a `&mut [u8]` and a `&mut Answer`, and all are borrowed for the call; that of the
-        // miss is the other cell's, which the library alone writes meanwhile.
+        // SAFETY: the declaration fits the library's function. The handle is that of an open session, as each call
+        // leaves it, and no other call of it runs: the session is on this thread alone, and the library calls nothing
+        // back. So nothing else reads or writes what the cell has while the library does. The other pointers and the
+        // lengths are those of a `&Call`, a `&[u8]`, a `&mut [u8]` and a `&mut Answer`, and all are borrowed for the
+        // call; that of the miss is the other cell's, which the library alone writes meanwhile.
         unsafe {
             vmm_call(
                 self.handle.as_ptr(),
@@ -209,8 +209,8 @@ impl Session {
         let mut mappings = self.mappings.borrow_mut();
         mappings.push((usize::MAX, mapping));
         // SAFETY: the declaration fits the library's function, the handle is that of an open session, of which no other
-        // call runs, and the place is not null and has as many bytes as it says. They are the session's: nothing else in
-        // this process has a reference to them, and they are unmapped after the session is closed, or not its bytes.
+        // call runs, and the place is not null and has as many bytes as it says. They are the session's: nothing else
+        // in this process has a reference to them, and they are unmapped after the session is closed, or not its bytes.
         unsafe { vmm_lend(self.handle.as_ptr(), place, page_size, &mut answer) };
         if answer.code != code::DONE {
             mappings.pop();
@@ -222,8 +222,8 @@ impl Session {
 
     /// Gives a block back, and the mapping of its bytes if it is a shared one, or a code.
     pub(crate) fn give_back(&self, block: usize) -> Result<Option<Mapping>, u32> {
-        // SAFETY: the declaration fits the library's function, and the handle is that of an open session, of which no other
-        // call runs.
+        // SAFETY: the declaration fits the library's function, and the handle is that of an open session, of which no
+        // other call runs.
         let code = unsafe { vmm_give_back(self.handle.as_ptr(), block) };
         done(code, ())?;
         let mut mappings = self.mappings.borrow_mut();
@@ -245,8 +245,8 @@ impl Session {
 
 impl Drop for Session {
     fn drop(&mut self) {
-        // SAFETY: the declaration fits the library's function, the handle is that of an open session, and this is its last
-        // use.
+        // SAFETY: the declaration fits the library's function, the handle is that of an open session, and this is its
+        // last use.
         unsafe { vmm_close(self.handle.get_mut()) }
     }
 }
@@ -262,8 +262,8 @@ pub(crate) fn vhost_wanted(start: &[u8]) -> Result<Wanted, u32> {
 
 /// Puts the message of a MISS to the front of the output, and returns how many bytes it has.
 pub(crate) fn vhost_miss(iova: u64, access: u32, output: &mut [u8]) -> usize {
-    // SAFETY: the declaration fits the library's function, and the pointer and the length are those of a `&mut [u8]`, which
-    // is borrowed for the call.
+    // SAFETY: the declaration fits the library's function, and the pointer and the length are those of a `&mut [u8]`,
+    // which is borrowed for the call.
     unsafe { vmm_vhost_miss(iova, access, output.as_mut_ptr(), output.len()) }
 }
 
@@ -314,8 +314,8 @@ impl Connection {
     /// Opens a connection, or says why not by a code.
     pub(crate) fn open(offer: &Offer, config: &[u8]) -> Result<Connection, u32> {
         let mut handle = Handle { at: null_mut() };
-        // SAFETY: the declaration fits the library's function, a handle that is null is a closed one, as it asks, and the
-        // other pointers and the length are those of a `&Offer` and a `&[u8]`.
+        // SAFETY: the declaration fits the library's function, a handle that is null is a closed one, as it asks, and
+        // the other pointers and the length are those of a `&Offer` and a `&[u8]`.
         let code = unsafe { vmm_vhost_open(&mut handle, offer, config.as_ptr(), config.len()) };
         done(code, ())?;
         Ok(Connection {

@@ -1,5 +1,5 @@
-//! Messages of a vhost front end on a device's I/O table. crates/vhost_iotlb/README.md of the repository has their rules,
-//! and docs/BINDINGS.md how a call that misses a mapping is made again.
+//! Messages of a vhost front end on a device's I/O table. crates/vhost_iotlb/README.md of the repository has their
+//! rules, and docs/BINDINGS.md how a call that misses a mapping is made again.
 //!
 //! ```
 //! use vm_memory_proved::iotlb::UserRegion;
@@ -135,16 +135,16 @@ fn input_of(message: &[u8; PAYLOAD_LEN], announced: &[UserRegion]) -> Result<Vec
 
 impl Machine {
     /// Applies the 32 bytes of a front end's message to the I/O table of a memory whose IOMMU is on: an UPDATE maps its
-    /// range to the announced memory that its user address is, and an INVALIDATE takes the mappings of its range back. It
-    /// reads none of `announced` for an INVALIDATE, which allocates nothing. Returns how many ranges the table evicted for an
-    /// UPDATE, and 0 for an INVALIDATE.
+    /// range to the announced memory that its user address is, and an INVALIDATE takes the mappings of its range back.
+    /// It reads none of `announced` for an INVALIDATE, which allocates nothing. Returns how many ranges the table
+    /// evicted for an UPDATE, and 0 for an INVALIDATE.
     ///
     /// A call that was refused for a missing mapping ([`take_miss`](Machine::take_miss)) is made again after its UPDATE
-    /// was applied so, and again, until it is not. It passes the same bytes each time: a device keeps what it took from a
-    /// source, such as a socket, until then. If the front end maps each address that is missed, and takes no mapping
-    /// back meanwhile, this ends: behind a table that keeps `limit` ranges by the call of number `limit + 2` at the latest,
-    /// with [`TableTooSmall`](crate::IommuError::TableTooSmall) if it needs more ranges. If another call misses in
-    /// between, this begins anew: two calls that take turns may never end.
+    /// was applied so, and again, until it is not. It passes the same bytes each time: a device keeps what it took from
+    /// a source, such as a socket, until then. If the front end maps each address that is missed, and takes no mapping
+    /// back meanwhile, this ends: behind a table that keeps `limit` ranges by the call of number `limit + 2` at the
+    /// latest, with [`TableTooSmall`](crate::IommuError::TableTooSmall) if it needs more ranges. If another call misses
+    /// in between, this begins anew: two calls that take turns may never end.
     pub fn apply_iotlb(
         &self,
         memory: MemoryId,

@@ -3,8 +3,8 @@
 //! A [`Machine`] is set up with blocks of host memory, regions, I/O tables and translators, and then makes layouts and
 //! memories and accesses them. Its calls are a run of the machine's model, whatever they are: docs/BINDINGS.md of the
 //! repository says what is proved, and what is trusted. [`Machine::shared_block`] makes a block whose bytes are shared
-//! with a guest, and [`Machine::queue`] a virtqueue. [`block`] has the requests of a block device, and [`vhost_user`] the
-//! messages of a front end that has such a device in another process.
+//! with a guest, and [`Machine::queue`] a virtqueue. [`block`] has the requests of a block device, and [`vhost_user`]
+//! the messages of a front end that has such a device in another process.
 //!
 //! ```
 //! use vm_memory_proved::{GuestAddress, Machine};

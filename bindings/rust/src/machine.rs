@@ -129,8 +129,8 @@ impl Machine {
         self.session.call(call, input, output, answer);
     }
 
-    /// Takes what the last call missed first that a table refused, with `CannotResolve` or `TableTooSmall`, whatever it was
-    /// a call of. `None` if none was refused since it was last taken, or if there was no memory to look it up.
+    /// Takes what the last call missed first that a table refused, with `CannotResolve` or `TableTooSmall`, whatever it
+    /// was a call of. `None` if none was refused since it was last taken, or if there was no memory to look it up.
     ///
     /// A device asks for a mapping of just this, and makes the call again after it came, with the same bytes:
     /// [`apply_iotlb`](Machine::apply_iotlb).
@@ -441,8 +441,8 @@ impl Machine {
         self.pages(kind::HARVEST_SPACE, space.number())
     }
 
-    /// Marks the pages of `len` bytes of a block from `offset` on as dirty, as a write of these bytes would. It reads and
-    /// writes none of them: it is for bytes of a shared block that a guest wrote. `NoSuch` if there is no such
+    /// Marks the pages of `len` bytes of a block from `offset` on as dirty, as a write of these bytes would. It reads
+    /// and writes none of them: it is for bytes of a shared block that a guest wrote. `NoSuch` if there is no such
     /// block, `BadRange` if the range passes its end.
     pub fn mark_block(&self, block: BlockId, offset: usize, len: usize) -> Result<(), MachineError> {
         let call = Call {

@@ -47,8 +47,8 @@ pub(crate) fn memfd(size: u64) -> io::Result<OwnedFd> {
     Ok(file.into())
 }
 
-/// A mapping of whole pages, of which nothing else knows, and the bytes in it that are wanted. It is unmapped when it is
-/// dropped.
+/// A mapping of whole pages, of which nothing else knows, and the bytes in it that are wanted. It is unmapped when it
+/// is dropped.
 pub(crate) struct Mapping {
     at: NonNull<u8>,
     mapped: usize,

@@ -11,8 +11,8 @@ use std::sync::atomic::Ordering;
 #[derive(Clone, Copy, Debug, Default, PartialEq, Eq, PartialOrd, Ord, Hash)]
 pub struct GuestAddress(pub u64);
 
-/// A memory of a machine, which it lends. Its calls are those of `Bytes<GuestAddress>` of the Rust crate vm-memory, with
-/// the same names and signatures.
+/// A memory of a machine, which it lends. Its calls are those of `Bytes<GuestAddress>` of the Rust crate vm-memory,
+/// with the same names and signatures.
 #[derive(Clone, Copy, Debug)]
 pub struct GuestMemory<'a> {
     machine: &'a Machine,
@@ -70,9 +70,9 @@ impl<'a> GuestMemory<'a> {
         Ok(answer.count)
     }
 
-    /// Marks the pages that a write of `count` bytes at an address would reach, and returns the number of these bytes. It
-    /// reads and writes none of them. It marks the blocks themselves, also behind an IOMMU, where a write marks only its
-    /// space.
+    /// Marks the pages that a write of `count` bytes at an address would reach, and returns the number of these bytes.
+    /// It reads and writes none of them. It marks the blocks themselves, also behind an IOMMU, where a write marks only
+    /// its space.
     pub fn mark_reached(&self, addr: GuestAddress, count: usize) -> Result<usize, GuestMemoryError> {
         let mut answer = Answer::default();
         self.access(&self.at(kind::MARK_REACHED, addr, count), &[], &mut [], &mut answer)?;

@@ -48,13 +48,13 @@
 //!   program keeps.
 //! - Each call takes the memory, as do the reader and the writer of a chain, which keeps none.
 //! - A chain that was popped is in flight until its head is returned or forgotten. If the driver publishes that head
-//!   again meanwhile, it is not popped. All chains in flight have at most as many descriptors as the queue was made for;
-//!   one that names an indirect table is not counted.
+//!   again meanwhile, it is not popped. All chains in flight have at most as many descriptors as the queue was made
+//!   for; one that names an indirect table is not counted.
 //! - So there is no `go_to_previous_position`: [`forget`](Queue::forget) and [`set_next_avail`](Queue::set_next_avail)
 //!   make a chain the next one again.
 //! - No call takes an order. Each reads and writes in the order that the VirtIO specification asks of a device.
-//! - A [packed](Machine::packed_queue) queue has the same calls. The head of its chain is the driver's id for it. A chain
-//!   whose id is not below the greatest size is refused as `InvalidDescriptorIndex`. Its two positions are set
+//! - A [packed](Machine::packed_queue) queue has the same calls. The head of its chain is the driver's id for it. A
+//!   chain whose id is not below the greatest size is refused as `InvalidDescriptorIndex`. Its two positions are set
 //!   [together](Queue::set_vring_base).
 
 mod chain;
@@ -76,8 +76,8 @@ use std::ptr;
 pub struct QueueState {
     /// The greatest size that the device allows.
     pub max_size: u16,
-    /// How many chains were popped, modulo 2^16. Of a packed queue: the slot where the next chain is popped, with its wrap
-    /// counter in bit 15.
+    /// How many chains were popped, modulo 2^16. Of a packed queue: the slot where the next chain is popped, with its
+    /// wrap counter in bit 15.
     pub next_avail: u16,
     /// How many entries were added to the used ring, modulo 2^16. Of a packed queue: the slot where the next chain is
     /// returned, with its wrap counter in bit 15.
@@ -120,8 +120,8 @@ impl Machine {
         self.make_queue(kind::QUEUE, max_size, max_descriptors)
     }
 
-    /// Makes a packed queue in its reset state, as `queue` makes a split one. `InvalidMaxSize` if the maximum size is not
-    /// 1 to 32768.
+    /// Makes a packed queue in its reset state, as `queue` makes a split one. `InvalidMaxSize` if the maximum size is
+    /// not 1 to 32768.
     pub fn packed_queue(&self, max_size: u16, max_descriptors: usize) -> Result<Queue<'_>, QueueError> {
         self.make_queue(kind::PACKED_QUEUE, max_size, max_descriptors)
     }
@@ -248,8 +248,8 @@ impl<'a> Queue<'a> {
         self.state().size
     }
 
-    /// Sets the size. `InvalidSize` if it is not a power of two from 1 to the greatest size; that of a packed queue need
-    /// not be a power of two, and both positions become the beginning of the ring.
+    /// Sets the size. `InvalidSize` if it is not a power of two from 1 to the greatest size; that of a packed queue
+    /// need not be a power of two, and both positions become the beginning of the ring.
     pub fn set_size(&self, size: u16) -> Result<(), QueueError> {
         self.set(part::SIZE, size.into())
     }
@@ -279,8 +279,8 @@ impl<'a> Queue<'a> {
         self.state().avail_ring
     }
 
-    /// Sets the address of the available ring. `InvalidAvailRingAlign` if it is not a multiple of 2, or that of the driver's
-    /// area of a packed queue not one of 4.
+    /// Sets the address of the available ring. `InvalidAvailRingAlign` if it is not a multiple of 2, or that of the
+    /// driver's area of a packed queue not one of 4.
     pub fn try_set_avail_ring_address(&self, avail_ring: GuestAddress) -> Result<(), QueueError> {
         self.set(part::AVAIL_RING, avail_ring.0)
     }
@@ -305,8 +305,8 @@ impl<'a> Queue<'a> {
         self.set_any(part::EVENT_IDX, enabled.into());
     }
 
-    /// The index of the entry of the available ring that is popped next, modulo 2^16. Of a packed queue: the slot, with its
-    /// wrap counter in bit 15.
+    /// The index of the entry of the available ring that is popped next, modulo 2^16. Of a packed queue: the slot, with
+    /// its wrap counter in bit 15.
     pub fn next_avail(&self) -> u16 {
         self.state().next_avail
     }
@@ -316,8 +316,8 @@ impl<'a> Queue<'a> {
         self.set_any(part::NEXT_AVAIL, next_avail.into());
     }
 
-    /// The index of the entry of the used ring that is written next, modulo 2^16. Of a packed queue: the slot, with its wrap
-    /// counter in bit 15.
+    /// The index of the entry of the used ring that is written next, modulo 2^16. Of a packed queue: the slot, with its
+    /// wrap counter in bit 15.
     pub fn next_used(&self) -> u16 {
         self.state().next_used
     }
@@ -329,9 +329,9 @@ impl<'a> Queue<'a> {
     }
 
     /// Sets both positions of a packed queue, as messages of vhost have them: in the low half where the next chain is
-    /// popped, in the high half where the next one is returned, each as a slot with its wrap counter in bit 15. Which slots
-    /// the driver was notified of is not known then, so the next `needs_notification` is true. `InvalidAvailRingIndex` if
-    /// the queue cannot stand there, and `OtherKind` if it is split.
+    /// popped, in the high half where the next one is returned, each as a slot with its wrap counter in bit 15. Which
+    /// slots the driver was notified of is not known then, so the next `needs_notification` is true.
+    /// `InvalidAvailRingIndex` if the queue cannot stand there, and `OtherKind` if it is split.
     pub fn set_vring_base(&self, base: u32) -> Result<(), QueueError> {
         self.set(part::VRING_BASE, base.into())
     }

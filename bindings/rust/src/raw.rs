@@ -1,4 +1,5 @@
-//! Calls and answers as plain numbers, as they cross to the library. [`Machine::call`](crate::Machine::call) makes them.
+//! Calls and answers as plain numbers, as they cross to the library. [`Machine::call`](crate::Machine::call) makes
+//! them.
 
 /// A call: its kind, and the fields that its kind names.
 #[repr(C)]

@@ -26,8 +26,8 @@ impl SharedBlock {
         self.id
     }
 
-    /// Where its bytes lie, as long as its machine is there and has not given it back. No input or output of a call may lie in them. A guest may
-    /// write them while a call runs: docs/BINDINGS.md of the repository says what holds then.
+    /// Where its bytes lie, as long as its machine is there and has not given it back. No input or output of a call may
+    /// lie in them. A guest may write them while a call runs: docs/BINDINGS.md of the repository says what holds then.
     pub fn as_ptr(&self) -> *mut u8 {
         self.address as *mut u8
     }
@@ -38,15 +38,15 @@ impl SharedBlock {
         self.len
     }
 
-    /// Where the whole pages of its mapping begin, and how many bytes these are. On huge pages the block may be a part of
-    /// them.
+    /// Where the whole pages of its mapping begin, and how many bytes these are. On huge pages the block may be a part
+    /// of them.
     pub fn mapping(&self) -> (*mut u8, usize) {
         (self.mapping.0 as *mut u8, self.mapping.1)
     }
 }
 
-/// Memory that a guest may have, too, and that is mapped here: bytes of a file, or private memory. A machine takes it as
-/// a block and gives it back, so that another machine can have it without mapping it again.
+/// Memory that a guest may have, too, and that is mapped here: bytes of a file, or private memory. A machine takes it
+/// as a block and gives it back, so that another machine can have it without mapping it again.
 pub struct SharedMemory {
     mapping: Mapping,
 }
@@ -112,10 +112,10 @@ pub fn memfd(size: u64) -> io::Result<OwnedFd> {
 
 impl Machine {
     /// Makes a block whose bytes are those of a file, from an offset on, or private memory, which a thread may have and
-    /// another process not. `size` and the offset are multiples of the system's page, also on huge pages, which are then
-    /// mapped whole; `page_size` is that of the dirty pages, as for [`Machine::block`]. The file may be closed afterwards.
-    /// Its bytes are mapped until the block is given back or the machine is dropped. If the file shrinks meanwhile, an
-    /// access ends the process by SIGBUS.
+    /// another process not. `size` and the offset are multiples of the system's page, also on huge pages, which are
+    /// then mapped whole; `page_size` is that of the dirty pages, as for [`Machine::block`]. The file may be closed
+    /// afterwards. Its bytes are mapped until the block is given back or the machine is dropped. If the file shrinks
+    /// meanwhile, an access ends the process by SIGBUS.
     pub fn shared_block(
         &self,
         size: usize,
@@ -140,9 +140,9 @@ impl Machine {
         })
     }
 
-    /// Gives a block back: the machine forgets its bytes and its dirty pages, and returns the memory of a shared block. Its
-    /// number stays, and each later call that names it is `NoSuch`. `NoSuch` if there is no such block, `InUse` if a region,
-    /// a layout or a memory is there, `Memory` if an allocation fails, and nothing changed then.
+    /// Gives a block back: the machine forgets its bytes and its dirty pages, and returns the memory of a shared block.
+    /// Its number stays, and each later call that names it is `NoSuch`. `NoSuch` if there is no such block, `InUse` if
+    /// a region, a layout or a memory is there, `Memory` if an allocation fails, and nothing changed then.
     pub fn give_back(&self, block: BlockId) -> Result<Option<SharedMemory>, MachineError> {
         match self.session().give_back(block.number()) {
             Ok(mapping) => Ok(mapping.map(|mapping| SharedMemory { mapping })),
@@ -154,8 +154,8 @@ impl Machine {
         }
     }
 
-    /// Forgets all regions, layouts and memories, whose numbers begin at 0 again. Everything else stays. Nothing that the
-    /// machine lent is used after it:
+    /// Forgets all regions, layouts and memories, whose numbers begin at 0 again. Everything else stays. Nothing that
+    /// the machine lent is used after it:
     ///
     /// ```compile_fail,E0502
     /// let mut machine = vm_memory_proved::Machine::new().unwrap();

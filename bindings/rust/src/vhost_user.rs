@@ -1,7 +1,7 @@
 //! A back end's side of the vhost-user protocol: crates/vhost_user/README.md of the repository.
 //!
-//! The program receives messages and descriptors, has [`Backend::handle`] say what each message asks for, does that, and
-//! sends the bytes of [`Backend::reply`] or [`Backend::refuse`]. Nothing here opens, keeps or maps anything.
+//! The program receives messages and descriptors, has [`Backend::handle`] say what each message asks for, does that,
+//! and sends the bytes of [`Backend::reply`] or [`Backend::refuse`]. Nothing here opens, keeps or maps anything.
 //!
 //! ```
 //! use vm_memory_proved::vhost_user::{wanted, Backend, Offer, Request, HEADER_LEN, MAX_MESSAGE};
@@ -80,8 +80,8 @@ pub struct Region {
     pub mmap_offset: u64,
 }
 
-/// Pages of guest memory that are marked in the log of dirty pages. The bit of page `p` is bit `p % 8` of the byte `p / 8`
-/// of the log.
+/// Pages of guest memory that are marked in the log of dirty pages. The bit of page `p` is bit `p % 8` of the byte `p /
+/// 8` of the log.
 #[repr(C)]
 #[derive(Clone, Copy, Debug, Default, PartialEq, Eq)]
 pub struct LogPages {
@@ -454,8 +454,8 @@ pub fn wanted(start: &[u8]) -> Result<Wanted, Refusal> {
     vhost_wanted(start).map_err(Refusal::of)
 }
 
-/// A MISS for the back end's own channel: it asks for the mapping of an address and for a reply. Without an access there
-/// is no such message, and no bytes.
+/// A MISS for the back end's own channel: it asks for the mapping of an address and for a reply. Without an access
+/// there is no such message, and no bytes.
 pub fn miss(iova: u64, access: Permissions, room: &mut [u8; MAX_MESSAGE]) -> &[u8] {
     let count = vhost_miss(iova, access as u32, room);
     &room[..count]
@@ -467,8 +467,8 @@ pub fn access_fail(iova: u64, access: Permissions, room: &mut [u8; MAX_MESSAGE])
     &room[..count]
 }
 
-/// The message on the back end's own channel that the configuration changed: the front end reads it again. It asks for no
-/// reply.
+/// The message on the back end's own channel that the configuration changed: the front end reads it again. It asks for
+/// no reply.
 pub fn config_change(room: &mut [u8; MAX_MESSAGE]) -> &[u8] {
     let count = vhost_config_change(room);
     &room[..count]
@@ -504,8 +504,8 @@ pub struct Backend {
 }
 
 impl Backend {
-    /// A connection with nothing negotiated, with a configuration of at most [`MAX_CONFIG`] bytes. Refused with `Offer` if
-    /// no back end offers this, and with `Memory`.
+    /// A connection with nothing negotiated, with a configuration of at most [`MAX_CONFIG`] bytes. Refused with `Offer`
+    /// if no back end offers this, and with `Memory`.
     pub fn new(offer: &Offer, config: &[u8]) -> Result<Backend, Refusal> {
         let connection = Connection::open(offer, config).map_err(Refusal::of)?;
         Ok(Backend { connection })
@@ -529,13 +529,15 @@ impl Backend {
         &room[..count]
     }
 
-    /// Replaces bytes of the configuration from an offset on, as a device does that changed. Refused with `ConfigRange`, and
-    /// nothing changes, if the configuration does not have them. [`config_change`] is what tells the front end.
+    /// Replaces bytes of the configuration from an offset on, as a device does that changed. Refused with
+    /// `ConfigRange`, and nothing changes, if the configuration does not have them. [`config_change`] is what tells the
+    /// front end.
     pub fn change_config(&mut self, offset: u32, bytes: &[u8]) -> Result<(), Refusal> {
         self.connection.change_config(offset, bytes).map_err(Refusal::of)
     }
 
-    /// Sets where a stopped ring goes on. Refused with `Index`, `Started`, or `Base`: a split ring has indices of 16 bits.
+    /// Sets where a stopped ring goes on. Refused with `Index`, `Started`, or `Base`: a split ring has indices of 16
+    /// bits.
     pub fn stop(&mut self, index: u32, base: u32) -> Result<(), Refusal> {
         self.connection.stop(index, base).map_err(Refusal::of)
     }
@@ -561,8 +563,8 @@ impl Backend {
         (0..).map_while(|number| self.connection.region(number).ok()).collect()
     }
 
-    /// The pages to mark in the log for `len` bytes of guest memory that were written, from `address` on: none if LOG_ALL
-    /// was not accepted or no log was shared. Refused with `Log` if the log has no bit for one of them.
+    /// The pages to mark in the log for `len` bytes of guest memory that were written, from `address` on: none if
+    /// LOG_ALL was not accepted or no log was shared. Refused with `Log` if the log has no bit for one of them.
     pub fn logged(&self, address: u64, len: u64) -> Result<LogPages, Refusal> {
         self.connection.logged(address, len).map_err(Refusal::of)
     }

@@ -1,5 +1,5 @@
-//! Reads and writes of chains at every offset and of many lengths, beside a slow model: segments without bytes, segments
-//! over two regions, segments that end outside of memory, indirect tables, and an IOMMU.
+//! Reads and writes of chains at every offset and of many lengths, beside a slow model: segments without bytes,
+//! segments over two regions, segments that end outside of memory, indirect tables, and an IOMMU.
 
 mod ring;
 mod slow;

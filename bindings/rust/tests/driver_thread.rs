@@ -1,6 +1,6 @@
-//! A driver in a thread of its own, over a block that it shares with the machine of the device. It publishes, and asks for
-//! interrupts, by the rules of the VirtIO specification alone (version 1.2, 2.7.13 and 2.7.14), with its own barriers. No
-//! request is lost, none comes twice, and neither side sleeps while the other has something for it.
+//! A driver in a thread of its own, over a block that it shares with the machine of the device. It publishes, and asks
+//! for interrupts, by the rules of the VirtIO specification alone (version 1.2, 2.7.13 and 2.7.14), with its own
+//! barriers. No request is lost, none comes twice, and neither side sleeps while the other has something for it.
 //!
 //! `REQUESTS` may ask for more or fewer than 1,000,000 in all. Each end waits at most a minute for the other.
 
@@ -220,7 +220,8 @@ impl Driver<'_> {
             self.guest.word(place).store(self.head(slot), Relaxed);
             self.next_avail = self.next_avail.wrapping_add(1);
         }
-        // The device sees the chains and the heads before the index, and this end asks for its notifications after that.
+        // The device sees the chains and the heads before the index, and this end asks for its notifications after
+        // that.
         self.guest
             .word(self.run.avail_ring() + 2)
             .store(self.next_avail, Release);

@@ -1,7 +1,7 @@
 //! A front end's messages on the I/O table of a memory, and calls that are made again after each mapping came.
 //!
-//! An I/O table maps pages of 16 bytes here, each to another place than its neighbours' mappings lead to, so that a call
-//! needs one range for each page that it touches.
+//! An I/O table maps pages of 16 bytes here, each to another place than its neighbours' mappings lead to, so that a
+//! call needs one range for each page that it touches.
 
 mod messages;
 mod ring;
@@ -160,8 +160,8 @@ fn some_call(device: &mut Device<'_>, numbers: &mut Numbers, addr: u64, len: usi
     ended
 }
 
-// Each call is made again after the mapping of the first address that it missed came, and ends: it is done if it needs no
-// more ranges than the table keeps, and else refused for that with nothing changed.
+// Each call is made again after the mapping of the first address that it missed came, and ends: it is done if it needs
+// no more ranges than the table keeps, and else refused for that with nothing changed.
 #[test]
 fn each_call_ends() {
     for limit in [Some(1), Some(2), Some(3), Some(8), Some(64), None] {

@@ -439,7 +439,8 @@ fn descriptors_in_flight_are_bounded() {
             heads.push(first);
             first += len as u16;
         }
-        // The chains that are in flight at once are those that fit, in order, and each has its turn once others returned.
+        // The chains that are in flight at once are those that fit, in order, and each has its turn once others
+        // returned.
         let (mut in_flight, mut next) = (Vec::new(), 0);
         while next < lens.len() {
             let held: usize = in_flight.iter().map(|&i: &usize| lens[i]).sum();
@@ -637,8 +638,8 @@ fn an_index_too_far_ahead_is_refused() {
 
 // ---- notifications
 
-// The rule of the specification for a device (version 1.2, 2.7.7), as its own helper has it: the index that is waited for
-// is among those that were added.
+// The rule of the specification for a device (version 1.2, 2.7.7), as its own helper has it: the index that is waited
+// for is among those that were added.
 fn need_event(event: u16, new: u16, old: u16) -> bool {
     new.wrapping_sub(event).wrapping_sub(1) < new.wrapping_sub(old)
 }

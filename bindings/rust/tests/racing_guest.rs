@@ -1,6 +1,7 @@
 //! A guest whose threads change descriptors, tables, indices, headers and the used ring while a device serves requests.
-//! What a call tested once it may not fetch again: each field has values that are refused, beside those that are served,
-//! and behind what is refused lie places that nothing else names. Rings are split and packed, also behind an IOMMU.
+//! What a call tested once it may not fetch again: each field has values that are refused, beside those that are
+//! served, and behind what is refused lie places that nothing else names. Rings are split and packed, also behind an
+//! IOMMU.
 //!
 //! `RACES_REQUESTS` is how many requests each of the four serves, in place of two seconds.
 
@@ -27,7 +28,8 @@ const BASE: u64 = 0x10_0000;
 const SIZE: usize = 0x1_0000;
 const ENTRIES: u16 = 8;
 
-// Where things lie in the block. A split ring has as many descriptors again past its last one, of which none may be read.
+// Where things lie in the block. A split ring has as many descriptors again past its last one, of which none may be
+// read.
 const TABLE: usize = 0;
 const DRIVER: usize = 0x400;
 const DEVICE: usize = 0x800;
@@ -42,7 +44,8 @@ const FORBIDDEN: usize = 0xe000;
 const PIECE: usize = 0x400;
 const STEP: usize = 0x800;
 
-// An indirect table has four rows. The bytes behind them are rows, too, of as many bytes as a length has that is refused.
+// An indirect table has four rows. The bytes behind them are rows, too, of as many bytes as a length has that is
+// refused.
 const ROWS: u16 = 4;
 const TABLE_STEP: usize = 0x100;
 const REFUSED_ROWS: u32 = 0x108;
@@ -142,8 +145,8 @@ impl Shared {
         }
     }
 
-    // Where a part of a request lies, its length and its flags. An address of one descriptor may be found with the other
-    // fields of the next one that lies there, so each descriptor has one role.
+    // Where a part of a request lies, its length and its flags. An address of one descriptor may be found with the
+    // other fields of the next one that lies there, so each descriptor has one role.
     fn part(&self, numbers: &mut Numbers, role: Role) -> (usize, u32, u16) {
         let eighth = numbers.below(8) as usize;
         let len = [SECTOR_LEN as u32, PIECE as u32][numbers.below(2) as usize];

@@ -13,8 +13,8 @@ use vm_memory_proved::queue::{DescriptorChain, QueueError};
 use vm_memory_proved::raw::{code, kind, request, Answer, Call};
 use vm_memory_proved::Machine;
 
-// A request with a number of bytes after the header and a number of writable ones, in one segment each, with the header byte by
-// byte and the data in three, and in pieces of any length, some of them without bytes.
+// A request with a number of bytes after the header and a number of writable ones, in one segment each, with the header
+// byte by byte and the data in three, and in pieces of any length, some of them without bytes.
 fn shapes(given: u64, room: u64) -> Vec<Vec<Segment>> {
     let (readable, writable) = (read(HEADER, 16 + given), written(ROOM, room));
     let mut by_bytes = cut(read(HEADER, 16), &[1]);

@@ -459,8 +459,8 @@ fn each_refusal_changes_nothing() {
     memories(&machine, &[block]);
 }
 
-// A guest stores one of two patterns in each word of the first pages, all the time. A call finds one of them in each word
-// and each byte, and what the guest does not write is as calls left it.
+// A guest stores one of two patterns in each word of the first pages, all the time. A call finds one of them in each
+// word and each byte, and what the guest does not write is as calls left it.
 #[test]
 fn a_guest_may_write_while_calls_run() {
     const OLD: u64 = 0x0101_0101_0101_0101;

@@ -54,7 +54,8 @@ fn plain(machine: &Machine, block: &SharedBlock) -> MemoryId {
     machine.plain(machine.layout(&[region]).unwrap()).unwrap()
 }
 
-// A block of a part of a file has just these bytes of it: what lies beside them stays, and what is written is in the file.
+// A block of a part of a file has just these bytes of it: what lies beside them stays, and what is written is in the
+// file.
 fn has_its_part(file: &File, from: usize, size: usize, whole: usize) {
     let all = Guest::of_file(file, whole);
     all.write(0, &vec![3; whole]);

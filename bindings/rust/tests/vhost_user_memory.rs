@@ -1,4 +1,5 @@
-//! A connection that finds no memory is refused by name. This is the only test of its process, which runs out of memory.
+//! A connection that finds no memory is refused by name. This is the only test of its process, which runs out of
+//! memory.
 
 use std::ffi::c_int;
 use std::fs;

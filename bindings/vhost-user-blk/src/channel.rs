@@ -50,8 +50,8 @@ impl Channel {
         })
     }
 
-    /// Asks for the mapping of what a call misses first, and returns whether it did: the same is not asked for twice while
-    /// its reply is awaited.
+    /// Asks for the mapping of what a call misses first, and returns whether it did: the same is not asked for twice
+    /// while its reply is awaited.
     pub fn ask(&mut self, miss: Miss) -> io::Result<bool> {
         if self.awaited > 0 && self.last == Some(miss) {
             return Ok(false);

@@ -93,8 +93,8 @@ struct Ring {
     has_more: bool,
 }
 
-// A ring whose step misses a mapping. Until that came, or does not come, no other ring is served: so the table has room for
-// what this one needs.
+// A ring whose step misses a mapping. Until that came, or does not come, no other ring is served: so the table has room
+// for what this one needs.
 struct Waiting {
     ring: usize,
     miss: Miss,
@@ -225,7 +225,8 @@ impl<'a> Connection<'a> {
         }
     }
 
-    // If the image has another size, requests are held against that from now on, and the front end is told if it wants to be.
+    // If the image has another size, requests are held against that from now on, and the front end is told if it wants
+    // to be.
     fn measure_disk(&mut self) {
         if !self.hangups.measure(self.disk) {
             return;
@@ -289,8 +290,9 @@ impl<'a> Connection<'a> {
         }
     }
 
-    // The rest of a message has not come. What came may not be the front end's own end, or hold it: as long as this program
-    // has it, the connection does not end. A message with such a descriptor has a header alone, and comes as a whole.
+    // The rest of a message has not come. What came may not be the front end's own end, or hold it: as long as this
+    // program has it, the connection does not end. A message with such a descriptor has a header alone, and comes as a
+    // whole.
     fn hold_descriptors(&self) -> Result<(), End> {
         let failed = |error: io::Error| End::Failed("a descriptor", error.into());
         for descriptor in &self.incoming.descriptors {
@@ -590,7 +592,8 @@ impl<'a> Connection<'a> {
         }
     }
 
-    // Asks the protocol's state whether a ring is to be served and where it lies, and sets its queue up if it was started.
+    // Asks the protocol's state whether a ring is to be served and where it lies, and sets its queue up if it was
+    // started.
     fn refresh(&mut self, index: usize) -> Result<(), End> {
         let starts = !self.rings[index].is_set_up;
         if starts {
@@ -765,7 +768,8 @@ impl Ring {
         }
     }
 
-    // The front end goes on reading its notifications by itself, and finds none of those that were meant for this program.
+    // The front end goes on reading its notifications by itself, and finds none of those that were meant for this
+    // program.
     fn let_go_of_kick(&mut self) {
         if let Some(kick) = self.kick.take() {
             kick.it().drain();

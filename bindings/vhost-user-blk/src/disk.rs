@@ -111,8 +111,8 @@ impl Disk {
         self.file.write_all_at(bytes, place)
     }
 
-    /// Makes what was written stable. If that failed once, it always fails: the system may have dropped what it could not
-    /// write, and the next sync would succeed without it.
+    /// Makes what was written stable. If that failed once, it always fails: the system may have dropped what it could
+    /// not write, and the next sync would succeed without it.
     pub fn flush(&self) -> io::Result<()> {
         if self.sync_failed.get() {
             return Err(io::Error::other("an earlier sync failed"));

@@ -1,5 +1,5 @@
-//! The memory of a front end: its files are shared blocks of a machine. The device reaches them by guest addresses, or by
-//! I/O addresses through a table that the front end's messages fill.
+//! The memory of a front end: its files are shared blocks of a machine. The device reaches them by guest addresses, or
+//! by I/O addresses through a table that the front end's messages fill.
 
 use crate::system::Guarded;
 use std::fs::File;
@@ -113,8 +113,8 @@ impl Memory {
         Memory::over(machine, behind, &[], files)
     }
 
-    /// The memory of another table, and no mapping of I/O addresses. What it has of the same parts of the same files stays
-    /// mapped.
+    /// The memory of another table, and no mapping of I/O addresses. What it has of the same parts of the same files
+    /// stays mapped.
     pub fn replaced(self, files: Files) -> Result<Memory, Box<dyn std::error::Error>> {
         let Memory {
             guarded,
@@ -219,8 +219,8 @@ impl Memory {
         Ok(ranges)
     }
 
-    /// How many bytes an access of data has at most. A table has to have room for the ranges of one access, and these are
-    /// pages at least.
+    /// How many bytes an access of data has at most. A table has to have room for the ranges of one access, and these
+    /// are pages at least.
     pub fn most_at_once(&self) -> usize {
         (self.behind.limit - 1) * PAGE
     }

@@ -1,7 +1,7 @@
 //! Requests: each is a chain of a queue. What it asks for, its status and its length are the library's.
 //!
-//! The work on a ring goes in steps. Behind an I/O table a call may miss a mapping, and nothing of it is done then. Its step
-//! is made again after the mapping came. A turn may end in the middle of a request, which goes on in the next one.
+//! The work on a ring goes in steps. Behind an I/O table a call may miss a mapping, and nothing of it is done then. Its
+//! step is made again after the mapping came. A turn may end in the middle of a request, which goes on in the next one.
 
 mod parts;
 
@@ -288,8 +288,8 @@ impl<'a> Server<'a> {
         self.left.requests == 0 || self.left.bytes == 0
     }
 
-    /// Serves what the driver has published, in its order, up to the bound of a turn or to a step that misses a mapping. An
-    /// access that a mapping forbids is handed to `forbidden`.
+    /// Serves what the driver has published, in its order, up to the bound of a turn or to a step that misses a
+    /// mapping. An access that a mapping forbids is handed to `forbidden`.
     pub fn serve(&mut self, at: &Place<'_>, work: &mut Work, forbidden: &mut dyn FnMut(Miss)) -> Result<Turn, Fault> {
         loop {
             match self.next(at, work) {

@@ -1,8 +1,8 @@
 //! How the front end is notified: by a write to an eventfd or a pipe that it holds, too.
 //!
-//! The front end can fill it and have writes wait, at any time. No call of the system writes to an eventfd without such a
-//! wait, and what is asked before the write may change before it. So a second thread looks now and then whether the same
-//! write is still under way, and interrupts it. The connection ends then. The usual write costs two stores.
+//! The front end can fill it and have writes wait, at any time. No call of the system writes to an eventfd without such
+//! a wait, and what is asked before the write may change before it. So a second thread looks now and then whether the
+//! same write is still under way, and interrupts it. The connection ends then. The usual write costs two stores.
 
 use crate::descriptor::{self, NOTIFIERS};
 use crate::system::{self, Interruptible};

@@ -322,8 +322,8 @@ impl Interruptible {
 
 // ---- memory that goes away
 
-// The blocks of the machine that is called, and after them the log: where each begins, and its length, or 0. The handler
-// reads them.
+// The blocks of the machine that is called, and after them the log: where each begins, and its length, or 0. The
+// handler reads them.
 static BLOCKS: [(AtomicUsize, AtomicUsize); MOST + 1] =
     [const { (AtomicUsize::new(0), AtomicUsize::new(0)) }; MOST + 1];
 const LOG: usize = MOST;
@@ -343,9 +343,10 @@ extern "C" fn memory_lost(_signal: c_int, info: *mut libc::siginfo_t, _context: 
         if place.wrapping_sub(at) < len {
             let access = libc::PROT_READ | libc::PROT_WRITE;
             let flags = libc::MAP_PRIVATE | libc::MAP_ANONYMOUS | libc::MAP_FIXED | libc::MAP_NORESERVE;
-            // SAFETY: these are the bytes of a shared block or of the log, to which nothing has a reference, and which are
-            // read and written as memory that another process changes. Its mapping may be replaced by one of the same length. The call may be made
-            // in a handler: it is one call of the system, and takes no lock of this process.
+            // SAFETY: these are the bytes of a shared block or of the log, to which nothing has a reference, and which
+            // are read and written as memory that another process changes. Its mapping may be replaced by one of the
+            // same length. The call may be made in a handler: it is one call of the system, and takes no lock of this
+            // process.
             if unsafe { libc::mmap(at as *mut c_void, len, access, flags, -1, 0) } != libc::MAP_FAILED {
                 LOST.store(true, SeqCst);
                 return;

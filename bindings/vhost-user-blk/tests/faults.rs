@@ -28,8 +28,8 @@ fn expect_well(program: Program) {
     assert!(program.end(libc::SIGTERM).success());
 }
 
-// The program, whose disk moves less than it is asked to or is interrupted, and fails from a byte on. Without a compiler of
-// C there is none.
+// The program, whose disk moves less than it is asked to or is interrupted, and fails from a byte on. Without a
+// compiler of C there is none.
 fn with_faults(name: &str, bad_from: u64, words: &[&str]) -> Option<(Program, Faults)> {
     let folder = Program::prepare(name, LEN);
     let Some(faults) = Faults::new(&folder, bad_from) else {
@@ -213,8 +213,8 @@ fn a_connection_that_lacks_descriptors_ends_alone() {
     expect_well(program);
 }
 
-// The system gives the program no more memory. If the first allocation that fails is one of a few bytes, as it is once in
-// some tries, Rust ends the program; else the connection ends.
+// The system gives the program no more memory. If the first allocation that fails is one of a few bytes, as it is once
+// in some tries, Rust ends the program; else the connection ends.
 #[test]
 fn a_connection_that_lacks_memory_ends_alone() {
     for _ in 0..10 {

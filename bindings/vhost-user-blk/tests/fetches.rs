@@ -1,5 +1,5 @@
-//! What the compiled code loads and stores of guest memory: each byte that decides something once, and in the order that
-//! the rules of rings ask for. The trees of calls say so of the code before it is compiled.
+//! What the compiled code loads and stores of guest memory: each byte that decides something once, and in the order
+//! that the rules of rings ask for. The trees of calls say so of the code before it is compiled.
 #![cfg(target_arch = "x86_64")]
 
 mod traced;
@@ -86,7 +86,8 @@ impl<'a> Traced<'a> {
         it
     }
 
-    // Where the descriptors of the chain lie, if it is in no table: in a packed ring from its slot on, and over the end.
+    // Where the descriptors of the chain lie, if it is in no table: in a packed ring from its slot on, and over the
+    // end.
     fn rows(&self) -> [usize; 3] {
         let first = if self.is_packed { usize::from(self.first) } else { 0 };
         [0, 1, 2].map(|it| TABLE + 16 * ((first + it) % usize::from(ENTRIES)))
@@ -177,8 +178,8 @@ fn expect(accesses: &[Access], wanted: &[(bool, Range<usize>)], what: &str) {
     assert_eq!(accesses.peek(), None, "{what}: it is more than {wanted:x?}");
 }
 
-// Whether there is memory is tried by loads before anything is stored, of each byte at most once. Their values do not count,
-// and the compiler may leave them out.
+// Whether there is memory is tried by loads before anything is stored, of each byte at most once. Their values do not
+// count, and the compiler may leave them out.
 fn after_tries<'a>(accesses: &'a [Access], tried: &[(bool, Range<usize>)]) -> &'a [Access] {
     let mut left: BTreeSet<usize> = tried.iter().flat_map(|(_, part)| part.clone()).collect();
     let is_try = |it: &&Access| !it.is_store && (it.at..it.at + it.len).all(|byte| left.remove(&byte));
@@ -233,7 +234,8 @@ fn serve_one(is_packed: bool, is_translated: bool, event_idx: bool, is_indirect:
     // A chain.
     it.publish(is_indirect);
     let (chain, accesses) = it.trace(|queue, memory| queue.pop_descriptor_chain(memory).unwrap().unwrap());
-    // Of a packed ring the flags that say that a descriptor is there count, and not those that come with the rest of it.
+    // Of a packed ring the flags that say that a descriptor is there count, and not those that come with the rest of
+    // it.
     let mut wanted = vec![index];
     if !is_packed {
         wanted.push((LOAD, DRIVER + 4 + 2 * slot..DRIVER + 6 + 2 * slot));

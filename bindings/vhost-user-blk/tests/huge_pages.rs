@@ -1,5 +1,5 @@
-//! A front end whose memory lies on huge pages, with regions that begin and end within one: the program serves it, and has
-//! as many mappings as before. Without huge pages it says that it was left out.
+//! A front end whose memory lies on huge pages, with regions that begin and end within one: the program serves it, and
+//! has as many mappings as before. Without huge pages it says that it was left out.
 
 mod front_end;
 

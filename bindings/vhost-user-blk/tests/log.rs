@@ -469,8 +469,8 @@ fn a_mark_leaves_the_other_bits() {
     let (byte, bit) = (data as u64 / PAGE / 8, 1 << 7);
     assert_eq!(status as u64 / PAGE / 8, byte);
     assert!(data as u64 / PAGE % 8 != 7 && status as u64 / PAGE % 8 != 7);
-    // SAFETY: the system takes addresses that nothing has, and nothing else of this process reads or writes them. They are
-    // there until the process ends.
+    // SAFETY: the system takes addresses that nothing has, and nothing else of this process reads or writes them. They
+    // are there until the process ends.
     let marks = unsafe {
         let access = libc::PROT_READ | libc::PROT_WRITE;
         let at = libc::mmap(

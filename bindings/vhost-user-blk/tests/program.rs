@@ -391,8 +391,8 @@ fn what_breaks_the_protocol_ends_the_connection() {
     let mut program = Program::start("protocol", LEN, &[]);
     let descriptors = program.descriptors();
     let ram = memfd(4096);
-    // Messages, with how many descriptors: a version that is not 1, a reply, numbers that no request has or that was not
-    // offered, payloads and descriptors that do not fit.
+    // Messages, with how many descriptors: a version that is not 1, a reply, numbers that no request has or that was
+    // not offered, payloads and descriptors that do not fit.
     for (request, flags, payload, count) in [
         (GET_FEATURES, 2, vec![], 0),
         (GET_FEATURES, REPLY, vec![], 0),

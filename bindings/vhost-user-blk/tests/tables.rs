@@ -1,5 +1,5 @@
-//! Tables of memory one after another: what stays of the files is not mapped again, what goes is unmapped, and a request
-//! reaches what the last table says.
+//! Tables of memory one after another: what stays of the files is not mapped again, what goes is unmapped, and a
+//! request reaches what the last table says.
 
 mod front_end;
 
@@ -162,8 +162,8 @@ fn an_empty_table_takes_the_memory() {
     }
 }
 
-// Of eight regions with a file each one loses its bytes. A request that reaches there does not come back, and nothing of it
-// is on the disk. The other files are as they were.
+// Of eight regions with a file each one loses its bytes. A request that reaches there does not come back, and nothing
+// of it is on the disk. The other files are as they were.
 #[test]
 fn each_region_may_go_away() {
     let mut program = Program::start("lost_regions", LEN, &[]);

@@ -1,5 +1,5 @@
-//! Front ends that would have the program wait for them: by descriptors whose flags they change after they sent them, and by
-//! descriptors of other kinds, which keep a connection from ending.
+//! Front ends that would have the program wait for them: by descriptors whose flags they change after they sent them,
+//! and by descriptors of other kinds, which keep a connection from ending.
 
 mod front_end;
 
@@ -40,8 +40,8 @@ fn publish(front: &mut FrontEnd, head: u16) {
     front.kick(0);
 }
 
-// A driver that publishes as soon as a request comes back, and notifies only if it is asked to: what it publishes while the
-// program is about to wait is not lost.
+// A driver that publishes as soon as a request comes back, and notifies only if it is asked to: what it publishes while
+// the program is about to wait is not lost.
 #[test]
 fn the_program_looks_again_before_it_waits() {
     let program = Program::start("second_look", LEN, &[]);
@@ -281,8 +281,8 @@ fn descriptors_of_other_kinds_are_refused() {
     expect_well(program);
 }
 
-// A front end that has the program hold its own end of the connection, and goes: the hang-up comes when the last one who
-// holds the end lets go of it.
+// A front end that has the program hold its own end of the connection, and goes: the hang-up comes when the last one
+// who holds the end lets go of it.
 #[test]
 fn a_front_end_that_sends_its_own_end_can_go() {
     let program = Program::start("own_end", LEN, &[]);

@@ -108,8 +108,8 @@ impl<'a> DescriptorChain<'a> {
         self.writable
     }
 
-    /// Its segments, as the driver's descriptors had them when it was popped: those that the device reads, and then those
-    /// that it writes. `NotInFlight` if it is in flight no more.
+    /// Its segments, as the driver's descriptors had them when it was popped: those that the device reads, and then
+    /// those that it writes. `NotInFlight` if it is in flight no more.
     pub fn segments(&self) -> Result<Vec<Segment>, QueueError> {
         let mut call = self.queue.call_of(kind::LIST_SEGMENTS);
         call.third = self.head.into();
@@ -163,9 +163,10 @@ impl<'a> DescriptorChain<'a> {
         Ok(answer.count)
     }
 
-    /// Writes the buffer to its writable bytes from `offset` on, and returns the chain to the driver, to which `len` bytes
-    /// were written in all: `write_at` and `add_used` in one call of the machine. If the chain does not take the whole
-    /// buffer, it stays in flight, and the error is that of the write, or `PartialBuffer` with how many bytes it took.
+    /// Writes the buffer to its writable bytes from `offset` on, and returns the chain to the driver, to which `len`
+    /// bytes were written in all: `write_at` and `add_used` in one call of the machine. If the chain does not take the
+    /// whole buffer, it stays in flight, and the error is that of the write, or `PartialBuffer` with how many bytes it
+    /// took.
     #[inline]
     pub fn complete_at(&self, mem: &GuestMemory<'_>, offset: usize, buf: &[u8], len: u32) -> Result<(), QueueError> {
         let mut call = self.call_at(kind::COMPLETE_CHAIN, mem, offset);

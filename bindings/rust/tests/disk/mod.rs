@@ -67,8 +67,8 @@ pub fn number(bytes: &[u8]) -> u64 {
         .fold(0, |number, byte| number << 8 | u64::from(*byte))
 }
 
-/// Whether a chain breaks a limit that the driver keeps: SEG_MAX counts the segments beside the one of the header and the
-/// one of the status, and SIZE_MAX the bytes of each.
+/// Whether a chain breaks a limit that the driver keeps: SEG_MAX counts the segments beside the one of the header and
+/// the one of the status, and SIZE_MAX the bytes of each.
 fn is_over_limit(segments: &[Segment], terms: Terms) -> bool {
     let limit = |limit: Option<u32>| limit.filter(|most| *most != 0).map_or(u64::MAX, u64::from);
     let data = segments.len().saturating_sub(2) as u64;
@@ -392,9 +392,10 @@ impl<'a> Guest<'a> {
         iova_range
     }
 
-    /// Makes the call of a step until it is not refused, after a mapping came each time: the front end answers the first
-    /// address that the call missed. A call that is refused leaves memory as it is. With a limit of ranges, at most one
-    /// more than that are missed in a row. No call here needs more ranges than the limit, so none is refused for it.
+    /// Makes the call of a step until it is not refused, after a mapping came each time: the front end answers the
+    /// first address that the call missed. A call that is refused leaves memory as it is. With a limit of ranges, at
+    /// most one more than that are missed in a row. No call here needs more ranges than the limit, so none is refused
+    /// for it.
     pub fn until_done<T>(
         &mut self,
         step: Step,

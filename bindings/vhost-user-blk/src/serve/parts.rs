@@ -62,8 +62,8 @@ impl Segments {
         Some((address, most.min(segment.len - self.passed)))
     }
 
-    // Makes one access for each segment, until one is refused or has fewer bytes than it was to have. If the first one is
-    // refused, that is the error, and nothing was done.
+    // Makes one access for each segment, until one is refused or has fewer bytes than it was to have. If the first one
+    // is refused, that is the error, and nothing was done.
     fn walk<A>(&mut self, len: usize, mut access: A) -> Result<usize, Fault>
     where
         A: FnMut(GuestAddress, Range<usize>) -> Result<usize, Fault>,
@@ -91,8 +91,8 @@ impl Segments {
         )
     }
 
-    /// Writes the front of the buffer as [`DescriptorChain::write_at`] does, and goes on by as many bytes. `wrote` takes
-    /// where each access wrote, and how many bytes.
+    /// Writes the front of the buffer as [`DescriptorChain::write_at`] does, and goes on by as many bytes. `wrote`
+    /// takes where each access wrote, and how many bytes.
     pub fn write<W>(&mut self, guest: &GuestMemory<'_>, bytes: &[u8], wrote: W) -> Result<usize, Fault>
     where
         W: Fn(u64, usize) -> Result<(), Refusal>,

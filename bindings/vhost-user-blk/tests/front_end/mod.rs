@@ -131,8 +131,8 @@ impl FrontEnd {
 
     // ---- the I/O table
 
-    /// Has the device reach rings and buffers by I/O addresses, which lie this far after the guest's. Each page leads to
-    /// its own, to read and write.
+    /// Has the device reach rings and buffers by I/O addresses, which lie this far after the guest's. Each page leads
+    /// to its own, to read and write.
     pub fn translate(&mut self, shift: u64) {
         let (mine, other) = UnixStream::pair().unwrap();
         assert!(self.is_done(SET_BACKEND_REQ_FD, &[], &[&other.into()]));
@@ -315,7 +315,8 @@ impl FrontEnd {
 
     // ---- memory
 
-    /// Has the memory lie in another file, or in another place of one, and returns where it was. The back end is not told.
+    /// Has the memory lie in another file, or in another place of one, and returns where it was. The back end is not
+    /// told.
     pub fn move_memory(&mut self, file: &OwnedFd, offset: usize) -> Map {
         let map = Map::new(file, offset as u64, RAM);
         map.write(0, &self.read(0, RAM));

@@ -1,5 +1,5 @@
-//! Which bytes of a mapping the code of a call loads and stores, instruction by instruction: each access faults, is noted,
-//! and is made by a single step. It is for x86-64.
+//! Which bytes of a mapping the code of a call loads and stores, instruction by instruction: each access faults, is
+//! noted, and is made by a single step. It is for x86-64.
 
 use std::mem::zeroed;
 use std::ptr::null_mut;
@@ -108,8 +108,8 @@ pub fn trace<T>((from, len): (*mut u8, usize), call: impl FnOnce() -> T) -> (T, 
     COUNT.store(0, SeqCst);
     type Handler = extern "C" fn(i32, *mut libc::siginfo_t, *mut libc::c_void);
     for (signal, handler) in [(libc::SIGSEGV, faulted as Handler), (libc::SIGTRAP, stepped as Handler)] {
-        // SAFETY: an action is numbers, a set and a pointer, which may be 0. The handlers have the signature that SA_SIGINFO
-        // asks for, and call nothing that a handler may not.
+        // SAFETY: an action is numbers, a set and a pointer, which may be 0. The handlers have the signature that
+        // SA_SIGINFO asks for, and call nothing that a handler may not.
         unsafe {
             let mut action: libc::sigaction = zeroed();
             action.sa_sigaction = handler as usize;

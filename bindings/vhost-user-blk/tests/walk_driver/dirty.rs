@@ -111,8 +111,8 @@ impl Log {
         self.call = Some(call);
     }
 
-    /// Takes the call for the next log. What was told of this one is not looked at any more: whoever drains the call takes
-    /// what is told of the next one, too.
+    /// Takes the call for the next log. What was told of this one is not looked at any more: whoever drains the call
+    /// takes what is told of the next one, too.
     pub fn take_call(&mut self) -> Option<OwnedFd> {
         self.tells = false;
         self.call.take()
