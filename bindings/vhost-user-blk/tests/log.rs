@@ -160,6 +160,22 @@ fn a_log_that_is_too_short_ends_the_connection() {
     }
 }
 
+// A log whose file loses its bytes ends the connection, and not the program.
+#[test]
+fn a_log_that_goes_away_ends_the_connection() {
+    let mut program = Program::start("log_lost", LEN, &[]);
+    let mut front = started(&program, USUAL);
+    let log = begin(&mut front, USUAL, LOG_LEN);
+    front.read_disk(0, 1, 512);
+    File::from(log).set_len(0).unwrap();
+    front.put_request(0, 0, 0, 1, 512);
+    front.publish(0, 0);
+    front.kick(0);
+    assert!(front.is_let_go());
+    assert!(program.lives());
+    started(&program, USUAL).read_disk(0, 1, 512);
+}
+
 // Where the second half of the memory lies for the guest.
 const FAR: usize = 4 << 30;
 const HALF: usize = RAM / 2;
