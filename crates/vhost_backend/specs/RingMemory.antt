@@ -15,7 +15,7 @@ use Rattle.virtio_queue.specs.declared.packed.state.PackedBuffer.{PackedBuffer}
 use Rattle.virtio_blk.specs.Looks.{BeginsBy, FinishesBy}
 use Rattle.virtio_blk.specs.Steps.{Begins, Finishes, breaks_limits}
 use Rattle.virtio_blk.specs.declared.request.Request.{Request}
-use Rattle.virtio_blk.specs.declared.request.Terms.{Terms}
+use Rattle.virtio_blk.specs.declared.request.DeviceLimits.{DeviceLimits}
 
 -- a pop, a return, whether the driver has to be notified, that it is to notify; the beginning and the end of the block
 -- request of a chain; and a mark of the pages with N bytes so far behind an address
@@ -24,7 +24,7 @@ pub data MemoryStep : Type 0 where
   adds_used : AnyQueue → PackedBuffer → ℕ → MemoryStep
   needs : AnyQueue → MemoryStep
   enables : AnyQueue → MemoryStep
-  begins : Terms → List Segment → MemoryStep
+  begins : DeviceLimits → List Segment → MemoryStep
   finishes : List Segment → ℕ → ℕ → MemoryStep
   marks : ℕ → ℕ → ℕ → MemoryStep
 

@@ -13,7 +13,7 @@ use crate::ring::RingEvent;
 use crate::ring_memory::RingMemory;
 use std::alloc::{AllocError, Global};
 use std::marker::Model;
-use virtio_blk::{Request, Terms, VIRTIO_BLK_S_IOERR};
+use virtio_blk::{DeviceLimits, Request, VIRTIO_BLK_S_IOERR};
 use virtio_queue::{AnyQueue, PackedBuffer, QueueError};
 use vm_memory_device::{Chain as Descriptors, Segment};
 
@@ -292,7 +292,7 @@ impl BlockQueue {
         &mut self,
         mem: &D,
         host: &mut H,
-        terms: Terms,
+        terms: DeviceLimits,
         next: u16,
         popped: (PackedBuffer, Descriptors),
     ) -> Pop
@@ -332,7 +332,7 @@ impl BlockQueue {
         alloc: Global,
         mem: &D,
         host: &mut H,
-        terms: Terms,
+        terms: DeviceLimits,
     ) -> Pop
         requires held { D.held mem.now host.old }
         requires small { terms.sectors < 2 ^ 55 }
@@ -364,7 +364,7 @@ impl BlockQueue {
         alloc: Global,
         mem: &D,
         host: &mut H,
-        terms: Terms,
+        terms: DeviceLimits,
     ) -> Option<RingEvent>
         requires held { D.held mem.now host.old }
         requires small { terms.sectors < 2 ^ 55 }
@@ -385,7 +385,7 @@ impl BlockQueue {
         alloc: Global,
         mem: &D,
         host: &mut H,
-        terms: Terms,
+        terms: DeviceLimits,
     ) -> Option<RingEvent>
         requires held { D.held mem.now host.old }
         requires small { terms.sectors < 2 ^ 55 }

@@ -7,7 +7,7 @@ ghost use Rattle.vhost_backend.specs.RingMemory.{ByLooks, MemoryStep, Returned, 
 ghost use Rattle.vhost_backend.specs.RingMemory.{finishes, marks, needs, pops};
 
 use std::alloc::Global;
-use virtio_blk::{Fetches, Puts, Request, Terms, begin, begin_from, finish, finish_from};
+use virtio_blk::{DeviceLimits, Fetches, Puts, Request, begin, begin_from, finish, finish_from};
 use virtio_queue::{AnyQueue, Looks, PackedBuffer, QueueError, Stores};
 use vm_memory_base::Bitmap;
 use vm_memory_device::Chain;
@@ -79,7 +79,7 @@ pub trait RingMemory<H> {
         ensures held { held self.now host.new };
 
     /// What the chain of a request asks for.
-    fn begin(&self, host: &mut H, terms: Terms, chain: &Chain) -> GuestMemoryResult<Request>
+    fn begin(&self, host: &mut H, terms: DeviceLimits, chain: &Chain) -> GuestMemoryResult<Request>
         requires { held self.now host.old }
         ensures step { steps self.now host.old (begins terms chain.now) result host.new }
         ensures fits { IfOk result (λ request. FitsOn terms.sectors request) }
@@ -162,7 +162,7 @@ impl<M: GuestMemory, P: PageLog, B: Bitmap> RingMemory<HostMemory<B>> for Lent<'
     fn begin(
         &self,
         host: &mut HostMemory<B>,
-        terms: Terms,
+        terms: DeviceLimits,
         chain: &Chain,
     ) -> GuestMemoryResult<Request> {
         begin(terms, self.mem, host, chain)
@@ -227,7 +227,12 @@ impl<L: Looks + Fetches + Puts + Marks, S: Stores<L>> RingMemory<L> for Looked<'
         queue.enable_notification_in(self.stores, guest)
     }
 
-    fn begin(&self, guest: &mut L, terms: Terms, chain: &Chain) -> GuestMemoryResult<Request> {
+    fn begin(
+        &self,
+        guest: &mut L,
+        terms: DeviceLimits,
+        chain: &Chain,
+    ) -> GuestMemoryResult<Request> {
         begin_from(terms, guest, chain)
     }
 

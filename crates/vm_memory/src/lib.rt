@@ -8,8 +8,8 @@ pub mod machine;
 pub mod script;
 
 pub use machine::command::{BlockRange, Command, Ending, Fault, Reply, Width};
+pub use machine::device_step::DeviceStep;
 pub use machine::journal::{CallError, Journal};
-pub use machine::lend::Work;
 pub use machine::list::{NumberList, PieceList, SinkList, SourceList};
 pub use machine::refusal::Refusal;
 pub use machine::setup::{GiveBackError, ScriptMachine, Setup, SetupReply};

@@ -420,14 +420,14 @@ module _ (rs : List (AddressRun Mapping)) (k : IsKept rs) (r : AddressRun Mappin
     (far : StartFrom (r.start + r.len + 1) after)
     (joined : AddressRun Mapping) (behind : Option (AddressRun Mapping))
     (is : joined ∷ if_any behind ≡ prepended r (if_any right)) where
-  put_behind : joined ∷ if_any behind ++ after ≡ prepended r (if_any right ++ after)
-  put_behind = ap (λ (ys : List (AddressRun Mapping)). ys ++ after) is ∙ prepended_before r right after far
+  put_after : joined ∷ if_any behind ++ after ≡ prepended r (if_any right ++ after)
+  put_after = ap (λ (ys : List (AddressRun Mapping)). ys ++ after) is ∙ prepended_before r right after far
 
   put_left : (left : Option (AddressRun Mapping))
       → prepended_if_any left (joined ∷ []) ++ (if_any behind ++ after)
       ≡ prepended_if_any left (prepended r (if_any right ++ after))
-  put_left None = put_behind
-  put_left (Some l) = prepended-append l joined [] (if_any behind ++ after) ∙ ap (prepended l) put_behind
+  put_left None = put_after
+  put_left (Some l) = prepended-append l joined [] (if_any behind ++ after) ∙ ap (prepended l) put_after
 
   put_together : (left begun next : Option (AddressRun Mapping))
       → if_any begun ++ if_any next ≡ prepended_if_any left (joined ∷ [])

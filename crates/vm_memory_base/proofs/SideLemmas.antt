@@ -62,8 +62,8 @@ module _ {K : Type 0} (same : K → K → Bool) (limit : ℕ) (rs : List (Addres
   pub starts_limit : r.start < limit
   starts_limit = last_starts limit (runs_below r.start rs) r (subst (StartsBelow limit) is (below_starts limit rs))
 
-  pub starts_behind : StartFrom (r.start + r.len) (runs_from limit rs)
-  starts_behind = tail_starts same r (runs_from limit rs)
+  pub starts_after : StartFrom (r.start + r.len) (runs_from limit rs)
+  starts_after = tail_starts same r (runs_from limit rs)
       (canonical_suffix same (runs_below r.start rs) (r ∷ runs_from limit rs) canonical_whole)
 
   pub long : 0 < r.len
@@ -113,9 +113,9 @@ pub front_apart : {K : Type 0} (same : K → K → Bool) (limit : ℕ) (rs : Lis
 front_apart same limit rs h e =
     front_upto same limit rs h (EndBelow-weaker limit (limit + 1) (runs_below limit rs) (omega arith) e)
 
-inside_behind : {K : Type 0} (same : K → K → Bool) (at n : ℕ) (rs : List (AddressRun K)) → IsCanonical same rs
+inside_after : {K : Type 0} (same : K → K → Bool) (at n : ℕ) (rs : List (AddressRun K)) → IsCanonical same rs
     → EndBelow (at + n + 1) rs → cut_to at n (runs_from (at + 1) rs) ≡ runs_from (at + 1) rs
-inside_behind same at n rs h b =
+inside_after same at n rs h b =
     let split = sym (ascending_split (at + 1) rs (ascending_canonical same rs h)) in
     cut_to-inside same at n (runs_from (at + 1) rs)
     (canonical_suffix same (runs_below (at + 1) rs) (runs_from (at + 1) rs) (subst (IsCanonical same) split h))
@@ -128,7 +128,7 @@ pub back_apart : {K : Type 0} (same : K → K → Bool) (at n : ℕ) (rs : List 
 back_apart same at n rs h b e =
     let split = sym (ascending_split (at + 1) rs (ascending_canonical same rs h)) in
     let p = cut_to-before at n (runs_below (at + 1) rs) e in
-    let q = inside_behind same at n rs h b in
+    let q = inside_after same at n rs h b in
     sym (ap (cut_to at n) split ∙ cut_to-append at n (runs_below (at + 1) rs) (runs_from (at + 1) rs) ∙ rw (p, q))
 
 pub back_cut : {K : Type 0} (same : K → K → Bool) (at n : ℕ) (rs : List (AddressRun K)) → IsCanonical same rs
@@ -146,7 +146,7 @@ back_cut same at n rs h b r is u =
     let below : ltb at (r.start + r.len) ≡ true = lt-ltb at (r.start + r.len) u in
     let p = cut_to-before at n (runs_below r.start rs)
     (EndBelow-weaker (r.start + 1) (at + 1) (runs_below r.start rs) (omega arith) e) in
-    let q = inside_behind same at n rs h b in
+    let q = inside_after same at n rs h b in
     let last : cut_to at n (r ∷ runs_from (at + 1) rs)
     ≡ run at (r.start + r.len - at) r.value ∷ runs_from (at + 1) rs = rw (from, to, below, q) in
     sym (ap (cut_to at n) w ∙ cut_to-append at n (runs_below r.start rs) (r ∷ runs_from (at + 1) rs) ∙ rw (p, last))

@@ -175,7 +175,7 @@ span-windows (x ∷ y ∷ ys) =
     let s = split x y ys in
     let behind : span (map window_of (stretch y s.len ∷ s.rest)) ≡ suc (length ys) =
     ap (λ (ss : List Stretch). span (map window_of ss)) (sym s.behind) ∙ span-windows (y ∷ ys) in
-    let first_behind : span (map window_of (stretch y s.len ∷ s.rest)) ≡ s.len + span (map window_of s.rest) =
+    let first_after : span (map window_of (stretch y s.len ∷ s.rest)) ≡ s.len + span (map window_of s.rest) =
     sum_by-cons size (window_of (stretch y s.len)) (map window_of s.rest) in
     elim s.how [
       | inl h ↦

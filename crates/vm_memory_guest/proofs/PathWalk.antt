@@ -315,10 +315,10 @@ walk-bare regions a n r below e none h =
 
 module _ (regions : List Region) (a : ℕ) (r : Region) (first : Cell) (is_region : IsRegion r) where
   -- behind the last byte of a region there is a cut, or the path ends
-  cut_behind : (j n : ℕ) (x : Reached) → x.region ≡ r → x.mapping ≡ None → (n ≡ 0) ⊎ (a + j ≡ r.start + r.len)
+  cut_after : (j n : ℕ) (x : Reached) → x.region ≡ r → x.mapping ≡ None → (n ≡ 0) ⊎ (a + j ≡ r.start + r.len)
       → IsCutFrom x (path (meets regions Direct a) j n)
-  cut_behind j zero x here none ends = subst (IsCutFrom x) (sym (path-none (meets regions Direct a) j)) tt
-  cut_behind j (suc n) x here none ends = elim ends [
+  cut_after j zero x here none ends = subst (IsCutFrom x) (sym (path-none (meets regions Direct a) j)) tt
+  cut_after j (suc n) x here none ends = elim ends [
     | inl e ↦ absurd (omega arith)
     | inr e ↦ from_home e (containing_region regions (step a j)) refl
   ]
@@ -377,7 +377,7 @@ module _ (regions : List Region) (a : ℕ) (r : Region) (first : Cell) (is_regio
         let m = meets regions Direct a in
         let x = λ (j : ℕ). reached_in r first (a + j) in
         let behind : IsCutFrom (x (0 + k)) (path m (0 + suc k) n) =
-        cut_behind (0 + suc k) n (x (0 + k)) refl refl (elim ends [ inl e ↦ inl e | inr e ↦ inr (omega arith) ]) in
+        cut_after (0 + suc k) n (x (0 + k)) refl refl (elim ends [ inl e ↦ inl e | inr e ↦ inr (omega arith) ]) in
         let joined : is_cut (x 0) (x 0) ≡ false = ap (λ (b : Bool). not (b && true)) (same_region-itself r) in
         let run = stretches-past m x 0 k n (λ d h. byte_at (0 + d) (omega arith)) (λ d h. joined) behind in
         run ∙ ap₂ (λ (p : ℕ) (w : Access). stretch (reached_in r first p) (suc k) ∷ stretches w.path)

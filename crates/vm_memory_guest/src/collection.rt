@@ -303,7 +303,7 @@ impl<R: GuestMemoryRegion> GuestMemoryBackend for GuestRegionCollection<R> {
         addr: GuestAddress,
         hint: usize,
     ) -> (Option<(&R, MemoryRegionAddress)>, usize) {
-        self.known();
+        self.recall_law();
         if let Some(region) = GuestRegionCollection::region_at(self, hint) {
             if let Some(offset) = region.to_region_addr(addr) {
                 return (Some((region, offset)), hint);

@@ -220,8 +220,8 @@ fn is_refused(told: &str, without: &str, place: usize) -> bool {
         without.get(..place),
         without.get(place..),
     ) {
-        (Some(before), Some(behind), Some(without_before), Some(without_behind)) => {
-            before == without_before && behind.strip_prefix(REFUSAL) == Some(without_behind)
+        (Some(before), Some(after), Some(without_before), Some(without_after)) => {
+            before == without_before && after.strip_prefix(REFUSAL) == Some(without_after)
         }
         _ => false,
     }

@@ -91,7 +91,7 @@ fn follows(page_size: usize, bytes: &[u8], first: usize, count: usize, page: usi
 }
 
 // How many of these pages follow a page, one after the other, and have bytes that are not zero.
-fn run_behind(page_size: usize, bytes: &[u8], first: usize, pages: &[usize]) -> usize
+fn pages_in_a_row(page_size: usize, bytes: &[u8], first: usize, pages: &[usize]) -> usize
     ensures count { result ≤ length pages.now }
     ensures run { IsRun page_size bytes.now (first + 1) (take result pages.now) }
 {
@@ -177,7 +177,7 @@ fn copy_first(
         copy_zero(batch, number, page_size, bytes, first)?;
         return Ok(1);
     }
-    let count = 1 + run_behind(page_size, bytes, first, &pages[1..]);
+    let count = 1 + pages_in_a_row(page_size, bytes, first, &pages[1..]);
     copy_run(batch, number, page_size, bytes, &pages[..count])?;
     Ok(count)
 }

@@ -13,13 +13,13 @@ pub(super) fn put<W: Write>(output: &mut W, waiting: &mut Vec<u8>, text: &[u8]) 
     ensures { Puts (W.contents output.old) waiting.old.items text.now result (W.contents output.new) waiting.new.items }
 {
     if text.len() > ROOM.saturating_sub(waiting.len()) {
-        return put_behind(output, waiting, text);
+        return write_and_put(output, waiting, text);
     }
     waiting.extend_from_slice(text).is_ok()
 }
 
 // Writes what waits, and then takes a text, or writes a long one.
-fn put_behind<W: Write>(output: &mut W, waiting: &mut Vec<u8>, text: &[u8]) -> bool
+fn write_and_put<W: Write>(output: &mut W, waiting: &mut Vec<u8>, text: &[u8]) -> bool
     ensures { Puts (W.contents output.old) waiting.old.items text.now result (W.contents output.new) waiting.new.items }
 {
     if !write_all(output, waiting.as_slice()) {

@@ -146,7 +146,7 @@ impl MappedRun {
 
     // The part from an address on.
     #[inline(always)]
-    pub(super) fn behind(&self, start: u64) -> MappedRun
+    pub(super) fn part_from(&self, start: u64) -> MappedRun
         requires some { start < self.now.start + self.now.len }
         ensures { result ≡ record self.now { start = start; len = self.now.start + self.now.len - start } }
     {

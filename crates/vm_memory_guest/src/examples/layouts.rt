@@ -56,7 +56,7 @@ pub fn layouts_of_regions()
         ≡ Some MemoryRegionOverlap }
     ensures found { containing_region touching_regions 4 ≡ Some (backed_region 4 4 1 0) }
     ensures not_found { containing_region touching_regions 8 ≡ None }
-    ensures put_behind { inserted (λ r. r) (two_regions 0 8) (backed_region 0 2 2 0)
+    ensures put_after { inserted (λ r. r) (two_regions 0 8) (backed_region 0 2 2 0)
         ≡ backed_region 0 4 0 0 ∷ backed_region 0 2 2 0 ∷ backed_region 8 4 1 0 ∷ [] }
     ensures taken { removed (λ r. r) (two_regions 0 8) 8 4
         ≡ Some (backed_region 0 4 0 0 ∷ [], backed_region 8 4 1 0) }

@@ -11,7 +11,7 @@ use crate::host::HostMemory;
 pub fn blocks_are_short<B>(host: &HostMemory<B>)
     ensures { (block : ℕ) → length (block_at host.now.blocks block) < 2 ^ 63 }
 {
-    host.known();
+    host.recall_law();
 }
 
 /// Names are held if each of them is, and two lists one after the other if both are.
