@@ -15,6 +15,8 @@ use crate::iotlb::Iotlb;
 
 /// A call changes what is said of the addresses that it covers, and of no other; one of length 0 covers none. So
 /// the last call that covers an address decides what is said of it, and if none does, nothing is changed.
+///
+/// Witness: vm_memory_device::accesses_go_through_what_calls_left
 pub fn last_call_decides()
     ensures elsewhere { (call : TableEvent) (x : ℕ) (old : Option Mapping) → covers call x ≡ false
         → says_after call x old ≡ old }
@@ -40,6 +42,8 @@ pub fn last_call_decides()
 
 /// A range that is set leads, address by address, to the range from its target on, modulo 2 ^ 64. It is one range
 /// with one after it whose targets follow its own, with the same permissions, and one run if the table was new.
+///
+/// Witness: vm_memory_device::accesses_go_through_what_calls_left
 pub fn targets_follow_addresses()
     ensures set { (iova to x : ℕ) (permissions : Permissions) → iova < 2 ^ 64 → iova ≤ x
         → target x (record { difference = difference iova to; permissions = permissions })
@@ -134,6 +138,8 @@ pub fn look_up_by_addresses()
 /// A call of a table with a limit may lead to evictions, and one of a table without a limit leads to none. A table
 /// never has more ranges than its limit. What is evicted is a miss, and never leads elsewhere than before. What a
 /// call set stays. Calls and the evictions that they led to decide what a table says after them.
+///
+/// Witness: vm_memory_device::accesses_go_through_what_calls_left
 pub fn tables_keep_to_their_limits()
     ensures unbounded { (call : TableEvent) (t : Table) → t.limit ≡ None → events call t ≡ call ∷ [] }
     ensures within { (call : TableEvent) (t : Table) (limit : ℕ) → t.limit ≡ Some limit → 0 < limit

@@ -22,6 +22,8 @@ pub fn names_are_held_one_by_one()
 {}
 
 /// Regions are held if each of them is, and so are any of those that are held, in any order.
+///
+/// Witness: test_machines::are_held
 pub fn regions_are_held_one_by_one()
     ensures each { (shape : Shape) (regions : List Region)
         → Holds shape (flat_map region_names regions) ↔ All (λ r. Holds shape (region_names r)) regions }
