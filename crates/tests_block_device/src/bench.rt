@@ -117,8 +117,8 @@ pub trait Scene<D: Disk> {
     ) -> Result<(), Fail>;
 }
 
-/// Returns what a scene writes, with a device on a disk. A function that names the types of a guest is dear to prove, so
-/// tests call this one.
+/// Returns what a scene writes, with a device on a disk. A function that names the types of a guest is dear to prove,
+/// so tests call this one.
 pub fn told_of<D: Disk, S: Scene<D>>(
     alloc: Global,
     scattered: bool,

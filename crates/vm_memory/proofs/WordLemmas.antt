@@ -73,7 +73,9 @@ each_none f text texts whole front h e =
 pub each_all : {A : Type 0} (f : List ℕ → Option A) (left whole : List (List ℕ)) (front : List A)
     → each f whole ≡ after_front front (each f left) → left ≡ [] → each f whole ≡ Some front
 unfolding each
-each_all f left whole front h e = h ∙ ap (λ ws. behind front (each f ws)) e ∙ ap Some (append-nil front)
+each_all f left whole front h e = h ∙ ap (λ ws. after_front front (each f ws)) e ∙ ap Some (append-nil front)
+
+pub ruleset each_word = (each_all, each_more, each_none)
 
 pub each-start : {A : Type 0} (o : Option (List A)) → o ≡ after_front [] o
 each-start None = refl
