@@ -161,7 +161,7 @@ impl<M: GuestMemory, B: Bitmap, D: Disk> Bench<M, B, D> {
         Ok(bytes)
     }
 
-    // Puts the descriptor of a segment, with the next one behind it where there is one.
+    // Puts the descriptor of a segment, with the next one after it where there is one.
     fn put_part(&mut self, index: u16, part: Part, next: bool) -> Result<(), Fail> {
         let (addr, len, writable) = part;
         let flags = u16::from(next) + 2 * u16::from(writable);

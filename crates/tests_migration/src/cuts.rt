@@ -116,7 +116,7 @@ const HEADER: usize = 20 + 2 * 24;
 
 const FIRST_BLOCK: usize = 20 + 20 + 21;
 
-// How many pages of each block are dirty after a try that was cut behind so many bytes: those of a block that was
+// How many pages of each block are dirty after a try that was cut after so many bytes: those of a block that was
 // harvested are again, also what no one had written.
 fn dirty_after(left: usize) -> (usize, usize) {
     if left < HEADER {

@@ -15,7 +15,7 @@ use Rattle.std.proofs.lemmas.Str.Pattern.{IsSplitOnceResult, split_parts, split_
 use Rattle.vm_memory.specs.Words.{parts_of}
 use Rattle.vm_memory.specs.Reading.{after_front, each, is_numeral, number_in, ◌>>=◌}
 
--- the first part of a text, and what is behind it
+-- the first part of a text, and what is after it
 pub parts_of-first : (c : ℕ) (text : List ℕ) (r : Option (Bor (List ℕ) × Bor (List ℕ))) → IsSplitOnceResult c text r
     → c < 128 → MatchOption r (parts_of c text ≡ text ∷ []) (λ x. parts_of c text ≡ x.0.now ∷ parts_of c x.1.now)
 parts_of-first c text None h low =
