@@ -28,7 +28,7 @@ bits_are zero l = refl
 bits_are (suc zero) l = refl
 bits_are (suc (suc n)) l = absurd (omega arith)
 
--- a test that was passed, and what came behind it
+-- a test that was passed, and what came after it
 passed : {A : Type 0} (b : Bool) (r : Result A Refusal) (e : Refusal) (x : A) → cond b r (Err e) ≡ Ok x
     → (b ≡ true) × (r ≡ Ok x)
 passed true r e x h = (refl, h)
@@ -94,7 +94,7 @@ options_again : (d : Bool) → (ltb (option_bits d) 2 ≡ true) × (eqb (option_
 options_again true = (refl, refl, lit< tt)
 options_again false = (refl, refl, lit< tt)
 
--- a front, and what lies behind it
+-- a front, and what lies after it
 abbrev front_text : Bool → ℕ → List ℕ → List ℕ
 front_text d n rest = to_le_bytes w64 0x5441_5247_494d_4d56
     ++ (to_le_bytes w32 2 ++ (to_le_bytes w32 (option_bits d) ++ (to_le_bytes w32 n ++ rest)))
@@ -342,7 +342,7 @@ same_fronts d e m n x y h =
       ap (λ (p : Bool × ℕ × List ℕ). p.2) same,
     )
 
--- the options and blocks of a header, and what lies behind it, are decided by the bytes
+-- the options and blocks of a header, and what lies after it, are decided by the bytes
 pub same_header : (limit most : ℕ) (d d' : Bool) (es fs : List BlockEntry) (x y : List ℕ) → IsHeader limit es
     → IsHeader most fs → header_bytes d es ++ x ≡ header_bytes d' fs ++ y → (d ≡ d') × (es ≡ fs) × (x ≡ y)
 same_header limit most d d' es fs x y a b e =

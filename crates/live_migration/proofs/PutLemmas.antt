@@ -1,9 +1,9 @@
--- Bytes that are put behind others.
+-- Bytes that are put after others.
 use Rattle.std.proofs.Common.{◌≡◌, ℕ, ◌+◌, ◌≤◌, List, ◌++◌, length, take, Result, Ok, Err, OnOk, OnErr, refl, sym, ap, ◌∙◌, append_assoc, arith}
 use Rattle.std.proofs.lemmas.List.{take_at, take-take, length-append}
 use Rattle.live_migration.specs.Frame.{Pages, ZeroPage, spelling}
 
--- one behind the other
+-- one after the other
 pub one_after_other : (new mid old a b : List ℕ) → new ≡ mid ++ b → mid ≡ old ++ a → new ≡ old ++ (a ++ b)
 one_after_other new mid old a b e f = e ∙ ap (λ (x : List ℕ). x ++ b) f ∙ append_assoc old a b
 

@@ -281,7 +281,7 @@ module _ (size number : ℕ) (bytes : List ℕ) where
   run_head [] first some run = absurd (omega arith)
   run_head (p ∷ ps) first some run = run.1
 
-  -- a page, and those behind it
+  -- a page, and those after it
   pub run_starts : (ps : List ℕ) (first n : ℕ) → 0 < length ps → get_or ps 0 0 ≡ first → IsWrittenPage size bytes first
       → IsRun size bytes (first + 1) (take n (drop 1 ps)) → IsRun size bytes first (take (1 + n) ps)
   run_starts [] first n some at w run = absurd (omega arith)

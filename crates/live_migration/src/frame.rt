@@ -227,7 +227,7 @@ impl<'a> Frame<'a> {
         }
     }
 
-    // Puts the payload behind other bytes.
+    // Puts the payload after other bytes.
     fn put_payload(&self, out: &mut Vec<u8>) -> Result<(), AllocError>
         requires { IsMessage (message_of self.now) }
         ensures ok { OnOk result (out.new.items ≡ out.old.items ++ payload_of (message_of self.now)) }

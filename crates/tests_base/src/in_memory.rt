@@ -80,7 +80,7 @@ fn sources_give_what_they_have(rt: HostRuntime) -> Result<(), Fail> {
     expect_text(0, out.as_str(), READS)
 }
 
-// Seven bytes behind a cursor as a source: two tries, all that is wanted twice, and both past their end.
+// Seven bytes after a cursor as a source: two tries, all that is wanted twice, and both past their end.
 fn reads_on<T>(cursor: &mut Cursor<T>, out: &mut String) -> Result<(), Fail>
 where
     Cursor<T>: ReadVolatile,

@@ -9,8 +9,8 @@ use vm_memory_base::Bitmap;
 use vm_memory_device::Chain;
 use vm_memory_guest::{GuestMemory, GuestMemoryResult, HostMemory};
 
-/// Does what a request asks for, and returns its status and how many bytes it moved to the front of the chain's writable
-/// ones.
+/// Does what a request asks for, and returns its status and how many bytes it moved to the front of the chain's
+/// writable ones.
 pub fn perform<M: GuestMemory, B: Bitmap>(
     disk: &mut [u8],
     request: Request,
@@ -52,8 +52,8 @@ pub fn perform<M: GuestMemory, B: Bitmap>(
     (VIRTIO_BLK_S_OK, moved)
 }
 
-/// Serves a request on a disk of bytes, of a driver that accepted these features, and returns the length for `add_used`.
-/// After an error the caller makes the call again when the mapping came.
+/// Serves a request on a disk of bytes, of a driver that accepted these features, and returns the length for
+/// `add_used`. After an error the caller makes the call again when the mapping came.
 pub fn serve<M: GuestMemory, B: Bitmap>(
     disk: &mut [u8],
     acked: u64,

@@ -221,7 +221,7 @@ static CASES: [Case; 44] = [
         &[H, (DATA, 512, true), (HOLE, 1, true)],
         "512 255 [1, 2, 3, 4] 512",
     ),
-    // The status is the last byte of a longer segment, and of a segment of its own behind an empty one.
+    // The status is the last byte of a longer segment, and of a segment of its own after an empty one.
     (
         false,
         0,
@@ -394,7 +394,7 @@ fn accesses_end_where_memory_does(rt: HostRuntime) -> Result<(), Fail> {
     Ok(())
 }
 
-// Writes two sectors from memory, cut behind so many bytes, and reads them back to another place, cut there too.
+// Writes two sectors from memory, cut after so many bytes, and reads them back to another place, cut there too.
 fn cut_at<M: GuestMemory, B: Bitmap>(
     alloc: Global,
     bench: &mut Bench<M, B, MemoryDisk>,
@@ -429,7 +429,7 @@ fn cut_anywhere<M: GuestMemory, B: Bitmap>(
     Ok(())
 }
 
-// Cuts a header behind so many bytes, and before the status. Fails where its request is not served then.
+// Cuts a header after so many bytes, and before the status. Fails where its request is not served then.
 fn header_cut_at<M: GuestMemory, B: Bitmap>(
     bench: &mut Bench<M, B, MemoryDisk>,
     cut: u32,

@@ -204,7 +204,7 @@ const CELL_VALUES: &str =
                            Err(PartialBuffer { expected: 8, completed: 4 }) Err(OutOfBounds { addr: 8 }) \
                            [0, 0, 0, 0, 255, 255, 255, 255]";
 
-// A value in the second cell of a window, one that goes past the last cell, written and read, and one behind it.
+// A value in the second cell of a window, one that goes past the last cell, written and read, and one after it.
 #[test]
 fn a_type_of_its_own_gives_access_to_bytes(rt: HostRuntime) -> Result<(), Fail> {
     let mut host: HostMemory<()> = HostMemory::new(rt.alloc());

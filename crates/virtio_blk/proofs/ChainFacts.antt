@@ -121,7 +121,7 @@ module _ {B : Type 0} (m : Memory) (host : Host B) (limits : DeviceLimits) (give
       (front_of m host.tables permissions.Read given 16 enough) in
       (omega (arith, whole, within), accessed_one m host.tables permissions.Read given 16 16 whole)
 
-  -- a call for what is left of the header, behind what can be read of it, reaches nothing
+  -- a call for what is left of the header, after what can be read of it, reaches nothing
   no_header : (f : AccessFault) → Goes given → 16 ≤ length given → HeaderEnds (Some f) → NoHeader m host given false
   no_header f goes enough short =
       let k = length header_path in

@@ -425,7 +425,7 @@ module _ {B : Type 0} (m : Memory) (host : Host B) (es : List Entry) where
         within : length bytes ≤ length header_path
         front : bytes ≡ bytes_of (take (length bytes) header_path)
 
-      -- it is the front of a buffer, with whatever lies behind it
+      -- it is the front of a buffer, with whatever lies after it
       so_far : (bytes buffer : List ℕ) → Came bytes → length buffer ≡ 16 - length bytes
           → HeaderSoFar (length bytes) (bytes ++ buffer) (drop (length bytes) es)
       so_far bytes buffer h size = record {

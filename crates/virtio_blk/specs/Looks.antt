@@ -31,7 +31,7 @@ by_access (Ok x) done without = Ok (done x)
 by_access (Err e) done without = failed e without
 
 module _ {S : Type 0} (look : S → List Entry → ℕ → Result (List ℕ) GuestMemoryError → S → Type 0) where
-  -- looks at the first N bytes of a text found these pieces, the last one first: each look is at the bytes behind those
+  -- looks at the first N bytes of a text found these pieces, the last one first: each look is at the bytes after those
   -- that were found before it, so no byte is found twice
   abbrev pub Finds : List Entry → ℕ → List (List ℕ) → S → S → Type 0
   Finds es n [] old new = new ≡ old

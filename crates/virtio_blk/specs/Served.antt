@@ -16,7 +16,7 @@ use Rattle.virtio_blk.specs.declared.request.Request.TheVariants.{Read, Write, F
 abbrev pub piece : ℕ
 piece = 65536
 
--- the piece of a number of bytes in which one of them lies ends behind the last byte of a whole piece, or of all
+-- the piece of a number of bytes in which one of them lies ends after the last byte of a whole piece, or of all
 abbrev pub piece_end : ℕ → ℕ → ℕ
 piece_end len at = min (at / piece * piece + piece) len
 

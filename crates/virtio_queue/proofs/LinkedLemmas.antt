@@ -137,7 +137,7 @@ module _ (descriptor : ℕ → Result Descriptor QueueError) (len : ℕ) where
   after_refused (Ok f) d x is = absurd (cc)
   after_refused (Err y) d x is = cc
 
-  -- a chain that is refused at its first descriptor, or behind it
+  -- a chain that is refused at its first descriptor, or after it
   module _ (most i : ℕ) (x : QueueError) (h : followed descriptor len (suc most) i ≡ Err x)
       (later : (j : ℕ) → followed descriptor len most j ≡ Err x → Leads most j x) where
     ended_refused : (d : Descriptor) → entry descriptor len i ≡ Ok d → (b : Bool) → is_last d ≡ b

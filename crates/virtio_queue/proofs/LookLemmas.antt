@@ -127,7 +127,7 @@ module _ {S : Type 0} (look : S → (p : Step) → Result (Given p) QueueError �
     unfolding following
     at_outside s h k = let none : len - turns ≡ 0 = omega arith in rw (none, le-ltb index len k) (refl, refl)
 
-  -- an indirect table, behind these segments
+  -- an indirect table, after these segments
   module _ (front : List Segment) (d : Descriptor) (n : ℕ) (s new : S) (is : Ok n ≡ indirect_len d) where
     abbrev rest : Followed → Tree (List Segment)
     rest f = gives (direct f)

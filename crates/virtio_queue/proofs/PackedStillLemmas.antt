@@ -26,7 +26,7 @@ in_front_twice : (xs ys : List Segment) (r : Result (List Segment) QueueError)
 in_front_twice xs ys (Ok ss) = ap Ok (sym (append_assoc xs ys ss))
 in_front_twice xs ys (Err e) = refl
 
--- the descriptors of a chain, behind these segments of so many slots
+-- the descriptors of a chain, after these segments of so many slots
 abbrev taken : List Segment → ℕ → Listed → Taken
 taken front slots l = record {
   segments = front ++ map segment_of l.front;

@@ -195,7 +195,7 @@ module _ {B : Type 0} (m : Memory) (host : Host B) where
     answer_following zero front i = by_end front (nat_lt i len)
     answer_following (suc most) front i = by_index most front i (answer_following most) (nat_lt i len)
 
-  -- the segments of an indirect table, behind these
+  -- the segments of an indirect table, after these
   direct_after : (front more : List Segment) (end : Option Descriptor)
       → direct (record { segments = front ++ more; indirect = end })
       ≡ and_then (direct (record { segments = more; indirect = end })) (λ ss. Ok (front ++ ss))

@@ -26,7 +26,7 @@ pub record Taken : Type 0 where
   pub last : PackedDescriptor
   pub slots : ℕ
 
--- from a slot on, behind these segments of so many slots: one look at each descriptor. At most so many, and one more is a
+-- from a slot on, after these segments of so many slots: one look at each descriptor. At most so many, and one more is a
 -- loop. The flags of the first one are known, if it was found to be available
 unfoldable pub listing : ℕ → ℕ → ℕ → List Segment → ℕ → ℕ → Option ℕ → Tree Taken
 listing ring size zero front slots i known = gives (Err errors.DescriptorLoop)
@@ -35,13 +35,13 @@ listing ring size (suc most) front slots i known = takes (row ring i) (λ d.
     if is_last p then gives (Ok (record { segments = front; last = p; slots = slots + 1 }))
     else keeps (listing ring size most (front ++ segment_of p ∷ []) (slots + 1) (slot_after size i) None))
 
--- the segments of N descriptors of an indirect table from an index on, behind these: one look at each
+-- the segments of N descriptors of an indirect table from an index on, after these: one look at each
 unfoldable pub rows_after : ℕ → ℕ → List Segment → ℕ → Tree (List Segment)
 rows_after table zero front i = gives (Ok front)
 rows_after table (suc n) front i = takes (row table i) (λ d.
     keeps (rows_after table n (front ++ segment_of (packed_of d) ∷ []) (i + 1)))
 
--- the segments of the last descriptor behind these: its own, or those of its table
+-- the segments of the last descriptor after these: its own, or those of its table
 abbrev pub last_after : List Segment → PackedDescriptor → Tree (List Segment)
 last_after front d = if is_indirect d then if_ok (λ n. rows_after d.addr n front 0) (indirect_len (plain d))
     else keeps (gives (Ok (front ++ segment_of d ∷ [])))

@@ -12,7 +12,7 @@ use Rattle.virtio_queue.specs.declared.descriptor.Descriptor.{Descriptor}
 use Rattle.virtio_queue.specs.declared.error.QueueError.TheVariants as errors
 use Rattle.virtio_queue.specs.declared.state.QueueState.{QueueState}
 
--- from an index of a table of N descriptors on, behind these segments: one look at each descriptor, which says all that
+-- from an index of a table of N descriptors on, after these segments: one look at each descriptor, which says all that
 -- is made of it, its segment and what follows. At most so many, and one more is a loop
 unfoldable pub following : ℕ → ℕ → ℕ → List Segment → ℕ → Tree Followed
 following table len zero front i =
@@ -24,7 +24,7 @@ following table len (suc most) front i = if nat_lt i len
     else gives (Ok (record { segments = front ++ segment_of d ∷ []; indirect = None }))))
     else gives (Err errors.InvalidDescriptorIndex)
 
--- the segments of an indirect table behind these, if a descriptor leads to one
+-- the segments of an indirect table after these, if a descriptor leads to one
 abbrev pub table_after : List Segment → Descriptor → Tree (List Segment)
 table_after front d = if_ok (λ n. and_takes (following d.addr n n front 0) (λ f. gives (direct f))) (indirect_len d)
 

@@ -34,7 +34,7 @@ IsLayout-skip q r (x ∷ xs) fits h =
     let high : last r < x.start = h.1.0 in
     (omega arith, h.1.1)
 
--- without any one behind the first, and without any one
+-- without any one after the first, and without any one
 IsLayout-behind : (q : Region) (rs : List Region) (base size : ℕ) → All IsRegion rs → IsLayout (q ∷ rs)
     → OfLeft (λ xs. IsLayout (q ∷ xs)) (removed (λ r. r) rs base size)
 IsLayout-behind q [] base size each h = tt

@@ -301,7 +301,7 @@ command_line line first ws behind left c h text none read end =
     let whole : command_at first ws ≡ Some (c, []) = ap (command_at first) same ∙ read ∙ ap (λ l. Some (c, l)) end in
     (text, subst (λ l. Each IsField l (command_fields c)) (sym h.words) (command-to first ws c whole))
 
--- the line that was read of the words behind the first
+-- the line that was read of the words after the first
 behind-to : (line first : List ℕ) (ws : List (List ℕ)) (made : Option (List Field)) (left : List (List ℕ)) (l : Line)
     → HasWords line first ws → IsUtf8 line → setup_at first ws ≡ Some (made, left)
     → line_after first made left ≡ Some (shown l) → Means line l

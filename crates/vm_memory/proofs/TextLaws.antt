@@ -147,7 +147,7 @@ last [] = []
 last (a ∷ []) = a
 last (a ∷ b ∷ ws) = last (b ∷ ws)
 
--- the words before the first that is this, and those behind it
+-- the words before the first that is this, and those after it
 until : List ℕ → List (List ℕ) → List (List ℕ)
 until w [] = []
 until w (a ∷ ws) = cond (bytes_eq a w) [] (a ∷ until w ws)

@@ -15,7 +15,7 @@ use Rattle.std.proofs.lemmas.Str.Pattern.{IsSplitOnceResult, split_parts, split_
 use Rattle.vm_memory.specs.Words.{parts_of}
 use Rattle.vm_memory.specs.Reading.{after_front, each, is_numeral, number_in, ◌>>=◌}
 
--- the first part of a text, and what is behind it
+-- the first part of a text, and what is after it
 pub parts_of-first : (c : ℕ) (text : List ℕ) (r : Option (Bor (List ℕ) × Bor (List ℕ))) → IsSplitOnceResult c text r
     → c < 128 → MatchOption r (parts_of c text ≡ text ∷ []) (λ x. parts_of c text ≡ x.0.now ∷ parts_of c x.1.now)
 parts_of-first c text None h low =
@@ -73,7 +73,9 @@ each_none f text texts whole front h e =
 pub each_all : {A : Type 0} (f : List ℕ → Option A) (left whole : List (List ℕ)) (front : List A)
     → each f whole ≡ after_front front (each f left) → left ≡ [] → each f whole ≡ Some front
 unfolding each
-each_all f left whole front h e = h ∙ ap (λ ws. behind front (each f ws)) e ∙ ap Some (append-nil front)
+each_all f left whole front h e = h ∙ ap (λ ws. after_front front (each f ws)) e ∙ ap Some (append-nil front)
+
+pub ruleset each_word = (each_all, each_more, each_none)
 
 pub each-start : {A : Type 0} (o : Option (List A)) → o ≡ after_front [] o
 each-start None = refl

@@ -267,7 +267,7 @@ pub none_stay : (low high : ℕ) (rs : List (AddressRun Mapping)) → low ≤ hi
     → runs_below low rs ≡ []
 none_stay low high rs l none = sym (below_below low high rs l) ∙ ap (runs_below low) none
 
--- the runs from an address on, where another was put behind it
+-- the runs from an address on, where another was put after it
 pub clear_kept : (first last : ℕ) (r : AddressRun Mapping) (rs put : List (AddressRun Mapping)) → AreAscending rs
     → r.start ≡ last
     → first < last → put ≡ runs_below r.start rs ++ r ∷ runs_from (r.start + 1) rs
@@ -296,7 +296,7 @@ clear_kept first last r rs put h s l is same =
     ap (runs_from k) is ∙ from_of k (runs_below k rs) (r ∷ runs_from (k + 1) rs) (below_starts k rs) t in
     a ∙ sym (subst (λ (n : ℕ). runs_from n put ≡ r ∷ runs_from (k + 1) rs) s b)
 
--- where no run below an address starts behind another
+-- where no run below an address starts after another
 pub none_from : (mid high : ℕ) (rs : List (AddressRun Mapping)) → AreAscending rs → mid ≤ high
     → StartsBelow mid (runs_below high rs) → runs_from mid rs ≡ runs_from high rs
 none_from mid high rs h m s =

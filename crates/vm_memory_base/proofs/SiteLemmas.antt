@@ -218,7 +218,7 @@ cleared_over rs k start end some fits front behind is_front cut cut_after new pu
 
 -- ---- the edges of a site where a run joins them
 
--- what is left of the one behind is as it was
+-- what is left of the one after it is as it was
 pub if_left : (P : AddressRun Mapping → Type 0) (before after : Option (AddressRun Mapping))
     → IfSome after (λ r. if_any before ≡ r ∷ []) → IfSome before P → IfSome after P
 if_left P before None h p = tt

@@ -79,7 +79,7 @@ Accessed m tables access a n unchanged effect moved =
     (ended (span (windows x.path)) (option_map error_of x.fault)) unchanged effect moved
 
 module _ (m : Memory) (tables : List Table) (access : Permissions) (before : List Entry) (most : ℕ) where
-  -- a call came so far: each access reached all, the place is behind them, and this was done of what they reached
+  -- a call came so far: each access reached all, the place is after them, and this was done of what they reached
   pub record CameTo (Did : List Reached → Type 0) (total : ℕ) (at : List Entry) : Type 0 where
     pub reached : List Reached
     pub so_far : SoFar m.regions (route m tables) access (take most before) total reached
@@ -195,7 +195,7 @@ module _ (m : Memory) (tables : List Table) (access : Permissions) (before : Lis
           )) is (told ∙ ap (λ k. ended k (Some errors.Memory)) (sym c.so_far.count))
           (place ∙ c.place ∙ ap (λ k. drop k before) (sym c.so_far.count)) did
 
-      -- the call goes on behind the next access, or ends there
+      -- the call goes on after the next access, or ends there
       pub turn : (Unchanged Effect : Type 0) (moved : Result ℕ GuestMemoryError)
           (answer : Option (Result ℕ GuestMemoryError)) (sum : ℕ) (left : List Entry)
           → Accessed m tables access a n Unchanged Effect moved → GoesOn n moved total at answer sum left

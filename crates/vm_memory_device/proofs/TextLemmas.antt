@@ -44,7 +44,7 @@ length-entries a rest ss =
 same_entries : (a b n m : ℕ) (es : List Entry) → a ≡ b → n ≡ m → entries_from a n ++ es ≡ entries_from b m ++ es
 same_entries a b n m es p q = cc
 
--- the entries of a segment behind the first of them
+-- the entries of a segment after the first of them
 pub drop-entries_from : (a n k : ℕ) (es : List Entry) → k ≤ n
     → drop k (entries_from a n ++ es) ≡ entries_from (a + k) (n - k) ++ es
 unfolding entries_from
@@ -117,7 +117,7 @@ some_next a rest room ss h some =
     least : (x y : ℕ) → (min x y ≡ x) ⊎ (min x y ≡ y)
     least x y = elim (cases_lt x y) [ inl h ↦ inl (omega arith) | inr h ↦ inr (omega arith) ]
 
--- a place goes on inside its segment, and behind it
+-- a place goes on inside its segment, and after it
 pub place_inside : (a rest count : ℕ) (ss : List Segment) → IsPlace a rest ss → count < rest
     → IsPlace (a + count) (rest - count) ss
 place_inside a rest count ss h inside =
@@ -140,7 +140,7 @@ within_place a rest count ss es h is within = omega (arith, ap access_len is, ac
 pub fit_after : (ss behind : List Segment) (s : Segment) → ss ≡ s ∷ behind → All Fits ss → All Fits behind
 fit_after ss behind s is h = All-tail Fits s behind (subst (λ rs. All Fits rs) is h)
 
--- where segments begin with one that has a byte, a place is there, and else behind it
+-- where segments begin with one that has a byte, a place is there, and else after it
 pub place_first : (ss behind : List Segment) (s : Segment) → ss ≡ s ∷ behind → All Fits ss → 0 < s.len
     → IsPlace s.addr.0 s.len behind
 place_first ss behind s is fit some = record {
@@ -234,7 +234,7 @@ divided_writable before count readable_len total sum writes s h w fits is = reco
   unseen = λ e. absurd (cc);
 }
 
--- a readable one more stands behind readable ones alone
+-- a readable one more stands after readable ones alone
 pub divided_readable : (before : List Segment) (count readable_len total sum : ℕ) (writes : Bool) (s : Segment)
     → Divided before count readable_len total writes → s.writable ≡ false → writes ≡ false → Fits s
     → sum ≡ total + s.len
@@ -295,7 +295,7 @@ unseen_before true total s h w = go (nat_le (2 ^ 64) (s.addr.0 + s.len)) s.writa
     go false true long e h = e
     go false false long e h = absurd (cc)
 
--- the fault of segments is that of those behind the tested ones
+-- the fault of segments is that of those after the tested ones
 pub fault_next : (ss : List Segment) (i : ℕ) (d : Segment) (count readable_len total : ℕ) (writes : Bool)
     → i < length ss
     → Divided (take i ss) count readable_len total writes

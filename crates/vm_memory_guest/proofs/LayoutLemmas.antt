@@ -17,7 +17,7 @@ use Rattle.vm_memory_guest.specs.declared.region.error.GuestRegionCollectionErro
 use Rattle.vm_memory_guest.specs.declared.region.error.GuestRegionCollectionError.TheVariants as layout
 
 module _ {X : Type 0} (region : X → Region) where
-  -- behind the last region that starts no higher, and before the first that starts above, is the place
+  -- after the last region that starts no higher, and before the first that starts above, is the place
   pub inserted-at : (xs : List X) (n : ℕ) (new : X) → n ≤ length xs
       → ((k : ℕ) → k < n → (region (get_or xs k new)).start ≤ (region new).start)
       → ((k : ℕ) → n ≤ k → k < length xs → (region new).start < (region (get_or xs k new)).start)

@@ -56,7 +56,7 @@ path-ends m i (suc n) = go (path-ends m (i + 1) n) (m i) refl
     go ih (Reaches x) e = reached (first_fault m (i + 1) n) (path m (i + 1) n) ih
     go ih (Stops fault) e = (omega arith, ap m (add-zero i) ∙ e)
 
--- a byte before others begins a stretch of its own, or lengthens the one behind it
+-- a byte before others begins a stretch of its own, or lengthens the one after it
 record Split (x y : Reached) (ys : List Reached) : Type 0 where
   len : ℕ
   rest : List Stretch

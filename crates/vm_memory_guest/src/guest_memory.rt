@@ -34,7 +34,7 @@ use vm_memory_base::{
 #[derive(Drop)]
 pub struct IommuMemorySliceIterator<'a, M: GuestMemoryBackend> {
     walk: GuestMemoryBackendSliceIterator<'a, M>,
-    // Where addresses are translated: what comes behind the piece of the walk.
+    // If addresses are translated: what comes after the piece of the walk.
     later: Option<LaterPieces<'a, M>>,
 }
 

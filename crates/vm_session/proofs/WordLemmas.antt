@@ -3,7 +3,7 @@ use Rattle.std.proofs.Common.{suc, arith, ◌≡◌, ◌∙◌, ◌+◌, ◌*◌
 use Rattle.std.proofs.Math.Seq.{take-append_seam, drop-append-add}
 use Rattle.std.proofs.lemmas.List.{drop-drop, take_more, flat_map_more}
 
--- bytes that are put behind a front
+-- bytes that are put after a front
 put_seam : (front rest bytes : List ℕ) (n : ℕ)
     → take (length front) (front ++ rest) ++ (bytes ++ drop (length front + n) (front ++ rest))
     ≡ (front ++ bytes) ++ drop n rest
@@ -41,7 +41,7 @@ module _ {X : Type 0} (f : X → List ℕ) (n : ℕ) (all : (x : X) → length (
       ∙ ap (λ l. l ++ drop (at + n) old) (flat_map_more f [] (take i xs) x
       ∙ ap (flat_map f) (ap (λ y. take i xs ++ y ∷ []) is_x ∙ sym (take_more xs i x within)))
 
--- two numbers that are put one behind the other
+-- two numbers that are put one after the other
 pub two_put : (old a b : List ℕ) (at next end : ℕ) → length a ≡ 8 → next ≡ at + 8 → end ≡ next + 8 → next ≤ length old
     → take next (take at old ++ (a ++ drop next old))
     ++ (b ++ drop end (take at old ++ (a ++ drop next old)))

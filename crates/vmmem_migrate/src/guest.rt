@@ -36,7 +36,7 @@ struct Spot {
     len: usize,
 }
 
-// Makes a block of zeros behind the others.
+// Makes a block of zeros after the others.
 fn add_block(
     alloc: Global,
     host: &mut Host,

@@ -40,7 +40,7 @@ pub(super) fn write_all<W: Write>(output: &mut W, bytes: &[u8]) -> bool
 }
 
 // Writes bytes until the output fails, and returns how many it took.
-#[tactic(auto, using(crate::proofs::ToldLemmas::keeps_keeps, crate::proofs::ToldLemmas::keeps_then, crate::proofs::ToldLemmas::appends_appends))]
+#[tactic(auto, using(crate::proofs::ToldLemmas::one_after_other))]
 fn write_out<W: Write>(output: &mut W, bytes: &[u8]) -> usize
     ensures bound { result ≤ length bytes.now }
     ensures wrote { Appends (W.contents output.old) (W.contents output.new) (take result bytes.now) }
@@ -56,7 +56,7 @@ fn write_out<W: Write>(output: &mut W, bytes: &[u8]) -> usize
 }
 
 // Writes the first of these bytes, and tries again if it is interrupted. `None` if the output fails.
-#[tactic(auto, using(crate::proofs::ToldLemmas::keeps_keeps, crate::proofs::ToldLemmas::keeps_then, crate::proofs::ToldLemmas::appends_appends))]
+#[tactic(auto, using(crate::proofs::ToldLemmas::one_after_other))]
 fn write_again<W: Write>(output: &mut W, bytes: &[u8]) -> Option<usize>
     ensures { MatchOption result (Keeps (W.contents output.old) (W.contents output.new))
         (λ count. (count ≤ length bytes.now)

@@ -194,7 +194,7 @@ impl RunMap {
         }
     }
 
-    // Puts a run, or none, in the place of those that start in a site, and the one behind it, or none, where that
+    // Puts a run, or none, in the place of those that start in a site, and the one after it, or none, where that
     // belongs. Refused, nothing changes.
     #[inline(always)]
     fn put(&mut self, site: &Site, run: Option<MappedRun>) -> Result<(), AllocError>

@@ -15,14 +15,14 @@ pub(super) struct Neighbours {
 }
 
 // What lies of a run on one side of an address, and whether a run is stored so: in front of the address one that
-// ends there, and behind it one that starts there.
+// ends there, and after it one that starts there.
 #[derive(Clone, Copy, Debug)]
 pub(super) struct Edge {
     pub(super) run: Option<MappedRun>,
     pub(super) stored: bool,
 }
 
-// The addresses from `start` up to `end`, with what lies in front of them and behind them. It is told to be clear
+// The addresses from `start` up to `end`, with what lies in front of them and after them. It is told to be clear
 // where no run starts between the two.
 #[derive(Clone, Copy, Debug)]
 pub(super) struct Site {

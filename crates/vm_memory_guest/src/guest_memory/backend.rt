@@ -327,7 +327,7 @@ fn known_address(addr: GuestAddress)
     let _bits = addr.0;
 }
 
-// The address behind what a callback handled of an access of `count` bytes, or `None` where that was nothing or
+// The address after what a callback handled of an access of `count` bytes, or `None` where that was nothing or
 // all that was left.
 #[inline]
 fn next_address(

@@ -13,7 +13,7 @@ use crate::volatile_memory::slice::VolatileSlice;
 use std::marker::Model;
 use vm_memory_base::{Address, BitmapId, BitmapRef, GuestAddress, MappedRangeList};
 
-// The pieces that a walk has left behind the one that it goes through, and the space that its windows mark,
+// The pieces that a walk has left after the one that it goes through, and the space that its windows mark,
 // from an address on.
 #[derive(Drop)]
 pub(super) struct LaterPieces<'a, M: GuestMemoryBackend> {
@@ -79,7 +79,7 @@ impl<'a, M: GuestMemoryBackend> LaterPieces<'a, M> {
         Some(self.mem.get_slices(piece.base, piece.length))
     }
 
-    // A window that comes next marks the space, and what is left marks it from behind the window on.
+    // A window that comes next marks the space, and what is left marks it from the end of the window on.
     #[inline(always)]
     fn marked(&mut self, window: VolatileSlice) -> VolatileSlice
         ensures window { result ≡ record window {
@@ -104,7 +104,7 @@ impl<'a, M: GuestMemoryBackend> LaterPieces<'a, M> {
     }
 }
 
-// What comes next, of the piece that a walk goes through or of those behind it. It is inlined, so that a walk that
+// What comes next, of the piece that a walk goes through or of those after it. It is inlined, so that a walk that
 // has no pieces stays in registers.
 #[inline(always)]
 pub(super) fn next_of_pieces<'a, M: GuestMemoryBackend>(

@@ -1,4 +1,4 @@
--- The other items so far are written, each behind a space.
+-- The other items so far are written, each after a space.
 use Rattle.std.proofs.Common.{flat_map, map, take}
 use Rattle.std.specs.Fmt.{HasWritten, IsPlainFormatter}
 use Rattle.vm_memory.specs.Texts.{after_space}

@@ -1,6 +1,8 @@
 //! A slow reading of a packed ring, byte by byte, written apart from the queue.
 
-use crate::rings::{Image, Setup};
+use super::rings::Setup;
+use crate::draws::Image;
+use crate::reading::{fault_of, number};
 use std::alloc::{AllocError, Global};
 use virtio_queue::RingPosition;
 use vm_memory_base::GuestAddress;
@@ -12,21 +14,6 @@ pub enum Outcome {
     Nothing,
     Chain(u16, u16, Vec<Segment>),
     Refused(&'static str),
-}
-
-// The number of so many bytes at an address, or why it cannot be read.
-fn number(image: &Image, addr: u64, count: u64) -> Result<u64, &'static str> {
-    let mut value = 0u64;
-    for i in 0..count {
-        let Some(place) = addr.checked_add(count - 1 - i) else {
-            return Err("AddressOverflow");
-        };
-        let Some(byte) = image.byte(place) else {
-            return Err("GuestMemory");
-        };
-        value = value.wrapping_mul(256).wrapping_add(u64::from(byte));
-    }
-    Ok(value)
 }
 
 // A descriptor.
@@ -62,26 +49,6 @@ fn descriptor_at(image: &Image, table: u64, index: u64) -> Result<Descriptor, &'
         id: number(image, at.wrapping_add(12), 2)?,
         flags: number(image, at.wrapping_add(14), 2)?,
     })
-}
-
-// Why segments make no chain.
-fn fault_of(segments: &[Segment]) -> Option<&'static str> {
-    let mut total = 0u64;
-    let mut writes = false;
-    for segment in segments {
-        if segment.addr.0 > u64::MAX - u64::from(segment.len) {
-            return Some("InvalidChain range");
-        }
-        if writes && !segment.writable {
-            return Some("InvalidChain order");
-        }
-        writes = segment.writable;
-        total = total.wrapping_add(u64::from(segment.len));
-        if total > 0xffff_ffff {
-            return Some("InvalidChain length");
-        }
-    }
-    None
 }
 
 // Adds the segments of an indirect table, or says what is wrong with it.
@@ -155,7 +122,7 @@ pub fn popped(alloc: Global, image: &Image, setup: &Setup) -> Result<Outcome, Al
     chain(alloc, image, setup)
 }
 
-/// The position after so many steps from slot to slot.
+/// The position after `count` steps from slot to slot.
 pub fn steps(size: u16, position: RingPosition, count: u16) -> RingPosition {
     let mut place = position;
     for _ in 0..count {
@@ -168,7 +135,7 @@ pub fn steps(size: u16, position: RingPosition, count: u16) -> RingPosition {
     place
 }
 
-/// Whether an event is at one of so many positions from one on, step by step.
+/// Whether an event is at one of the `count` positions from `from` on, step by step.
 pub fn is_passed(size: u16, from: RingPosition, count: u16, event: RingPosition) -> bool {
     let mut place = from;
     for _ in 0..count {

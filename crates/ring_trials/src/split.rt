@@ -1,20 +1,18 @@
-//! Pops chains of rings that a hostile driver might have written, and compares each answer with a slow reading of the
-//! same bytes, which is written apart. It prints how many rings ended in each way.
-#![tactic(auto)]
+//! Pops chains of split rings that a hostile driver might have written, and compares each answer with a slow reading of
+//! the same bytes, which is written apart.
 
 mod rings;
 mod slow;
 
-use anyhow::{Context, bail};
-use rings::{BEGIN, Image, Numbers, SIZE, Setup};
+use crate::draws::{BEGIN, Image, Numbers, SIZE};
+use crate::ends::{RINGS, count, name_of, print, put};
+use anyhow::bail;
+use rings::Setup;
 use slow::{Outcome, readable_bytes};
 use std::alloc::Global;
-use virtio_queue::{Queue, QueueError};
 use vm_memory_base::GuestAddress;
-use vm_memory_device::{Chain, ChainFault, Segment};
-use vm_memory_guest::{Bytes, GuestMemoryMmap, HostMemory};
-
-const RINGS: u64 = 1_000_000;
+use vm_memory_device::{Chain, Segment};
+use vm_memory_guest::{GuestMemoryMmap, HostMemory};
 
 // The ways in which a ring can end, by their names.
 const ENDS: [&str; 15] = [
@@ -34,25 +32,6 @@ const ENDS: [&str; 15] = [
     "Memory",
     "other",
 ];
-
-// The name of an error.
-fn name_of(error: &QueueError) -> &'static str {
-    match error {
-        QueueError::InvalidAvailRingIndex => "InvalidAvailRingIndex",
-        QueueError::InvalidDescriptorIndex => "InvalidDescriptorIndex",
-        QueueError::DescriptorLoop => "DescriptorLoop",
-        QueueError::IndirectWithNext => "IndirectWithNext",
-        QueueError::NestedIndirect => "NestedIndirect",
-        QueueError::InvalidIndirectTable => "InvalidIndirectTable",
-        QueueError::InvalidChain(ChainFault::Order) => "InvalidChain order",
-        QueueError::InvalidChain(ChainFault::TooLong) => "InvalidChain length",
-        QueueError::InvalidChain(ChainFault::Range) => "InvalidChain range",
-        QueueError::GuestMemory(_) => "GuestMemory",
-        QueueError::AddressOverflow => "AddressOverflow",
-        QueueError::Memory => "Memory",
-        _ => "other",
-    }
-}
 
 // How many bytes segments have that are written, or not.
 fn total(segments: &[Segment], writable: bool) -> u64 {
@@ -120,17 +99,8 @@ fn end_of(
     Ok(agrees)
 }
 
-// Puts the bytes of a ring into memory.
-fn put(host: &mut HostMemory<()>, memory: &GuestMemoryMmap, image: &Image) -> anyhow::Result<()> {
-    if !host.holds(memory) {
-        bail!("the host does not hold the memory");
-    }
-    memory.write_slice(host, image.as_slice(), GuestAddress(BEGIN))?;
-    Ok(())
-}
-
-// Counts how so many rings end.
-fn run(
+// Counts how rings end.
+fn try_all(
     alloc: Global,
     host: &mut HostMemory<()>,
     memory: &GuestMemoryMmap,
@@ -144,23 +114,18 @@ fn run(
         let Some(end) = end_of(alloc, memory, host, &image, &setup)? else {
             bail!("ring {number}: the queue and the slow reading differ");
         };
-        let place = ENDS.iter().position(|name| *name == end);
-        let place = place.context("each end has a name")?;
-        if let Some(count) = counts.get_mut(place) {
-            *count = count.wrapping_add(1);
-        }
+        count(&ENDS, counts, end)?;
     }
     Ok(())
 }
 
-fn main(rt: HostRuntime) -> anyhow::Result<()> {
-    let mut host = HostMemory::new(rt.alloc());
+/// Tries split rings, and prints how many ended in each way.
+pub fn run(rt: &impl Print, alloc: Global) -> anyhow::Result<()> {
+    let mut host = HostMemory::new(alloc);
     let ranges = [(GuestAddress(BEGIN), SIZE)];
-    let memory = GuestMemoryMmap::from_ranges(rt.alloc(), &mut host, &ranges)?;
+    let memory = GuestMemoryMmap::from_ranges(alloc, &mut host, &ranges)?;
     let mut counts = [0; 15];
-    run(rt.alloc(), &mut host, &memory, &mut counts)?;
-    for (name, count) in ENDS.iter().zip(counts.iter()) {
-        println!(rt; "{name} {count}")?;
-    }
-    Ok(())
+    try_all(alloc, &mut host, &memory, &mut counts)?;
+    println!(rt; "split rings")?;
+    print(rt, &ENDS, &counts)
 }

@@ -1,23 +1,19 @@
-//! Pops chains of packed rings that a hostile driver might have written, and compares each answer with a slow reading
-//! of the same bytes, which is written apart. It prints how many rings ended in each way. Then it returns chains in
-//! every order of four, in rings of many sizes, and says of how many chains the driver learned; and chains of up to as
-//! many descriptors as a ring or a table has.
-#![tactic(auto)]
+//! Pops chains of packed rings as split.rt does. Then it returns chains in every order of four, in rings of many sizes,
+//! and counts those of which the driver learned; and chains of up to as many descriptors as a ring or a table has.
 
 mod orders;
 mod rings;
 mod slow;
 
-use anyhow::{Context, bail};
-use rings::{BEGIN, Image, Numbers, SIZE, Setup};
+use crate::draws::{BEGIN, Image, Numbers, SIZE};
+use crate::ends::{RINGS, count, name_of, print, put};
+use anyhow::bail;
+use rings::Setup;
 use slow::Outcome;
 use std::alloc::Global;
-use virtio_queue::{PackedBuffer, PackedQueue, QueueError};
+use virtio_queue::{PackedBuffer, PackedQueue};
 use vm_memory_base::GuestAddress;
-use vm_memory_device::ChainFault;
 use vm_memory_guest::{Bytes, GuestMemoryMmap, HostMemory};
-
-const RINGS: u64 = 1_000_000;
 
 // The ways in which a ring can end, by their names.
 const ENDS: [&str; 13] = [
@@ -35,22 +31,6 @@ const ENDS: [&str; 13] = [
     "Memory",
     "other",
 ];
-
-// The name of an error.
-fn name_of(error: &QueueError) -> &'static str {
-    match error {
-        QueueError::DescriptorLoop => "DescriptorLoop",
-        QueueError::IndirectWithNext => "IndirectWithNext",
-        QueueError::InvalidIndirectTable => "InvalidIndirectTable",
-        QueueError::InvalidChain(ChainFault::Order) => "InvalidChain order",
-        QueueError::InvalidChain(ChainFault::TooLong) => "InvalidChain length",
-        QueueError::InvalidChain(ChainFault::Range) => "InvalidChain range",
-        QueueError::GuestMemory(_) => "GuestMemory",
-        QueueError::AddressOverflow => "AddressOverflow",
-        QueueError::Memory => "Memory",
-        _ => "other",
-    }
-}
 
 // Whether the slot that is used next has these bytes after a chain was returned, or none of it could be written.
 fn is_returned(
@@ -133,17 +113,8 @@ fn end_of(
     }
 }
 
-// Puts the bytes of a ring into memory.
-fn put(host: &mut HostMemory<()>, memory: &GuestMemoryMmap, image: &Image) -> anyhow::Result<()> {
-    if !host.holds(memory) {
-        bail!("the host does not hold the memory");
-    }
-    memory.write_slice(host, image.as_slice(), GuestAddress(BEGIN))?;
-    Ok(())
-}
-
-// Counts how so many rings end.
-fn run(
+// Counts how rings end.
+fn try_all(
     alloc: Global,
     host: &mut HostMemory<()>,
     memory: &GuestMemoryMmap,
@@ -155,31 +126,27 @@ fn run(
         let setup = rings::write(&mut numbers, &mut image);
         put(host, memory, &image)?;
         let end = end_of(alloc, memory, host, &image, &setup)?;
-        let place = ENDS.iter().position(|name| *name == end);
-        let place = place.context("each end has a name")?;
-        if let Some(count) = counts.get_mut(place) {
-            *count = count.wrapping_add(1);
-        }
+        count(&ENDS, counts, end)?;
     }
     Ok(())
 }
 
-fn main(rt: HostRuntime) -> anyhow::Result<()> {
-    let mut host = HostMemory::new(rt.alloc());
+/// Tries packed rings, and prints how many ended in each way, and then how many chains and events went as they should.
+pub fn run(rt: &impl Print, alloc: Global) -> anyhow::Result<()> {
+    let mut host = HostMemory::new(alloc);
     let ranges = [(GuestAddress(BEGIN), SIZE)];
-    let memory = GuestMemoryMmap::from_ranges(rt.alloc(), &mut host, &ranges)?;
+    let memory = GuestMemoryMmap::from_ranges(alloc, &mut host, &ranges)?;
     let mut counts = [0; 13];
-    run(rt.alloc(), &mut host, &memory, &mut counts)?;
-    for (name, count) in ENDS.iter().zip(counts.iter()) {
-        println!(rt; "{name} {count}")?;
-    }
+    try_all(alloc, &mut host, &memory, &mut counts)?;
+    println!(rt; "packed rings")?;
+    print(rt, &ENDS, &counts)?;
     for size in orders::SIZES {
-        let count = orders::all(rt.alloc(), size)?;
+        let count = orders::all(alloc, size)?;
         println!(rt; "size {size}: {count} chains in every order")?;
     }
-    let (chains, tables) = orders::long(rt.alloc())?;
+    let (chains, tables) = orders::long(alloc)?;
     println!(rt; "{chains} chains of many slots, {tables} of many rows")?;
-    let events = orders::events(rt.alloc())?;
+    let events = orders::events(alloc)?;
     println!(rt; "{events} events")?;
     Ok(())
 }

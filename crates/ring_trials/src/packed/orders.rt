@@ -1,7 +1,7 @@
 //! Chains that are returned in every order of four, and events of drivers.
 
-use crate::rings::Numbers;
-use crate::slow;
+use super::slow;
+use crate::draws::Numbers;
 use anyhow::bail;
 use std::alloc::Global;
 use virtio_queue::{
@@ -48,7 +48,7 @@ const ROUNDS: u16 = 20;
 
 const BASE: u64 = 0x1000;
 
-// Where an indirect table lies, behind the longest ring, and how many bytes memory has.
+// Where an indirect table lies, after the longest ring, and how many bytes memory has.
 const TABLE: u64 = 0x9_0000;
 
 const SIZE: usize = 0x19_0000;
@@ -58,7 +58,7 @@ const SLOTS: [u16; 11] = [16, 17, 64, 65, 512, 513, 1024, 4097, 32_766, 32_767, 
 
 const ROWS: [u16; 11] = [16, 17, 64, 65, 512, 513, 1024, 4097, 32_769, 65_534, 65_535];
 
-// The segment of a place in a chain of so many: the second half is written.
+// The segment of a place in a chain of `count`: the second half is written.
 fn segment_of(place: u16, count: u16) -> Segment {
     Segment {
         addr: GuestAddress(0x5000 + u64::from(place)),
@@ -82,7 +82,7 @@ fn descriptor_of(place: u16, count: u16, id: u16) -> PackedDescriptor {
     }
 }
 
-// Whether these are the segments of a chain of so many.
+// Whether these are the segments of a chain of `count`.
 fn are_all(segments: &[Segment], count: u16) -> bool {
     segments.len() == usize::from(count)
         && segments
@@ -124,7 +124,7 @@ impl Pair {
         })
     }
 
-    // Publishes a chain of so many descriptors. Only the id of the last one says which it is.
+    // Publishes a chain of as many descriptors as the buffer has slots. Only the id of the last one says which it is.
     fn publish(&mut self, buffer: PackedBuffer) -> anyhow::Result<()> {
         for left in 0..buffer.slots {
             let last = left.wrapping_add(1) == buffer.slots;
@@ -148,7 +148,7 @@ impl Pair {
         Ok(())
     }
 
-    // Publishes a chain of a table of so many descriptors.
+    // Publishes a chain of a table of `rows` descriptors.
     fn publish_table(&mut self, id: u16, rows: u16) -> anyhow::Result<()> {
         let table = PackedDriver {
             desc_ring: TABLE,
@@ -169,7 +169,7 @@ impl Pair {
         })
     }
 
-    // Pops the chain of a buffer, which has so many segments, or finds none.
+    // Pops the chain of a buffer, which has this number of segments, or finds none.
     fn pops(&mut self, alloc: Global, wanted: Option<(PackedBuffer, u16)>) -> anyhow::Result<()> {
         if !self.host.holds(&self.memory) {
             bail!("the host does not hold the memory");

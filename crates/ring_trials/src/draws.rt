@@ -1,18 +1,16 @@
-//! Packed rings from a fixed sequence of numbers: each field is mostly near what is right.
-ghost use Rattle.std.specs.Prelude.{◌≡◌, ◌⊎◌, ◌<◌, ◌^◌};
+//! Numbers of a fixed sequence, the bytes of memory, and fields of descriptors, mostly near what is right.
+ghost use Rattle.std.specs.Prelude.{◌≡◌, ◌⊎◌, ◌<◌};
 
 use std::alloc::{AllocError, Global};
 use test_text::next_number;
-use virtio_queue::{PackedDriver, PackedQueue, QueueError, RingPosition};
-use vm_memory_base::GuestAddress;
 
 /// Where memory begins, and how many bytes it has.
 pub const BEGIN: u64 = 0x1000;
 
 pub const SIZE: usize = 0x400;
 
-// Where an indirect table may lie.
-const INDIRECT: u64 = 0x1200;
+/// Where an indirect table may lie.
+pub const INDIRECT: u64 = 0x1200;
 
 // Where segments mostly lie.
 const DATA: u64 = 0x1300;
@@ -38,7 +36,7 @@ impl Numbers {
         next_number(&mut self.state) % limit
     }
 
-    /// Whether one of so many is drawn.
+    /// Whether one number in `many` is drawn.
     pub fn one_in(&mut self, many: u64) -> bool {
         self.below(many) == 0
     }
@@ -80,26 +78,6 @@ impl Image {
     }
 }
 
-/// A ring: where it lies, its size, and where the device stands. The slots of `out` were popped and not returned.
-#[derive(Clone, Copy)]
-pub struct Setup {
-    pub ring: u64,
-    pub size: u16,
-    pub avail: RingPosition,
-    pub used: RingPosition,
-    pub out: u16,
-}
-
-impl Setup {
-    /// The device's half.
-    pub fn queue(&self) -> Result<PackedQueue, QueueError> {
-        let mut queue = PackedDriver::new(GuestAddress(self.ring), self.size)?.queue()?;
-        let base = u32::from(self.avail.to_bits()) + u32::from(self.used.to_bits()) * 0x1_0000;
-        queue.set_vring_base(base)?;
-        Ok(queue)
-    }
-}
-
 // Where a segment lies: mostly in memory, or at its end, or at the greatest addresses.
 fn segment_addr(numbers: &mut Numbers) -> u64 {
     match numbers.below(24) {
@@ -136,77 +114,25 @@ fn indirect_len(numbers: &mut Numbers) -> u64 {
     }
 }
 
-// Puts a descriptor, of which one in so many is indirect, with AVAIL and USED as they are drawn.
-fn put_descriptor(numbers: &mut Numbers, image: &mut Image, at: u64, indirect: u64) {
+/// The fields that descriptors of both kinds have.
+#[derive(Clone, Copy)]
+pub struct Fields {
+    pub addr: u64,
+    pub len: u64,
+    pub flags: u64,
+}
+
+/// Draws these fields. One descriptor in a given number is indirect.
+pub fn draw_fields(numbers: &mut Numbers, indirect: u64) -> Fields {
     let mut flags = 2 * u64::from(numbers.one_in(5)) + u64::from(numbers.below(8) < 4);
-    let (mut addr, mut bytes) = (segment_addr(numbers), segment_len(numbers));
+    let (mut addr, mut len) = (segment_addr(numbers), segment_len(numbers));
     if numbers.one_in(indirect) {
         flags = (flags & 2) + 4 + u64::from(numbers.one_in(8));
-        bytes = indirect_len(numbers);
+        len = indirect_len(numbers);
         addr = table_addr(numbers);
     }
     if numbers.one_in(64) {
         flags |= 8;
     }
-    flags |= 0x80 * numbers.below(2);
-    flags |= 0x8000 * numbers.below(2);
-    image.put(at, addr, 8);
-    image.put(at.wrapping_add(8), bytes, 4);
-    image.put(at.wrapping_add(12), numbers.below(65536), 2);
-    image.put(at.wrapping_add(14), flags, 2);
-}
-
-// A position so many slots before another, at most the size.
-fn back(size: u64, position: RingPosition, count: u64) -> RingPosition {
-    let mut slot = u64::from(position.slot);
-    let mut wrap = position.wrap;
-    for _ in 0..count {
-        if slot == 0 {
-            slot = size;
-            wrap = !wrap;
-        }
-        slot = slot.wrapping_sub(1);
-    }
-    RingPosition {
-        slot: (slot & 0xffff) as u16,
-        wrap,
-    }
-}
-
-/// Writes a ring: its descriptors, of which the one that is popped next is mostly available.
-pub fn write(numbers: &mut Numbers, image: &mut Image) -> Setup {
-    let size = 1 + numbers.below(20);
-    let ring = if numbers.one_in(40) {
-        BEGIN + SIZE as u64 - 16 * numbers.below(20)
-    } else {
-        BEGIN
-    };
-    let avail = RingPosition {
-        slot: numbers.below(size) as u16,
-        wrap: numbers.one_in(2),
-    };
-    let out = if numbers.one_in(3) {
-        numbers.below(size + 1)
-    } else {
-        0
-    };
-    for i in 0..size {
-        put_descriptor(numbers, image, ring.wrapping_add(16 * i), 9);
-    }
-    for i in 0..8u64 {
-        put_descriptor(numbers, image, INDIRECT.wrapping_add(16 * i), 24);
-    }
-    if !numbers.one_in(4) {
-        let at = ring.wrapping_add(16 * u64::from(avail.slot));
-        let low = u64::from(image.byte(at.wrapping_add(14)).unwrap_or(0)) & 0x7f;
-        let marks = if avail.wrap { 0x80 } else { 0x8000 };
-        image.put(at.wrapping_add(14), low + marks, 2);
-    }
-    Setup {
-        ring,
-        size: size as u16,
-        avail,
-        used: back(size, avail, out),
-        out: out as u16,
-    }
+    Fields { addr, len, flags }
 }

@@ -1,6 +1,8 @@
 //! A slow reading of a ring, byte by byte, written apart from the queue.
 
-use crate::rings::{BEGIN, Image, Setup};
+use super::rings::Setup;
+use crate::draws::{BEGIN, Image};
+use crate::reading::{fault_of, number};
 use std::alloc::{AllocError, Global};
 use vm_memory_base::GuestAddress;
 use vm_memory_device::Segment;
@@ -11,18 +13,6 @@ pub enum Outcome {
     Nothing,
     Chain(u16, Vec<Segment>),
     Refused(&'static str),
-}
-
-// The number of so many bytes at an address, where all are there.
-fn number(image: &Image, addr: u64, count: u64) -> Option<u64> {
-    let mut value = 0u64;
-    for i in 0..count {
-        let place = addr.checked_add(count - 1 - i)?;
-        value = value
-            .wrapping_mul(256)
-            .wrapping_add(u64::from(image.byte(place)?));
-    }
-    Some(value)
 }
 
 // A table that is followed: where it lies, its length, and which of its descriptors were seen.
@@ -65,19 +55,11 @@ fn descriptor_at(image: &Image, table: &Table, index: u64) -> Result<Descriptor,
     if at > u64::MAX - 15 {
         return Err("AddressOverflow");
     }
-    let (Some(addr), Some(len), Some(flags), Some(next)) = (
-        number(image, at, 8),
-        number(image, at.wrapping_add(8), 4),
-        number(image, at.wrapping_add(12), 2),
-        number(image, at.wrapping_add(14), 2),
-    ) else {
-        return Err("GuestMemory");
-    };
     Ok(Descriptor {
-        addr,
-        len,
-        flags,
-        next,
+        addr: number(image, at, 8)?,
+        len: number(image, at.wrapping_add(8), 4)?,
+        flags: number(image, at.wrapping_add(12), 2)?,
+        next: number(image, at.wrapping_add(14), 2)?,
     })
 }
 
@@ -121,26 +103,6 @@ fn met(
     })
 }
 
-// Why segments make no chain.
-fn fault_of(segments: &[Segment]) -> Option<&'static str> {
-    let mut total = 0u64;
-    let mut writes = false;
-    for segment in segments {
-        if segment.addr.0 > u64::MAX - u64::from(segment.len) {
-            return Some("InvalidChain range");
-        }
-        if writes && !segment.writable {
-            return Some("InvalidChain order");
-        }
-        writes = segment.writable;
-        total = total.wrapping_add(u64::from(segment.len));
-        if total > 0xffff_ffff {
-            return Some("InvalidChain length");
-        }
-    }
-    None
-}
-
 // The chain of a head.
 fn chain(alloc: Global, image: &Image, setup: &Setup, head: u64) -> Result<Outcome, AllocError> {
     let mut segments = Vec::new(alloc);
@@ -178,8 +140,9 @@ fn chain(alloc: Global, image: &Image, setup: &Setup, head: u64) -> Result<Outco
 
 /// What a ring holds for a queue that pops.
 pub fn popped(alloc: Global, image: &Image, setup: &Setup) -> Result<Outcome, AllocError> {
-    let Some(index) = number(image, setup.avail_ring.wrapping_add(2), 2) else {
-        return Ok(Outcome::Refused("GuestMemory"));
+    let index = match number(image, setup.avail_ring.wrapping_add(2), 2) {
+        Ok(index) => index,
+        Err(name) => return Ok(Outcome::Refused(name)),
     };
     let start = u64::from(setup.start);
     let size = u64::from(setup.size);
@@ -200,8 +163,8 @@ pub fn popped(alloc: Global, image: &Image, setup: &Setup) -> Result<Outcome, Al
     let slot = start & size.wrapping_sub(1);
     let at = setup.avail_ring.wrapping_add(4).wrapping_add(2 * slot);
     match number(image, at, 2) {
-        Some(head) => chain(alloc, image, setup, head),
-        None => Ok(Outcome::Refused("GuestMemory")),
+        Ok(head) => chain(alloc, image, setup, head),
+        Err(name) => Ok(Outcome::Refused(name)),
     }
 }
 
