@@ -76,6 +76,8 @@ pub fn mark_order()
 {}
 
 /// New pages are clean and cover their bytes, and each of these lies in one of them.
+///
+/// Witness: tests_base::clean_bitmap
 pub fn new_pages_cover()
     ensures clean { (size bytes : ℕ) → 0 < size → IsCleanFor bytes (new_pages size bytes) }
     ensures valid { (size bytes : ℕ) → 0 < size → bytes < 2 ^ 64 → IsPageSet (new_pages size bytes) }

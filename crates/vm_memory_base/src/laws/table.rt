@@ -60,6 +60,8 @@ pub fn targets_follow_addresses()
 
 /// Tables have one canonical list exactly if they say the same of each address. `same_mapping` says whether two
 /// mappings are equal.
+///
+/// Witness: tests_base::ranges_there
 pub fn canonical_list_decides_the_table()
     ensures canonical { (f : Says) → IsCanonical same_mapping (canonical_list f) }
     ensures values { (f : Says) (x : ℕ) → x < 2 ^ 64 → value_at (canonical_list f) x ≡ f x }
@@ -74,6 +76,8 @@ pub fn canonical_list_decides_the_table()
 
 /// A kept list that is canonical, and says nothing past the last address, is the canonical list of
 /// what it says.
+///
+/// Witness: tests_base::ranges_there
 pub fn kept_list_is_the_canonical_list()
     ensures by_values { (rs : List (AddressRun Mapping)) → IsCanonical same_mapping rs
         → ((x : ℕ) → 2 ^ 64 ≤ x → value_at rs x ≡ None) → canonical_list (value_at rs) ≡ rs }
@@ -92,6 +96,8 @@ pub fn allowed_where_each_address_grants()
 {}
 
 /// An access is refused for a missing mapping if anything is missed, and otherwise for its permissions.
+///
+/// Witness: tests_base::refusal_of
 pub fn reason_of_a_refusal()
     ensures missing { (f : Says) (a n : ℕ) → (misses f a n ≡ [] → ⊥) → reason f a n ≡ MissingMapping }
     ensures not_allowed { (f : Says) (a n : ℕ) → misses f a n ≡ [] → reason f a n ≡ AccessNotAllowed }
@@ -99,6 +105,8 @@ pub fn reason_of_a_refusal()
 
 /// The pieces of a look-up are the canonical list, cut to the addresses asked for, and the failures the runs of
 /// these whose mapping forbids the access.
+///
+/// Witness: tests_base::ranges_there
 pub fn pieces_are_cut()
     ensures runs { (f : Says) (a n : ℕ) → a + n ≤ 2 ^ 64
         → runs same_mapping f a n ≡ cut_to a n (canonical_list f) }
@@ -116,6 +124,8 @@ pub fn pieces_are_cut()
 /// many addresses as are asked for. An access is allowed exactly if its look-up has no miss and no failure; an
 /// empty range that begins past the last address is allowed though it is missed. A test passes at each address
 /// exactly if it passes at the addresses one by one.
+///
+/// Witness: tests_base::grants
 pub fn look_up_by_addresses()
     ensures targets { (f : Says) (a n : ℕ) → flat_map addresses (pieces f a n)
         ≡ flat_map (λ x. target_if_any x (f x)) (numbers a n) }
@@ -156,6 +166,8 @@ pub fn tables_keep_to_their_limits()
 
 /// Two tables of one limit that say the same of each address are equal: they keep the same ranges, and give every
 /// look-up the same result.
+///
+/// Witness: tests_base::forgotten
 pub fn tables_that_say_the_same(a: &Iotlb, b: &Iotlb)
     ensures same { a.now.limit ≡ b.now.limit → ((x : ℕ) → x < 2 ^ 64 → says a.now x ≡ says b.now x)
         → a.now ≡ b.now }
