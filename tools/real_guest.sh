@@ -6,11 +6,11 @@
 # --install installs the packages that it needs, by apt-get, --list prints the variants, and --keep keeps the files of
 # each run. --write puts the line of each variant that was ok into docs/real_guest.txt, with the day and the versions of
 # QEMU and Linux, in place of its line before. Without a VARIANT it runs all. Each prints one line: its name, ok, FAILED
-# or SLOW, the seconds, and what the back end served. The status is 0 if all are ok, 1 if one failed, 3 if a package is
-# missing, which is named, and 4 if none failed but one was too slow. More variants run only if they are named: quick
-# does a part of the work of default, two-queues and move in 3 GiB of memory, soak works for REAL_GUEST_SOAK seconds (an
-# hour by default) behind a lazy IOMMU and watches the memory and the descriptors of the back end, and qemu, qemu-lazy,
-# qemu-move and qemu-quick have QEMU's own device in place of ours.
+# or SLOW, the seconds, and what the back end served. The status is 0 if all are ok, 1 if one failed, 3 if a package,
+# which is named, or memory is missing, and 4 if none failed but one was too slow. More variants run only if they are
+# named: quick does a part of the work of default, two-queues and move in 3 GiB of memory, soak works for
+# REAL_GUEST_SOAK seconds (an hour by default) behind a lazy IOMMU and watches the memory and the descriptors of the
+# back end, and qemu, qemu-lazy, qemu-move and qemu-quick have QEMU's own device in place of ours.
 #
 # The guest is Debian's kernel with an initial RAM disk of busybox, made here: tools/real_guest_init.sh is its first
 # process. QEMU emulates the processor, so no KVM is needed.
@@ -507,6 +507,11 @@ run_variant() {
         printf '%-16s %-6s %4s    %s\n' "$name" "-" "" "left out: this machine has no huge pages for it"
         return 0
     fi
+    # While it moves, both files of both sides are read whole.
+    if [ -n "$is_large" ] && [ "$(awk '/^MemAvailable/ { print $2 }' /proc/meminfo)" -lt $((7 << 20)) ]; then
+        printf '%-16s %-6s %4s    %s\n' "$name" "-" "" "left out: it needs 7 GiB of memory"
+        return 3
+    fi
     [ "$name" = no-flush ] && flush=0
     room=$shared/$name
     mkdir -p "$room"
@@ -617,7 +622,7 @@ usage() {
 }
 
 main() {
-    local keep="" write="" names=() word failed=0 slow=0 name
+    local keep="" write="" names=() word failed=0 left_out=0 status name
     for word in "$@"; do
         case $word in
         --install) install_packages || exit 1 ;;
@@ -652,14 +657,15 @@ main() {
     build_initrd "$shared"
     for name in "${names[@]}"; do
         run_variant "$name"
-        case $? in
+        status=$?
+        case $status in
         0) ;;
-        4) slow=4 ;;
+        3 | 4) left_out=$status ;;
         *) failed=1 ;;
         esac
     done
     [ "$failed" = 0 ] || exit "$failed"
-    exit "$slow"
+    exit "$left_out"
 }
 
 main "$@"
