@@ -5,3 +5,5 @@
 mod connections;
 #[cfg(test)]
 mod rows;
+#[cfg(test)]
+mod witnesses;
