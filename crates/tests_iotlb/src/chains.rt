@@ -1,5 +1,6 @@
 //! Requests on chains and on bytes, past 4,096, 2^14 and 2^16 of them, in one try and in several.
 
+use crate::witnesses::map_and_take_back;
 use std::alloc::Global;
 use std::sync::Arc;
 use std::test::Fail;
@@ -482,4 +483,36 @@ fn many_ranges_in_tries(rt: HostRuntime) -> Result<(), Fail> {
         "Missed { iova: 4295229312, access: Write }; Done",
     )?;
     expect_memory(alloc, &guest, before.as_slice(), places.as_slice(), 1)
+}
+
+#[test]
+fn what_is_taken_back_is_missed(rt: HostRuntime) -> Result<(), Fail> {
+    let alloc = rt.alloc();
+    let before = contents(alloc)?;
+    let Guest {
+        mut host,
+        memory,
+        table,
+    } = make_guest(alloc, before.as_slice(), 8)?;
+    let chain = chain_of(alloc)?;
+    let bytes = bytes_of(alloc, TO_WRITE)?;
+    let mut request = WriteChain::new(&memory, table.table, &chain, 0, bytes.as_slice());
+    // The first try writes the first segment and the second, since more is not mapped.
+    map_and_take_back(
+        &table,
+        &mut host,
+        &mut request,
+        IOVA.wrapping_add(0x2_0000),
+        0x3000,
+        USER,
+    );
+    let mut again = ReadBytes::new(
+        &memory,
+        table.table,
+        GuestAddress(IOVA.wrapping_add(0x2_0001)),
+        vec![in alloc; 0u8; 1]?,
+    );
+    let outcome = again.attempt(&mut host);
+    assert!(rt; matches!(outcome, Outcome::Missed { .. }));
+    Ok(())
 }

@@ -5,3 +5,5 @@
 mod chains;
 #[cfg(test)]
 mod large;
+#[cfg(test)]
+mod witnesses;

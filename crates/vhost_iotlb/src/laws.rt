@@ -27,6 +27,8 @@ use vm_memory_device::laws::tables::{
 };
 
 /// A range that messages set is one that an UPDATE among them asked for.
+///
+/// Witness: tests_iotlb::map_and_take_back
 pub fn ranges_are_set_for_updates<B: Bitmap>()
     ensures { (number : ℕ) (regions : List MemoryRegion) (ms : List IotlbMessage) (calls : List TableEvent)
         (old new : Host B) (iova to len : ℕ) (perm : Permissions) → Handles number regions ms calls old new
@@ -38,6 +40,8 @@ pub fn ranges_are_set_for_updates<B: Bitmap>()
 /// After any list of messages a table says of each address what the call or eviction that covers it last made of it: an
 /// UPDATE that was applied mapped it, or an INVALIDATE or an eviction unmapped it. If none covers it, it
 /// says what it said before.
+///
+/// Witness: vhost_iotlb::invalidated_addresses_are_missed
 pub fn tables_say_what_was_updated_last<B: Bitmap>()
     ensures all { (number x : ℕ) (regions : List MemoryRegion) (ms : List IotlbMessage) (calls : List TableEvent)
         (old new : Host B) (t : Table) → Handles number regions ms calls old new
@@ -55,6 +59,8 @@ pub fn tables_say_what_was_updated_last<B: Bitmap>()
 
 /// After any list of messages an access behind the table reaches each byte through the mapping that an UPDATE set last
 /// for its address, and never through one that an INVALIDATE or an eviction unmapped.
+///
+/// Witness: vhost_iotlb::invalidated_addresses_are_missed
 pub fn accesses_go_through_what_was_updated_last<B: Bitmap>()
     ensures all { (regions : List MemoryRegion) (ms : List IotlbMessage) (calls : List TableEvent)
         (old new : Host B) (m : Memory) (b : Translation) (t : Table) (a n i : ℕ) (access : Permissions)
@@ -81,6 +87,8 @@ pub fn accesses_go_through_what_was_updated_last<B: Bitmap>()
 /// After an INVALIDATE that names an address, and no UPDATE of that address since, the table misses it, and no access
 /// behind the table reaches a byte there, whatever came before and since. After a malformed one that holds for each
 /// address that no UPDATE had since. No access can have the last address, 2^64 - 1.
+///
+/// Witness: tests_iotlb::map_and_take_back
 pub fn invalidated_addresses_are_missed<B: Bitmap>()
     ensures missed { (number x iova size : ℕ) (regions : List MemoryRegion) (earlier later : List IotlbMessage)
         (calls : List TableEvent) (old new : Host B) (t : Table)

@@ -18,6 +18,8 @@ use vm_memory_base::laws::table::{
 
 /// After calls a table says of each address what the last call or eviction that covers it made of it, and, if none
 /// covers it, what the table said before.
+///
+/// Witness: vhost_iotlb::tables_say_what_was_updated_last
 pub fn tables_say_what_calls_left()
     ensures last { (calls : List TableEvent) (t : Table) (x : ℕ) (call : TableEvent) → x < 2 ^ 64
         → IsLast x (events_of calls t) call → says (changed_by calls t) x ≡ says_after call x None }
