@@ -450,7 +450,8 @@ static inline uint64_t vmm_number(const void *list, size_t place) {
 /* Virtqueues, split and packed: crates/virtio_queue/README.md. */
 
 /* A queue in its reset state, with the maximum size: a power of two, 1 to 32768. All of its chains in flight have at
- * most `descriptors` descriptors. `value` is its number. */
+ * most `descriptors` segments: the descriptors in an indirect table count, and the one that names the table does not.
+ * `value` is its number. */
 static inline vmm_answer vmm_queue(vmm_session *s, size_t max_size, size_t descriptors) {
     vmm_request call = vmm_at(VMM_QUEUE, 0, 0, max_size);
     call.other_length = descriptors;
