@@ -436,7 +436,7 @@ impl Walk {
                 self.kick(index);
             }
         }
-        let (mut begun, mut misses) = (Instant::now(), 0);
+        let (whole, mut begun, mut misses) = (Instant::now(), Instant::now(), 0);
         loop {
             self.pump();
             let before = std::mem::replace(&mut misses, self.io.as_ref().map_or(0, |io| io.misses));
@@ -448,6 +448,7 @@ impl Walk {
                 return;
             }
             assert!(begun.elapsed() < patience(), "{}", self.stuck(&out));
+            assert!(whole.elapsed() < 9 * patience(), "without end: {}", self.stuck(&out));
             let time = out.iter().map(|&index| self.arm(index)).fold(patience(), Duration::min);
             if self.harvest_all() > 0 {
                 out.iter().for_each(|&index| self.disarm(index));
