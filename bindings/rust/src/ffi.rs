@@ -1,6 +1,8 @@
 //! The calls of the static library and of the system. All `unsafe` of this crate lies here, in the allocator and where
 //! memory is mapped.
 
+use crate::back_end::raw::{Action as RawAction, Counts};
+use crate::back_end::{Disk, PartEnd, Piece, Room};
 use crate::mapping::Mapping;
 use crate::raw::{code, Answer, Call, Miss};
 use crate::vhost_user::raw::{Negotiated, Request, Vring};
@@ -97,6 +99,45 @@ unsafe extern "C" {
     fn vmm_vhost_config(connection: *mut Handle, output: *mut u8, output_size: usize) -> usize;
 
     fn vmm_vhost_close(connection: *mut Handle);
+
+    fn vmm_backend_open(
+        back_end: *mut Handle,
+        offer: *const Offer,
+        config: *const u8,
+        config_size: usize,
+        disk: *const Disk,
+    ) -> u32;
+
+    fn vmm_backend_message(back_end: *mut Handle, message: *const u8, message_size: usize, descriptors: usize) -> u32;
+
+    fn vmm_backend_mapped(back_end: *mut Handle, place: Place) -> u32;
+
+    fn vmm_backend_done(back_end: *mut Handle);
+
+    fn vmm_backend_failed(back_end: *mut Handle);
+
+    fn vmm_backend_kick(back_end: *mut Handle, ring: u32);
+
+    fn vmm_backend_sent(back_end: *mut Handle, bytes: usize);
+
+    fn vmm_backend_resize(back_end: *mut Handle, sectors: u64);
+
+    fn vmm_backend_hang_up(back_end: *mut Handle);
+
+    fn vmm_backend_run(
+        back_end: *mut Handle,
+        ends: *const PartEnd,
+        ends_count: usize,
+        actions: *mut RawAction,
+        actions_count: usize,
+        pieces: *mut Piece,
+        pieces_count: usize,
+        output: *mut u8,
+        output_size: usize,
+        counts: *mut Counts,
+    );
+
+    fn vmm_backend_close(back_end: *mut Handle);
 }
 
 // Of the C library, as Linux on x86-64 has it.
@@ -392,5 +433,109 @@ impl Drop for Connection {
     fn drop(&mut self) {
         // SAFETY: see `Connection`. This is the handle's last use.
         unsafe { vmm_vhost_close(self.handle.get_mut()) }
+    }
+}
+
+/// An open back end. It is closed when it is dropped.
+///
+/// In each call the declaration fits the library's function, and the handle is that of an open back end, as each call
+/// leaves it. No other call of it runs: only this thread has it, and the library calls nothing back. Other pointers and
+/// lengths are those of references that are borrowed for the call.
+pub(crate) struct Device {
+    handle: Handle,
+}
+
+// SAFETY: the back end owns all that its handle points to, shares none of it, and is tied to no thread: the library's
+// type is `Send` too.
+unsafe impl Send for Device {}
+
+impl Device {
+    /// Opens a back end, or says why not by a code.
+    pub(crate) fn open(offer: &Offer, config: &[u8], disk: &Disk) -> Result<Device, u32> {
+        let mut handle = Handle { at: null_mut() };
+        // SAFETY: the declaration fits the library's function, a handle that is null is a closed one, as it asks, and
+        // the other pointers and the length are those of references.
+        let code = unsafe { vmm_backend_open(&mut handle, offer, config.as_ptr(), config.len(), disk) };
+        done(code, Device { handle })
+    }
+
+    pub(crate) fn message(&mut self, message: &[u8], descriptors: usize) -> u32 {
+        // SAFETY: see `Device`.
+        unsafe { vmm_backend_message(&mut self.handle, message.as_ptr(), message.len(), descriptors) }
+    }
+
+    /// Lends the bytes of a mapping. If that is refused they are the caller's again. Else the library has them until a
+    /// run asks for all regions to be unmapped, or until this is dropped.
+    pub(crate) fn mapped(&mut self, mapping: &Mapping) -> u32 {
+        let place = Place {
+            at: mapping.bytes(),
+            size: mapping.len(),
+        };
+        // SAFETY: see `Device`. The place is not null, and has as many bytes as it says, at least one and no more than
+        // an `isize` counts. Nothing in this process has a reference to them, and they stay mapped as long as the
+        // library has them: `BackEnd` keeps the mapping.
+        unsafe { vmm_backend_mapped(&mut self.handle, place) }
+    }
+
+    pub(crate) fn done(&mut self) {
+        // SAFETY: see `Device`.
+        unsafe { vmm_backend_done(&mut self.handle) }
+    }
+
+    pub(crate) fn failed(&mut self) {
+        // SAFETY: see `Device`.
+        unsafe { vmm_backend_failed(&mut self.handle) }
+    }
+
+    pub(crate) fn kick(&mut self, ring: u32) {
+        // SAFETY: see `Device`.
+        unsafe { vmm_backend_kick(&mut self.handle, ring) }
+    }
+
+    pub(crate) fn sent(&mut self, bytes: usize) {
+        // SAFETY: see `Device`.
+        unsafe { vmm_backend_sent(&mut self.handle, bytes) }
+    }
+
+    pub(crate) fn resize(&mut self, sectors: u64) {
+        // SAFETY: see `Device`.
+        unsafe { vmm_backend_resize(&mut self.handle, sectors) }
+    }
+
+    pub(crate) fn hang_up(&mut self) {
+        // SAFETY: see `Device`.
+        unsafe { vmm_backend_hang_up(&mut self.handle) }
+    }
+
+    #[inline]
+    pub(crate) fn run(&mut self, ends: &[PartEnd], room: &mut Room) {
+        let Room {
+            actions,
+            pieces,
+            output,
+            counts,
+        } = room;
+        // SAFETY: see `Device`.
+        unsafe {
+            vmm_backend_run(
+                &mut self.handle,
+                ends.as_ptr(),
+                ends.len(),
+                actions.as_mut_ptr(),
+                actions.len(),
+                pieces.as_mut_ptr(),
+                pieces.len(),
+                output.as_mut_ptr(),
+                output.len(),
+                counts,
+            );
+        }
+    }
+}
+
+impl Drop for Device {
+    fn drop(&mut self) {
+        // SAFETY: see `Device`. This is the handle's last use.
+        unsafe { vmm_backend_close(&mut self.handle) }
     }
 }

@@ -22,6 +22,7 @@
 #![deny(unsafe_code, unsafe_op_in_unsafe_fn)]
 #![warn(missing_docs)]
 
+pub mod back_end;
 pub mod block;
 mod error;
 #[allow(unsafe_code)]

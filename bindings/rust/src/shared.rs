@@ -85,6 +85,8 @@ pub enum SharedBlockError {
     NoFile,
     /// The file ends before the block.
     FileShort,
+    /// Another region has bytes of the same file.
+    Shared,
     /// The system does not map it.
     NotMapped(io::Error),
     /// The machine makes no block.
@@ -96,6 +98,7 @@ impl fmt::Display for SharedBlockError {
         match self {
             SharedBlockError::NotPaged => write!(f, "a size or an offset is no multiple of a page"),
             SharedBlockError::NoFile => write!(f, "not a regular file"),
+            SharedBlockError::Shared => write!(f, "two regions share bytes of a file"),
             SharedBlockError::FileShort => write!(f, "the file ends before the block"),
             SharedBlockError::NotMapped(error) => write!(f, "the file could not be mapped: {error}"),
             SharedBlockError::Machine(error) => error.fmt(f),
@@ -168,7 +171,7 @@ impl Machine {
     }
 }
 
-fn check(size: usize, file: Option<(BorrowedFd<'_>, u64)>) -> Result<(), SharedBlockError> {
+pub(crate) fn check(size: usize, file: Option<(BorrowedFd<'_>, u64)>) -> Result<(), SharedBlockError> {
     if size == 0 || size > isize::MAX as usize {
         return Err(SharedBlockError::Machine(MachineError::InvalidSize));
     }

@@ -335,7 +335,7 @@ const REFUSALS: [(Refusal, u32, &str); 30] = [
 ];
 
 impl Refusal {
-    fn of(code: u32) -> Refusal {
+    pub(crate) fn of(code: u32) -> Refusal {
         let found = REFUSALS.iter().find(|(_, number, _)| *number == code);
         found.expect("the library refuses by these codes alone").0
     }

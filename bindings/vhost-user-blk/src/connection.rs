@@ -5,7 +5,9 @@ mod queues;
 use crate::channel::{Answer, Channel};
 use crate::descriptor::{self, Kick, Kind};
 use crate::disk::{Disk, Hangups};
+use crate::end::End;
 use crate::features;
+use crate::incoming::Incoming;
 use crate::log::{Log, Logger};
 use crate::memory::{Files, Memory};
 use crate::options::Options;
@@ -16,13 +18,12 @@ use crate::stats::TableStats;
 use crate::system::{self, Epoll, SharedBits, Watch, Watched};
 use queues::{set_up, take_state, unreached};
 use std::error::Error;
-use std::fmt;
 use std::io;
 use std::os::fd::OwnedFd;
 use std::os::unix::net::UnixStream;
 use std::time::{Duration, Instant};
 use vm_memory_proved::queue::{Queue, QueueError, QueueState};
-use vm_memory_proved::vhost_user::{self, Backend, Refusal, Request, HEADER_LEN, MAX_DESCRIPTORS, MAX_MESSAGE};
+use vm_memory_proved::vhost_user::{Backend, Refusal, Request, HEADER_LEN, MAX_MESSAGE};
 use vm_memory_proved::{Miss, QueueId};
 
 /// The numbers of descriptors: of the one that ends the program, of the socket, and of the one that says that the image
@@ -30,48 +31,11 @@ use vm_memory_proved::{Miss, QueueId};
 pub const ENDING: u64 = 0;
 pub const SOCKET: u64 = 1;
 pub const HANGUPS: u64 = 2;
-const CHANNEL: u64 = 3;
-const RINGS: u64 = 4;
+pub const CHANNEL: u64 = 3;
+pub const RINGS: u64 = 4;
 
-// How often a ring is looked at whose driver has no descriptor to notify by.
-const POLL: Duration = Duration::from_millis(1);
-
-/// Why a connection ended.
-#[derive(Debug)]
-pub enum End {
-    /// The front end closed it.
-    Gone,
-    /// The program is to end.
-    Terminated,
-    /// The front end broke the protocol, by a message of this number.
-    Refused(u32, Refusal),
-    /// What the front end asked for failed.
-    Failed(&'static str, Box<dyn Error>),
-    /// Guest memory went away.
-    MemoryLost,
-    /// A notification of the front end had to wait, which had it wait.
-    MadeToWait,
-}
-
-impl fmt::Display for End {
-    fn fmt(&self, f: &mut fmt::Formatter<'_>) -> fmt::Result {
-        match self {
-            End::Gone => f.write_str("the front end closed it"),
-            End::Terminated => f.write_str("the program was asked to stop"),
-            End::Refused(request, refusal) => write!(f, "message {request} breaks the protocol: {refusal}"),
-            End::Failed(what, error) => write!(f, "{what}: {error}"),
-            End::MemoryLost => f.write_str("guest memory disappeared"),
-            End::MadeToWait => f.write_str("a full descriptor of the front end made the program wait"),
-        }
-    }
-}
-
-// A message as it comes, with the descriptors that came with its bytes.
-struct Incoming {
-    bytes: [u8; MAX_MESSAGE],
-    len: usize,
-    descriptors: Vec<OwnedFd>,
-}
+/// How often a ring is looked at whose driver has no descriptor to notify by.
+pub const POLL: Duration = Duration::from_millis(1);
 
 struct Ring {
     // Of the kind that was negotiated when it started.
@@ -154,11 +118,7 @@ impl<'a> Connection<'a> {
             iotlb_limit: options.iotlb_limit,
             backend: Backend::new(&features::offer(options), &features::config(disk, options))?,
             said: (0, 0),
-            incoming: Incoming {
-                bytes: [0; MAX_MESSAGE],
-                len: 0,
-                descriptors: Vec::new(),
-            },
+            incoming: Incoming::new(),
             memory: None,
             queues: Vec::new(),
             rings,
@@ -270,35 +230,8 @@ impl<'a> Connection<'a> {
 
     // Takes what has come of a message. A whole one is handled.
     fn receive(&mut self) -> Result<(), End> {
-        loop {
-            let wanted = self.incoming.wanted().map_err(|refusal| self.refused(refusal))?;
-            if wanted == 0 {
-                return self.take_message();
-            }
-            let incoming = &mut self.incoming;
-            let part = &mut incoming.bytes[incoming.len..incoming.len + wanted];
-            match system::receive(self.socket, part, &mut incoming.descriptors) {
-                Ok(0) => return Err(End::Gone),
-                Ok(count) => incoming.len += count,
-                Err(error) if error.kind() == io::ErrorKind::WouldBlock => return self.hold_descriptors(),
-                Err(error) if error.kind() == io::ErrorKind::Interrupted => (),
-                Err(error) => return Err(End::Failed("receiving", error.into())),
-            }
-            if incoming.descriptors.len() > MAX_DESCRIPTORS {
-                return Err(self.refused(Refusal::Descriptors));
-            }
-        }
-    }
-
-    // The rest of a message has not come. What came may not be the front end's own end, or hold it: as long as this
-    // program has it, the connection does not end. A message with such a descriptor has a header alone, and comes as a
-    // whole.
-    fn hold_descriptors(&self) -> Result<(), End> {
-        let failed = |error: io::Error| End::Failed("a descriptor", error.into());
-        for descriptor in &self.incoming.descriptors {
-            if Kind::of(descriptor).map_err(failed)?.may_hold_others() {
-                return Err(self.refused(Refusal::Descriptors));
-            }
+        if self.incoming.receive(self.socket)? {
+            self.take_message()?;
         }
         Ok(())
     }
@@ -308,8 +241,7 @@ impl<'a> Connection<'a> {
     }
 
     fn take_message(&mut self) -> Result<(), End> {
-        let descriptors = std::mem::take(&mut self.incoming.descriptors);
-        let (bytes, len) = (self.incoming.bytes, std::mem::take(&mut self.incoming.len));
+        let (bytes, len, descriptors) = self.incoming.take();
         let message = &bytes[..len];
         // Descriptors of a message that is refused are closed here.
         let mut is_mapping = false;
@@ -729,17 +661,6 @@ impl<'a> Connection<'a> {
             }
         }
         Ok(())
-    }
-}
-
-impl Incoming {
-    // How many bytes are still wanted: of the header, and then of the payload.
-    fn wanted(&self) -> Result<usize, Refusal> {
-        Ok(vhost_user::wanted(&self.bytes[..self.len])?.bytes)
-    }
-
-    fn request(&self) -> u32 {
-        u32::from_le_bytes(*self.bytes.first_chunk().expect("a message has a header"))
     }
 }
 

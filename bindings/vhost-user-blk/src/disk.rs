@@ -1,7 +1,7 @@
 //! The disk: a file or a block device.
 
 use crate::say;
-use crate::system::{self, Epoll, Watch, Watched};
+use crate::system::{self, Epoll, Pieces, Watch, Watched};
 use std::cell::Cell;
 use std::ffi::OsStr;
 use std::fs::{File, OpenOptions};
@@ -109,6 +109,16 @@ impl Disk {
     /// Writes the buffer from a byte of the disk on.
     pub fn write(&self, place: u64, bytes: &[u8]) -> io::Result<()> {
         self.file.write_all_at(bytes, place)
+    }
+
+    /// Fills guest memory from a byte of the disk on.
+    pub fn read_to(&self, place: u64, pieces: &mut Pieces<'_>) -> io::Result<()> {
+        pieces.read(&self.file, place)
+    }
+
+    /// Writes guest memory from a byte of the disk on.
+    pub fn write_from(&self, place: u64, pieces: &mut Pieces<'_>) -> io::Result<()> {
+        pieces.write(&self.file, place)
     }
 
     /// Makes what was written stable. If that failed once, it always fails: the system may have dropped what it could

@@ -2,6 +2,7 @@
 
 use crate::disk::Disk;
 use crate::options::Options;
+use vm_memory_proved::back_end;
 use vm_memory_proved::vhost_user::Offer;
 
 /// The greatest size of a ring: QEMU's.
@@ -15,6 +16,9 @@ const SEG_MAX: u32 = 126;
 
 // How many bytes a segment has at most.
 const SIZE_MAX: u32 = 4 << 20;
+
+// So many bytes of replies may wait for the front end.
+const MAX_UNREAD: u32 = 4096;
 
 // The features by which a driver accepts these limits.
 const HAS_SIZE_MAX: u64 = 1 << 1;
@@ -35,7 +39,9 @@ pub const CONFIG: u64 = 1 << 9;
 pub const RING_PACKED: u64 = 1 << 34;
 
 const RO: u64 = 1 << 5;
-const FLUSH: u64 = 1 << 9;
+
+/// Writes are stable after a FLUSH, and before one only if it was not accepted.
+pub const FLUSH: u64 = 1 << 9;
 const MQ: u64 = 1 << 12;
 
 const FEATURES: [(u64, &str); 13] = [
@@ -77,6 +83,9 @@ pub fn offer(options: &Options) -> Offer {
     if options.queues == 1 {
         features &= !MQ;
     }
+    if !options.is_behind_iommu {
+        features &= !ACCESS_PLATFORM;
+    }
     Offer {
         features,
         protocol_features: all(&PROTOCOL_FEATURES),
@@ -92,6 +101,17 @@ pub fn offer(options: &Options) -> Offer {
 pub fn limits(features: u64) -> (Option<u32>, Option<u32>) {
     let of = |bit, limit| (features & bit != 0).then_some(limit);
     (of(HAS_SEG_MAX, SEG_MAX), of(HAS_SIZE_MAX, SIZE_MAX))
+}
+
+/// The disk as the library's state machine has it.
+pub fn disk(disk: &Disk) -> back_end::Disk {
+    back_end::Disk {
+        sectors: disk.sectors(),
+        seg_max: SEG_MAX,
+        size_max: SIZE_MAX,
+        read_only: disk.read_only().into(),
+        unread: MAX_UNREAD,
+    }
 }
 
 /// What the configuration begins with: how many sectors the disk has.

@@ -34,6 +34,15 @@ impl Log {
         self.call.take()
     }
 
+    /// Marks pages, and says so if some were not marked.
+    pub fn mark(&self, first: u64, count: u64) {
+        let new = self.bits.set(first, count);
+        self.marked.set(self.marked.get() + new);
+        if let Some(call) = self.call.as_ref().filter(|_| new > 0) {
+            call.notify();
+        }
+    }
+
     /// How many bits were set that were not.
     pub fn marked(&self) -> u64 {
         self.marked.get()
@@ -77,12 +86,7 @@ impl Logger<'_> {
     // Marks bytes of guest memory in the log.
     fn mark(&self, address: u64, len: u64) -> Result<(), Refusal> {
         let pages = self.backend.logged(address, len)?;
-        let new = (pages.first..pages.first + pages.count).filter(|page| self.log.bits.set(*page));
-        let count = new.count() as u64;
-        self.log.marked.set(self.log.marked.get() + count);
-        if let Some(call) = self.log.call.as_ref().filter(|_| count > 0) {
-            call.notify();
-        }
+        self.log.mark(pages.first, pages.count);
         Ok(())
     }
 }

@@ -7,20 +7,26 @@
 mod channel;
 mod connection;
 mod descriptor;
+mod device;
 mod disk;
+mod end;
 mod features;
+mod incoming;
 mod log;
 mod memory;
 mod options;
 mod output;
+mod parts;
 mod serve;
 mod signal;
 mod stats;
 #[allow(unsafe_code)]
 mod system;
 
-use connection::{Connection, End, ENDING, HANGUPS, SOCKET};
+use connection::{Connection, ENDING, HANGUPS, SOCKET};
+use device::Device;
 use disk::{Disk, Hangups};
+use end::End;
 use options::{Asked, Options, Source, CAPABILITIES, USAGE, VERSION};
 use signal::Watchdog;
 use std::error::Error;
@@ -179,21 +185,27 @@ impl Program<'_> {
     fn serve(&self, socket: &UnixStream) -> End {
         say!("a front end connected");
         let end = match self.epoll.watch(socket, SOCKET, Watch::Level) {
-            Ok(_watched) => match self.connection(socket) {
-                Ok(mut connection) => connection.run(),
-                Err(error) => End::Failed("setting it up", error),
-            },
+            Ok(_watched) => self
+                .serve_watched(socket)
+                .unwrap_or_else(|error| End::Failed("setting it up", error)),
             Err(error) => End::Failed("setting it up", error.into()),
         };
         say!("the connection ended: {end}");
         end
     }
 
-    fn connection<'a>(&'a self, socket: &'a UnixStream) -> Result<Connection<'a>, Box<dyn Error>> {
+    fn serve_watched(&self, socket: &UnixStream) -> Result<End, Box<dyn Error>> {
         let Program {
-            epoll, disk, hangups, ..
+            epoll,
+            disk,
+            hangups,
+            watchdog,
+            options,
         } = self;
-        Connection::new(socket, epoll, disk, hangups, self.options, &self.watchdog)
+        Ok(match options.is_behind_iommu {
+            true => Connection::new(socket, epoll, disk, hangups, options, watchdog)?.run(),
+            false => Device::new(socket, epoll, disk, hangups, options, watchdog)?.run(),
+        })
     }
 
     // Whether the program is to end. If not, the image may have another size.

@@ -8,7 +8,7 @@ use std::time::Duration;
 
 pub const USAGE: &str = "\
 usage: vhost-user-blk --socket PATH --image FILE [--read-only] [--write-through] [--queues N] [--iotlb-limit N]
-           [--stats SECONDS] [--no-lock]
+           [--iommu] [--stats SECONDS] [--no-lock]
        vhost-user-blk --fd N --image FILE ..
        vhost-user-blk --print-capabilities | --version | --help
 
@@ -23,6 +23,7 @@ has then. A value may also follow a =, as in --fd=3.
   --read-only       the guest can only read
   --write-through   FLUSH is not offered: each write is stable before it completes
   --queues N        the number of queues, 1 to 256; the default is 1
+  --iommu           for a guest whose IOMMU the disk lies behind: ACCESS_PLATFORM is offered
   --iotlb-limit N   how many ranges the table of I/O addresses keeps, 8 to 65536; the default is 65536
   --stats SECONDS   prints requests, bytes and errors this often, and at the end of a connection
   --no-lock         serves FILE even if another program has locked it, and does not lock it
@@ -62,6 +63,7 @@ pub struct Options {
     pub read_only: bool,
     pub write_through: bool,
     pub queues: u32,
+    pub is_behind_iommu: bool,
     /// How many ranges the I/O table keeps.
     pub iotlb_limit: usize,
     pub stats: Option<Duration>,
@@ -116,6 +118,7 @@ struct Read {
     stats: Option<u32>,
     read_only: bool,
     write_through: bool,
+    iommu: bool,
     no_lock: bool,
 }
 
@@ -125,6 +128,7 @@ impl Read {
         let flag = match name {
             "--read-only" => &mut self.read_only,
             "--write-through" => &mut self.write_through,
+            "--iommu" => &mut self.iommu,
             "--no-lock" => &mut self.no_lock,
             _ => return false,
         };
@@ -158,6 +162,7 @@ impl Read {
             read_only: self.read_only,
             write_through: self.write_through,
             queues: self.queues.unwrap_or(1),
+            is_behind_iommu: self.iommu,
             iotlb_limit: self.iotlb_limit.unwrap_or(65_536) as usize,
             stats: self.stats.map(|seconds| Duration::from_secs(seconds.into())),
             is_locked: !self.no_lock,
@@ -206,6 +211,7 @@ mod tests {
             read_only: false,
             write_through: false,
             queues: 1,
+            is_behind_iommu: false,
             iotlb_limit: 65_536,
             stats: None,
             is_locked: true,
@@ -235,10 +241,10 @@ mod tests {
     fn words_are_those_of_back_ends() {
         let it = options(&["--socket-path=a=b", "--blk-file=/i", "--read-only", "--no-lock"]);
         assert_eq!((it.source, it.image), (Source::Path("a=b".into()), "/i".into()));
-        assert!(it.read_only && !it.is_locked);
-        let it = options(&["--fd=3", "--image", "--x=y", "--queues=2", "--write-through"]);
+        assert!(it.read_only && !it.is_locked && !it.is_behind_iommu);
+        let it = options(&["--fd=3", "--image", "--x=y", "--queues=2", "--write-through", "--iommu"]);
         assert_eq!((it.source, it.image), (Source::Descriptor(3), "--x=y".into()));
-        assert_eq!((it.queues, it.write_through), (2, true));
+        assert_eq!((it.queues, it.write_through, it.is_behind_iommu), (2, true, true));
         let it = options(&["--fd", "2147483647", "--blk-file", "i"]);
         assert_eq!(it.source, Source::Descriptor(i32::MAX));
         // Words that are no options do not matter then.

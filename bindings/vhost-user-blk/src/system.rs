@@ -10,6 +10,7 @@ use std::ptr::{addr_of_mut, null_mut, NonNull};
 use std::rc::Rc;
 use std::sync::atomic::{AtomicBool, AtomicU8, AtomicUsize, Ordering::SeqCst};
 use std::time::Duration;
+use vm_memory_proved::back_end::{BackEnd, Piece};
 use vm_memory_proved::vhost_user::MAX_DESCRIPTORS;
 
 // The result of a call that is -1 if it failed.
@@ -320,6 +321,108 @@ impl Interruptible {
     }
 }
 
+// ---- guest memory
+
+// The system takes so many vectors at once.
+const VECTORS: usize = 1024;
+
+type Move = unsafe extern "C" fn(c_int, *const libc::iovec, c_int, libc::off_t) -> libc::ssize_t;
+
+/// Bytes of guest memory, where they are mapped. A guest may read and write them at any moment.
+pub struct Pieces<'a> {
+    // None is empty.
+    vectors: &'a mut Vec<libc::iovec>,
+    // As long as it is borrowed its regions stay mapped.
+    _back_end: &'a BackEnd,
+}
+
+impl<'a> Pieces<'a> {
+    /// The bytes of these pieces, in order.
+    pub fn of(back_end: &'a BackEnd, pieces: &[Piece], vectors: &'a mut Vec<libc::iovec>) -> Pieces<'a> {
+        vectors.clear();
+        vectors.extend(pieces.iter().filter(|it| it.len > 0).map(|it| {
+            let (at, size) = back_end
+                .region(it.region)
+                .expect("a piece lies in a region that is mapped");
+            assert!(it.offset <= size as u64 && it.len <= size as u64 - it.offset);
+            libc::iovec {
+                iov_base: at.wrapping_add(it.offset as usize).cast(),
+                iov_len: it.len as usize,
+            }
+        }));
+        Pieces {
+            vectors,
+            _back_end: back_end,
+        }
+    }
+
+    /// Fills them from a place of a file on.
+    pub fn read(&mut self, file: &File, place: u64) -> io::Result<()> {
+        self.move_all(file, place, libc::preadv)
+    }
+
+    /// Writes them to a file from a place on.
+    pub fn write(&mut self, file: &File, place: u64) -> io::Result<()> {
+        self.move_all(file, place, libc::pwritev)
+    }
+
+    fn move_all(&mut self, file: &File, mut place: u64, call: Move) -> io::Result<()> {
+        let mut from = 0;
+        while from < self.vectors.len() {
+            let left = &self.vectors[from..];
+            let offset = libc::off_t::try_from(place).map_err(io::Error::other)?;
+            // SAFETY: so many vectors are there, and each is bytes of a region that is mapped. This process has no
+            // reference to them, and no call of the library runs. Where the memory is lost the call fails.
+            let moved = unsafe {
+                call(
+                    file.as_raw_fd(),
+                    left.as_ptr(),
+                    left.len().min(VECTORS) as c_int,
+                    offset,
+                )
+            };
+            match usize::try_from(moved) {
+                Ok(0) => return Err(io::ErrorKind::UnexpectedEof.into()),
+                Ok(moved) => {
+                    place += moved as u64;
+                    from = self.passed(from, moved);
+                }
+                Err(_) => {
+                    let error = io::Error::last_os_error();
+                    if error.kind() != io::ErrorKind::Interrupted {
+                        return Err(error);
+                    }
+                }
+            }
+        }
+        Ok(())
+    }
+
+    // The first vector that has bytes after so many of those from one on.
+    fn passed(&mut self, mut from: usize, mut count: usize) -> usize {
+        while let Some(it) = self.vectors.get_mut(from) {
+            if count < it.iov_len {
+                it.iov_base = it.iov_base.wrapping_byte_add(count);
+                it.iov_len -= count;
+                break;
+            }
+            count -= it.iov_len;
+            from += 1;
+        }
+        from
+    }
+
+    /// Fills them with these bytes, as far as both go.
+    pub fn fill(&mut self, mut bytes: &[u8]) {
+        for it in self.vectors.iter() {
+            let (here, rest) = bytes.split_at(it.iov_len.min(bytes.len()));
+            // SAFETY: the vector has these bytes in a region that is mapped, in which no `&[u8]` lies.
+            unsafe { std::ptr::copy_nonoverlapping(here.as_ptr(), it.iov_base.cast(), here.len()) };
+            bytes = rest;
+        }
+    }
+}
+
 // ---- memory that goes away
 
 // The blocks of the machine that is called, and after them the log: where each begins, and its length, or 0. The
@@ -422,17 +525,21 @@ impl SharedBits {
         Ok(SharedBits { at, len })
     }
 
-    /// Sets a bit, and returns whether it was not set. A bit past the end is none.
-    pub fn set(&self, bit: u64) -> bool {
-        let place = (bit / 8) as usize;
-        if place >= self.len {
-            return false;
+    /// Sets bits, and returns how many of them were not set. Those past the end are none.
+    pub fn set(&self, first: u64, count: u64) -> u64 {
+        let (mut bit, mut new) = (first, 0);
+        let end = first.saturating_add(count).min(8 * self.len as u64);
+        while bit < end {
+            // Those of one byte.
+            let (place, from) = (bit / 8, bit % 8);
+            let mask = 0xff << from & 0xff >> (8 - (end - 8 * place).min(8));
+            // SAFETY: the mapping has this byte as long as `self` is there, and this process reads and writes it by
+            // atomic operations alone.
+            let byte = unsafe { AtomicU8::from_ptr(self.at.as_ptr().add(place as usize)) };
+            new += u64::from((mask & !byte.fetch_or(mask, SeqCst)).count_ones());
+            bit = 8 * (place + 1);
         }
-        let mask = 1 << (bit % 8);
-        // SAFETY: the mapping has this byte as long as `self` is there, and this process reads and writes it by atomic
-        // operations alone.
-        let byte = unsafe { AtomicU8::from_ptr(self.at.as_ptr().add(place)) };
-        byte.fetch_or(mask, SeqCst) & mask == 0
+        new
     }
 }
 

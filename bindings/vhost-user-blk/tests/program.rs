@@ -71,9 +71,11 @@ fn a_large_image_is_written_in_place() {
 
 #[test]
 fn the_configuration_tells_the_disk() {
+    let behind = Program::start("configuration_iommu", LEN, &["--queues", "3", "--iommu"]);
+    assert_eq!(behind.connect().ask_u64(GET_FEATURES), 0x7_7400_1246);
     let program = Program::start("configuration", LEN, &["--queues", "3"]);
     let mut front = program.connect();
-    assert_eq!(front.ask_u64(GET_FEATURES), 0x7_7400_1246);
+    assert_eq!(front.ask_u64(GET_FEATURES), 0x5_7400_1246);
     assert_eq!(front.ask_u64(GET_PROTOCOL_FEATURES), 0x22b);
     front.negotiate(USUAL | 1 << 12);
     assert_eq!(front.ask_u64(GET_QUEUE_NUM), 3);

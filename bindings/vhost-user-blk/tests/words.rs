@@ -34,6 +34,7 @@ fn expect_usage(text: &str) {
         "--read-only",
         "--write-through",
         "--queues N",
+        "--iommu",
         "--iotlb-limit N",
         "--stats SECONDS",
         "--no-lock",

@@ -19,6 +19,11 @@ impl Image {
         }
     }
 
+    /// These ranges, ascending.
+    pub fn of(ranges: Vec<(u64, Vec<u8>)>) -> Image {
+        Image { ranges }
+    }
+
     pub fn ranges(&self) -> &[(u64, Vec<u8>)] {
         &self.ranges
     }
@@ -51,7 +56,7 @@ impl Image {
     }
 
     /// A number of a given width in bytes.
-    fn number(&self, addr: u64, count: u64) -> Result<u64, Refusal> {
+    pub fn number(&self, addr: u64, count: u64) -> Result<u64, Refusal> {
         if addr.checked_add(count - 1).is_none() {
             return Err(Refusal::new("AddressOverflow"));
         }
@@ -174,8 +179,8 @@ fn segments(image: &Image, setup: &Setup, head: u64) -> Result<Vec<Segment>, Ref
     }
 }
 
-// The fields of a descriptor: address, length, flags and next.
-fn descriptor(image: &Image, table: u64, index: u64) -> Result<[u64; 4], Refusal> {
+/// The fields of a descriptor: address, length, flags and next.
+pub fn descriptor(image: &Image, table: u64, index: u64) -> Result<[u64; 4], Refusal> {
     let place = table.checked_add(16 * index).filter(|place| *place <= u64::MAX - 15);
     let place = place.ok_or(Refusal::new("AddressOverflow"))?;
     let field = |(offset, count)| image.number(place + offset, count);
@@ -185,8 +190,8 @@ fn descriptor(image: &Image, table: u64, index: u64) -> Result<[u64; 4], Refusal
     }
 }
 
-// How many descriptors the table of an indirect one has.
-fn indirect_len(is_inner: bool, has_next: bool, bytes: u64) -> Result<u64, Refusal> {
+/// How many descriptors the table of an indirect one has.
+pub fn indirect_len(is_inner: bool, has_next: bool, bytes: u64) -> Result<u64, Refusal> {
     if is_inner {
         Err(Refusal::new("NestedIndirect"))
     } else if has_next {
@@ -198,8 +203,8 @@ fn indirect_len(is_inner: bool, has_next: bool, bytes: u64) -> Result<u64, Refus
     }
 }
 
-// Why segments make no chain: the first one that cannot follow those before it.
-fn fault(segments: &[Segment]) -> Option<&'static str> {
+/// Why segments make no chain: the first one that cannot follow those before it.
+pub fn fault(segments: &[Segment]) -> Option<&'static str> {
     let (mut total, mut writes) = (0, false);
     for segment in segments {
         if segment.addr.checked_add(segment.len).is_none() {

@@ -1,0 +1,532 @@
+//! A back end of vhost-user whose device is a disk, as one state machine: crates/vhost_backend/README.md of the
+//! repository. Events come in and [`Action`]s go out. The library decides what each message, ring and request means,
+//! and touches rings, headers and statuses. What uses it does the actions, in order, and moves the data of requests.
+//!
+//! ```
+//! use vm_memory_proved::back_end::{Action, BackEnd, Disk, Room};
+//! use vm_memory_proved::vhost_user::Offer;
+//!
+//! let offer = Offer { features: 1 << 32, queues: 1, max_queue_size: 1024, ..Offer::default() };
+//! let mut back_end = BackEnd::new(&offer, &[0; 8], &Disk { unread: 4096, ..Disk::default() })?;
+//! // GET_FEATURES, of the version 1 and without a payload.
+//! assert!(back_end.message(&[1, 0, 0, 0, 1, 0, 0, 0, 0, 0, 0, 0], 0));
+//! let mut room = Room::new();
+//! back_end.run(&[], &mut room);
+//! let Some(Action::Send { bytes }) = room.actions().next() else { panic!("it is answered") };
+//! assert_eq!(bytes[12..], (1_u64 << 32).to_le_bytes());
+//! # Ok::<(), vm_memory_proved::vhost_user::Refusal>(())
+//! ```
+
+use crate::ffi::Device;
+use crate::mapping::Mapping;
+use crate::shared::{check, SharedBlockError};
+use crate::vhost_user::{Offer, Refusal};
+use std::fs::File;
+use std::os::fd::BorrowedFd;
+use std::os::unix::fs::MetadataExt;
+
+/// The disk of a device.
+#[repr(C)]
+#[derive(Clone, Copy, Debug, Default, PartialEq, Eq)]
+pub struct Disk {
+    /// How many sectors of 512 bytes it has.
+    pub sectors: u64,
+    /// How many segments the data of a request have at most, if the driver accepted that there is such a bound.
+    pub seg_max: u32,
+    /// How many bytes a segment has at most, if the driver accepted that.
+    pub size_max: u32,
+    /// Whether it is only read: 0 or 1.
+    pub read_only: u32,
+    /// How many bytes of replies may wait for the front end. With more the connection ends.
+    pub unread: u32,
+}
+
+/// The end of a part of a request.
+#[repr(C)]
+#[derive(Clone, Copy, Debug, Default, PartialEq, Eq)]
+pub struct PartEnd {
+    /// The ring.
+    pub ring: u32,
+    /// The request.
+    pub id: u32,
+    /// Whether it failed: 0 or 1.
+    pub failed: u32,
+    /// How many bytes of data were moved.
+    pub bytes: u32,
+}
+
+/// Bytes of a region of guest memory.
+#[repr(C)]
+#[derive(Clone, Copy, Debug, Default, PartialEq, Eq)]
+pub struct Piece {
+    /// The number of the region.
+    pub region: u64,
+    /// The place of the first byte in it.
+    pub offset: u64,
+    /// How many there are.
+    pub len: u64,
+}
+
+/// What a part of a request asks for.
+#[derive(Clone, Copy, Debug, PartialEq, Eq)]
+pub enum Way {
+    /// From the disk to the pieces.
+    Read,
+    /// From the pieces to the disk.
+    Write,
+    /// What was written is made stable.
+    Flush,
+    /// The first bytes of the disk's name go to the pieces.
+    Name,
+}
+
+/// A part of a request, or of such a part as many pieces as had room.
+#[derive(Clone, Copy, Debug, PartialEq, Eq)]
+pub struct Part<'a> {
+    /// The ring.
+    pub ring: u32,
+    /// The request.
+    pub id: u32,
+    /// What it asks for.
+    pub way: Way,
+    /// The first byte of the disk.
+    pub place: u64,
+    /// How many bytes.
+    pub len: u64,
+    /// Where these lie in guest memory.
+    pub pieces: &'a [Piece],
+    /// It goes on with the next part that is served for this request, and both have one end.
+    pub goes_on: bool,
+}
+
+/// What is kept of a descriptor that came.
+#[derive(Clone, Copy, Debug, PartialEq, Eq)]
+pub enum Kept {
+    /// The driver of a ring notifies by it. Without one the ring is looked at now and then.
+    Kick(u32),
+    /// The driver of a ring is interrupted by it.
+    Call(u32),
+    /// The front end is told by it that a ring broke.
+    Err(u32),
+    /// It is the back end's own channel.
+    Channel,
+    /// The front end is told by it of new bits in the log.
+    LogCall,
+}
+
+/// Why a connection is over.
+#[derive(Clone, Copy, Debug, PartialEq, Eq)]
+pub enum Over {
+    /// A message was refused.
+    Refused(Refusal),
+    /// What a message asked for failed.
+    Failed,
+    /// An allocation failed.
+    Memory,
+    /// The front end reads no replies.
+    Unread,
+    /// The log has no bit for a page that was written.
+    Log,
+    /// It ended from outside.
+    HungUp,
+}
+
+/// What is to be done, before the next event.
+#[derive(Clone, Copy, Debug, PartialEq, Eq)]
+pub enum Action<'a> {
+    /// The front end is sent these bytes. [`BackEnd::sent`] is told how many its socket took.
+    Send {
+        /// The bytes.
+        bytes: &'a [u8],
+    },
+    /// No region is mapped any more.
+    UnmapAll,
+    /// A region is mapped from the descriptor of its number: [`BackEnd::map`].
+    Map(Region),
+    /// The log is mapped from the descriptor that came.
+    Log {
+        /// The place of its first byte in the file.
+        offset: u64,
+        /// How many bytes it has.
+        len: u64,
+    },
+    /// The descriptor that came, or none, takes the place of the one before.
+    Keep {
+        /// What it is for.
+        what: Kept,
+        /// Whether one came.
+        has_one: bool,
+    },
+    /// A part of a request is served. Its end goes into a later [`BackEnd::run`].
+    Serve(Part<'a>),
+    /// The driver of a ring is interrupted.
+    Interrupt(u32),
+    /// The front end is told that a ring broke.
+    Broke(u32),
+    /// The bits of these pages are set in the log: one atomic OR for each of its words or bytes.
+    Mark {
+        /// The number of the first page.
+        first: u64,
+        /// How many there are.
+        count: u64,
+    },
+    /// The connection is over.
+    End(Over),
+    /// A ring was stopped: its descriptor of kicks is the front end's again.
+    Stopped(u32),
+}
+
+/// A region of guest memory that is to be mapped.
+#[derive(Clone, Copy, Debug, PartialEq, Eq)]
+pub struct Region {
+    /// Its number, which is that of its descriptor.
+    pub number: u32,
+    /// The place of its first byte in the file.
+    pub offset: u64,
+    /// How many bytes it has.
+    pub len: u64,
+    /// The first of its addresses in guest memory.
+    pub guest_address: u64,
+    /// The first of its addresses in the front end's own memory.
+    pub user_address: u64,
+}
+
+/// Whether a message can be told.
+#[derive(Clone, Copy, Debug, PartialEq, Eq)]
+pub enum State {
+    /// One can.
+    Free,
+    /// One is under way.
+    Busy,
+    /// The connection is over, and requests are under way.
+    Over,
+    /// The connection is over, and nothing touches guest memory.
+    AtRest,
+}
+
+/// What crosses to the library and back.
+pub(crate) mod raw {
+    #[repr(C)]
+    #[derive(Clone, Copy, Debug, Default)]
+    pub(crate) struct Action {
+        pub(crate) kind: u32,
+        pub(crate) ring: u32,
+        pub(crate) id: u32,
+        pub(crate) way: u32,
+        pub(crate) count: u32,
+        pub(crate) more: u32,
+        pub(crate) place: u64,
+        pub(crate) len: u64,
+        pub(crate) guest: u64,
+        pub(crate) user: u64,
+    }
+
+    #[repr(C)]
+    #[derive(Clone, Copy, Debug, Default)]
+    pub(crate) struct Counts {
+        pub(crate) ends: usize,
+        pub(crate) actions: usize,
+        pub(crate) pieces: usize,
+        pub(crate) bytes: usize,
+        pub(crate) more: u32,
+        pub(crate) state: u32,
+    }
+
+    pub(crate) const UNMAP_ALL: u32 = 2;
+}
+
+/// Room for the actions of a run.
+pub struct Room {
+    pub(crate) actions: Vec<raw::Action>,
+    pub(crate) pieces: Vec<Piece>,
+    pub(crate) output: Vec<u8>,
+    pub(crate) counts: raw::Counts,
+}
+
+impl Default for Room {
+    fn default() -> Room {
+        Room::new()
+    }
+}
+
+impl Room {
+    /// Room for 256 actions, 4,096 pieces and 4,096 bytes.
+    pub fn new() -> Room {
+        Room::with(256, 4096, 4096)
+    }
+
+    /// Room for at least 8 actions, 16 pieces and 280 bytes.
+    pub fn with(actions: usize, pieces: usize, bytes: usize) -> Room {
+        Room {
+            actions: vec![raw::Action::default(); actions.max(8)],
+            pieces: vec![Piece::default(); pieces.max(16)],
+            output: vec![0; bytes.max(280)],
+            counts: raw::Counts::default(),
+        }
+    }
+
+    /// What the last run asks for, in order.
+    pub fn actions(&self) -> Actions<'_> {
+        Actions {
+            actions: &self.actions[..self.counts.actions],
+            pieces: &self.pieces[..self.counts.pieces],
+            bytes: &self.output[..self.counts.bytes],
+        }
+    }
+
+    /// How many of the ends were taken. The others go into the next run.
+    pub fn ends_taken(&self) -> usize {
+        self.counts.ends
+    }
+
+    /// Whether the next run is due as soon as these actions are done.
+    pub fn has_more(&self) -> bool {
+        self.counts.more != 0
+    }
+
+    /// What the last run left.
+    pub fn state(&self) -> State {
+        match self.counts.state {
+            0 => State::Free,
+            1 => State::Busy,
+            2 => State::Over,
+            _ => State::AtRest,
+        }
+    }
+}
+
+/// The actions of a run, one after another.
+#[derive(Clone, Debug)]
+pub struct Actions<'a> {
+    actions: &'a [raw::Action],
+    pieces: &'a [Piece],
+    bytes: &'a [u8],
+}
+
+impl<'a> Iterator for Actions<'a> {
+    type Item = Action<'a>;
+
+    #[inline]
+    fn next(&mut self) -> Option<Action<'a>> {
+        let (raw, rest) = self.actions.split_first()?;
+        self.actions = rest;
+        Some(self.action_of(raw))
+    }
+}
+
+impl<'a> Actions<'a> {
+    #[inline]
+    fn action_of(&mut self, raw: &raw::Action) -> Action<'a> {
+        match raw.kind {
+            1 => {
+                let (bytes, rest) = self.bytes.split_at(raw.len as usize);
+                self.bytes = rest;
+                Action::Send { bytes }
+            }
+            raw::UNMAP_ALL => Action::UnmapAll,
+            3 => Action::Map(Region {
+                number: raw.id,
+                offset: raw.place,
+                len: raw.len,
+                guest_address: raw.guest,
+                user_address: raw.user,
+            }),
+            4 => Action::Log {
+                offset: raw.place,
+                len: raw.len,
+            },
+            5 => Action::Keep {
+                what: kept_of(raw),
+                has_one: raw.count == 1,
+            },
+            6 => Action::Serve(self.part_of(raw)),
+            7 => Action::Interrupt(raw.ring),
+            8 => Action::Broke(raw.ring),
+            9 => Action::Mark {
+                first: raw.place,
+                count: raw.len,
+            },
+            10 => Action::End(over_of(raw)),
+            11 => Action::Stopped(raw.ring),
+            kind => unreachable!("the library has no action of the kind {kind}"),
+        }
+    }
+
+    fn part_of(&mut self, raw: &raw::Action) -> Part<'a> {
+        let (pieces, rest) = self.pieces.split_at(raw.count as usize);
+        self.pieces = rest;
+        Part {
+            ring: raw.ring,
+            id: raw.id,
+            way: match raw.way {
+                1 => Way::Read,
+                2 => Way::Write,
+                3 => Way::Flush,
+                _ => Way::Name,
+            },
+            place: raw.place,
+            len: raw.len,
+            pieces,
+            goes_on: raw.more == 1,
+        }
+    }
+}
+
+fn kept_of(raw: &raw::Action) -> Kept {
+    match raw.way {
+        1 => Kept::Kick(raw.ring),
+        2 => Kept::Call(raw.ring),
+        3 => Kept::Err(raw.ring),
+        4 => Kept::Channel,
+        _ => Kept::LogCall,
+    }
+}
+
+fn over_of(raw: &raw::Action) -> Over {
+    match raw.way {
+        1 => Over::Refused(Refusal::of(raw.id)),
+        2 => Over::Failed,
+        3 => Over::Memory,
+        4 => Over::Unread,
+        5 => Over::Log,
+        _ => Over::HungUp,
+    }
+}
+
+// A part of a file.
+#[derive(Clone, Copy, PartialEq, Eq)]
+struct FilePart {
+    device: u64,
+    inode: u64,
+    offset: u64,
+    len: u64,
+}
+
+impl FilePart {
+    fn shares(&self, other: &FilePart) -> bool {
+        let is_same_file = (self.device, self.inode) == (other.device, other.inode);
+        let end = |it: &FilePart| it.offset.saturating_add(it.len);
+        is_same_file && self.offset < end(other) && other.offset < end(self)
+    }
+}
+
+/// A connection with a front end.
+///
+/// It moves to another thread, and no two threads have it at once.
+pub struct BackEnd {
+    // It is closed before the regions are unmapped, since fields are dropped in order.
+    device: Device,
+    regions: Vec<(FilePart, Mapping)>,
+    // Those that were unmapped by the message that is under way: a new table may have the same parts of files.
+    before: Vec<(FilePart, Mapping)>,
+}
+
+impl BackEnd {
+    /// A connection with nothing negotiated, whose device has a configuration of at most 256 bytes, of which the first
+    /// 8 are the size of the disk. Refused with `Offer` if no back end offers this, and with `Memory`.
+    pub fn new(offer: &Offer, config: &[u8], disk: &Disk) -> Result<BackEnd, Refusal> {
+        let device = Device::open(offer, config, disk).map_err(Refusal::of)?;
+        Ok(BackEnd {
+            device,
+            regions: Vec::new(),
+            before: Vec::new(),
+        })
+    }
+
+    /// Takes a whole message, and how many descriptors came with it, which are kept until its actions are done. It is
+    /// not taken, and nothing changes, while one is under way.
+    pub fn message(&mut self, message: &[u8], descriptors: usize) -> bool {
+        self.device.message(message, descriptors) == 0
+    }
+
+    /// Maps a region that an action asked for from its file, and says so. If a mapping that was there before has the
+    /// same part of the same file, that is used. If it cannot be mapped, [`failed`](BackEnd::failed) is due.
+    pub fn map(&mut self, region: &Region, file: BorrowedFd<'_>) -> Result<(), SharedBlockError> {
+        let not_mapped = SharedBlockError::NotMapped;
+        let len = usize::try_from(region.len).map_err(|_| SharedBlockError::FileShort)?;
+        check(len, Some((file, region.offset)))?;
+        let data = file
+            .try_clone_to_owned()
+            .and_then(|it| File::from(it).metadata())
+            .map_err(not_mapped)?;
+        let part = FilePart {
+            device: data.dev(),
+            inode: data.ino(),
+            offset: region.offset,
+            len: region.len,
+        };
+        if self.regions.iter().any(|(other, _)| other.shares(&part)) {
+            return Err(SharedBlockError::Shared);
+        }
+        let mapping = match self.before.iter().position(|(other, _)| *other == part) {
+            Some(place) => self.before.swap_remove(place).1,
+            None => Mapping::of_file(len, file, region.offset).map_err(not_mapped)?,
+        };
+        self.regions.push((part, mapping));
+        let (_, mapping) = self.regions.last().expect("it was pushed");
+        if self.device.mapped(mapping) != 0 {
+            self.regions.pop();
+        }
+        Ok(())
+    }
+
+    /// Where the bytes of a region lie as long as it is mapped, and how many there are. A guest may write them at any
+    /// moment.
+    #[inline]
+    pub fn region(&self, number: u64) -> Option<(*mut u8, usize)> {
+        let (_, mapping) = self.regions.get(usize::try_from(number).ok()?)?;
+        Some((mapping.bytes().as_ptr(), mapping.len()))
+    }
+
+    /// Where the whole pages of each region begin, and how many bytes they are.
+    pub fn mappings(&self) -> impl Iterator<Item = (usize, usize)> + '_ {
+        self.regions.iter().map(|(_, mapping)| mapping.whole())
+    }
+
+    /// What the last action asked for was done, except for a mapping of a region.
+    pub fn done(&mut self) {
+        self.device.done();
+    }
+
+    /// What the last action asked for failed: the connection ends.
+    pub fn failed(&mut self) {
+        self.device.failed();
+    }
+
+    /// The driver of a ring notified.
+    pub fn kick(&mut self, ring: u32) {
+        self.device.kick(ring);
+    }
+
+    /// The front end's socket took so many bytes.
+    pub fn sent(&mut self, bytes: usize) {
+        self.device.sent(bytes);
+    }
+
+    /// The disk has so many sectors from now on.
+    pub fn resize(&mut self, sectors: u64) {
+        self.device.resize(sectors);
+    }
+
+    /// The connection ended.
+    pub fn hang_up(&mut self) {
+        self.device.hang_up();
+    }
+
+    /// Takes the ends of parts, and puts what is to be done into the room, as far as it goes. Rings have two turns.
+    #[inline]
+    pub fn run(&mut self, ends: &[PartEnd], room: &mut Room) {
+        self.device.run(ends, room);
+        if room.state() == State::Free {
+            self.before.clear();
+        }
+        let counts = &room.counts;
+        if room.actions[..counts.actions]
+            .iter()
+            .any(|it| it.kind == raw::UNMAP_ALL)
+        {
+            // Actions before it name no region, and the library has let go of all.
+            self.before = std::mem::take(&mut self.regions);
+        }
+    }
+}
