@@ -6,10 +6,11 @@
 # --install installs the packages that it needs, by apt-get, --list prints the variants, and --keep keeps the files of
 # each run. --write puts the line of each variant that was ok into docs/real_guest.txt, with the day and the versions of
 # QEMU and Linux, in place of its line before. Without a VARIANT it runs all. Each prints one line: its name, ok, FAILED
-# or SLOW, the seconds, and what the back end served. The status is 0 if all are ok, 1 if one failed, 3 if a package is
-# missing, which is named, and 4 if none failed but one was too slow. More variants run only if they are named: quick is
-# a shorter default, soak works for REAL_GUEST_SOAK seconds (an hour by default) behind a lazy IOMMU and watches the
-# memory and the descriptors of the back end, and qemu, qemu-lazy and qemu-move have QEMU's own device in place of ours.
+# or SLOW, the seconds, and what the back end served. The status is 0 if all are ok, 1 if one failed, 3 if a package,
+# which is named, or memory is missing, and 4 if none failed but one was too slow. More variants run only if they are
+# named: quick does a part of the work of default, two-queues and move in 3 GiB of memory, soak works for
+# REAL_GUEST_SOAK seconds (an hour by default) behind a lazy IOMMU and watches the memory and the descriptors of the
+# back end, and qemu, qemu-lazy, qemu-move and qemu-quick have QEMU's own device in place of ours.
 #
 # The guest is Debian's kernel with an initial RAM disk of busybox, made here: tools/real_guest_init.sh is its first
 # process. QEMU emulates the processor, so no KVM is needed.
@@ -37,13 +38,14 @@ PATTERN_SIZE=$((4 << 20))
 HALF=$((32 << 20))
 
 # A variant: what the guest does, the words of the device, those of the back end, how the back end is ended meanwhile,
-# how the guest runs its IOMMU, if it has one, by which way it moves to another QEMU, for how long it works, and the
-# words of its memory.
+# how the guest runs its IOMMU, if it has one, by which way it moves to another QEMU, for how long it works, the words
+# of its memory, and whether that is large.
 variant() {
-    work=full device="" backend="" ending="" queues=1 ops=40 files=6 iommu="" moving="" soak="" ram=""
+    work=full device="" backend="" ending="" queues=1 ops=40 files=6 iommu="" moving="" soak="" ram="" is_large=""
     case $1 in
     default) ;;
-    quick) ops=10 files=2 ;;
+    quick) work=quick queues=2 backend="--queues 2" ops=6 files=1 is_large=1 ;;
+    qemu-quick) device=qemu work=quick queues=2 ops=6 files=1 is_large=1 ;;
     no-event-idx) device=event_idx=off ;;
     no-indirect) device=indirect_desc=off ;;
     packed) device=packed=on ;;
@@ -181,12 +183,18 @@ start_qemu() {
     if [ "$device" = qemu ]; then
         disk=(${iommu:+-device intel-iommu,device-iotlb=on -device pcie-root-port,id=root,chassis=1,slot=1})
         disk+=(-drive "file=$room/disk.img,format=raw,if=none,id=disk,cache=writeback")
-        disk+=(-device "virtio-blk-pci,drive=disk,serial=disk.img$place")
+        disk+=(-device "virtio-blk-pci,drive=disk,serial=disk.img,num-queues=$queues$place")
+    fi
+    local memory="-machine q35,memory-backend=ram -m 256M -object memory-backend-memfd,id=ram,size=256M,share=on$ram"
+    if [ -n "$is_large" ]; then
+        # QEMU puts the last gibibyte of the second file at 4 GiB.
+        memory="-machine q35 -m 3G -object memory-backend-memfd,id=low,size=1G,share=on -numa node,memdev=low,cpus=0"
+        memory+=" -object memory-backend-memfd,id=high,size=2G,share=on -numa node,memdev=high,cpus=1"
     fi
     mkfifo "$room/in$part" "$room/monitor$part.in" "$room/monitor$part.out"
     cat "$room/monitor$part.out" > "$room/monitor$part" &
-    "$QEMU" -accel tcg,thread=multi -machine q35,memory-backend=ram -smp 2 \
-        -m 256M -object "memory-backend-memfd,id=ram,size=256M,share=on$ram" -nodefaults -no-user-config -display none \
+    # shellcheck disable=SC2086
+    "$QEMU" -accel tcg,thread=multi $memory -smp 2 -nodefaults -no-user-config -display none \
         -chardev "pipe,id=monitor,path=$room/monitor$part" -mon chardev=monitor "$@" \
         -no-reboot -kernel "$(kernel)" -initrd "$shared/initrd" -append "$words id=disk.img" "${disk[@]}" \
         -serial stdio < "$room/in$part" >> "$room/console" 2>> "$room/qemu" &
@@ -202,9 +210,10 @@ qemu_worked() {
         awk '{ had += $1; wanted += $1 + $2 } END { printf "%d %d\n", had / 1e6, wanted / 1e6 }'
 }
 
-# Whether the back end waits for this machine's own disk.
+# Whether the back end waits for this machine's own disk, or somebody has stopped QEMU.
 is_writing() {
-    grep -qs '^State:[[:space:]]*D' "/proc/$(cat "$room/pid" 2> /dev/null)/status"
+    grep -qs '^State:[[:space:]]*D' "/proc/$(cat "$room/pid" 2> /dev/null)/status" ||
+        grep -qs '^State:[[:space:]]*T' "/proc/$qemu_pid/status"
 }
 
 # Ends QEMU if its guest waits, or when its time is up. On a busy machine a guest gets little of a processor, but goes
@@ -260,6 +269,15 @@ end_backend() {
     done
     wait_for_lines round 1 || return
     echo enough >&"$guest_in"
+}
+
+# The back end sleeps until the guest has more requests in each ring than a turn serves.
+hold_backend() {
+    wait_for_line '^burst' "$room/console" || return
+    [ -z "$backend_pid" ] || kill -STOP "$backend_pid"
+    echo "${backend_pid:+held}" >&"$guest_in"
+    wait_for_line '^waiting' "$room/console"
+    [ -z "$backend_pid" ] || kill -CONT "$backend_pid"
 }
 
 # The image grows by 32 MiB under load, and the back end is told.
@@ -359,15 +377,16 @@ left_to_move() {
 }
 
 # Moves the guest this way. It reads the disk after most of its memory was copied once, and before the rest is: QEMU is
-# too slow meanwhile to come to an end.
+# too slow meanwhile to come to an end. Of two files it copies the larger one first.
 move_by() {
-    local left
+    local left rest=$((64 << 10))
+    [ -z "$is_large" ] || rest=$((1 << 20))
     echo moving >&"$guest_in"
     wait_for_line '^ready' "$room/console" || return
     order migrate_set_parameter max-bandwidth 32M
     order migrate_set_parameter downtime-limit 1
     order "$1"
-    until left=$(left_to_move) && [ -n "$left" ] && [ "$left" -le $((64 << 10)) ]; do
+    until left=$(left_to_move) && [ -n "$left" ] && [ "$left" -le "$rest" ]; do
         kill -0 "$qemu_pid" 2> /dev/null || return 1
     done
     order migrate_set_parameter max-bandwidth 1M
@@ -457,7 +476,7 @@ compare_counts() {
     grep -q ' 0 errors$' <<< "$said" || echo "the back end had errors" >> "$room/why"
     [ "$work" = read ] && return
     if [ "$flush" = 1 ]; then
-        { [ "$flushes" -gt 0 ] || [ -n "$ending" ] || [ "$work" = move ]; } && [ "$syncs" = "$flushes" ] || echo "$flushes flushes, $syncs syncs" >> "$room/why"
+        { [ "$flushes" -gt 0 ] || [ "$starts" -gt 1 ]; } && [ "$syncs" = "$flushes" ] || echo "$flushes flushes, $syncs syncs" >> "$room/why"
     else
         [ "$flushes" = 0 ] && [ "$syncs" -gt 0 ] || echo "$flushes flushes, $syncs syncs" >> "$room/why"
     fi
@@ -481,12 +500,17 @@ leave_huge_pages() {
 
 run_variant() {
     local name=$1 starts=0 backend_pid="" qemu_pid="" watch_pid guest_in begun status
-    local work device backend ending queues ops files iommu moving soak ram flush=1 part="" grown=""
+    local work device backend ending queues ops files iommu moving soak ram is_large flush=1 part="" grown=""
     variant "$name"
     if [ -n "$ram" ] && ! take_huge_pages; then
         leave_huge_pages
         printf '%-16s %-6s %4s    %s\n' "$name" "-" "" "left out: this machine has no huge pages for it"
         return 0
+    fi
+    # While it moves, both files of both sides are read whole.
+    if [ -n "$is_large" ] && [ "$(awk '/^MemAvailable/ { print $2 }' /proc/meminfo)" -lt $((7 << 20)) ]; then
+        printf '%-16s %-6s %4s    %s\n' "$name" "-" "" "left out: it needs 7 GiB of memory"
+        return 3
     fi
     [ "$name" = no-flush ] && flush=0
     room=$shared/$name
@@ -502,7 +526,8 @@ run_variant() {
     [ -n "$ending" ] && end_backend
     [ -n "$soak" ] && soak_guest
     [ "$work" = grow ] && grow_disk
-    [ "$work" = move ] && move_guest
+    [ "$work" = quick ] && hold_backend
+    [ "$work" = move ] || [ "$work" = quick ] && move_guest
     wait "$qemu_pid" 2> /dev/null
     status=$?
     exec {guest_in}>&-
@@ -533,8 +558,11 @@ compare() {
     compare_raw
     case $work in
     read) compare_reads ;;
-    move) grep -q '^moved ' "$room/said" || echo "the guest did not move" >> "$room/why" ;;
+    move) ;;
     *) compare_files ;;
+    esac
+    case $work in
+    move | quick) grep -q '^moved ' "$room/said" || echo "the guest did not move" >> "$room/why" ;;
     esac
     if [ -n "$iommu" ] && [ "$device" != qemu ]; then
         grep -aq '^I/O table: [1-9][0-9]* misses' "$room/backend" || echo "no mapping was asked for" >> "$room/why"
@@ -542,7 +570,7 @@ compare() {
     case $device in
     packed=on*) grep -aq '^ring .* packed, base' "$room/backend" || echo "no ring was packed" >> "$room/why" ;;
     esac
-    if [ "$work" = move ] && [ "$device" != qemu ]; then
+    if [ "$starts" = 2 ] && [ -z "$ending" ]; then
         grep -aq '^log: [1-9]' "$room/backend" || echo "no page was logged" >> "$room/why"
     fi
 }
@@ -594,7 +622,7 @@ usage() {
 }
 
 main() {
-    local keep="" write="" names=() word failed=0 slow=0 name
+    local keep="" write="" names=() word failed=0 left_out=0 status name
     for word in "$@"; do
         case $word in
         --install) install_packages || exit 1 ;;
@@ -629,14 +657,15 @@ main() {
     build_initrd "$shared"
     for name in "${names[@]}"; do
         run_variant "$name"
-        case $? in
+        status=$?
+        case $status in
         0) ;;
-        4) slow=4 ;;
+        3 | 4) left_out=$status ;;
         *) failed=1 ;;
         esac
     done
     [ "$failed" = 0 ] || exit "$failed"
-    exit "$slow"
+    exit "$left_out"
 }
 
 main "$@"

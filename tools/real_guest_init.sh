@@ -8,6 +8,8 @@
 #   work=load    accesses and files until a line comes on the console
 #   work=grow    raw accesses and files, and the same in sectors that come while it works
 #   work=move    accesses while the guest moves, and memory that the disk alone fills meanwhile
+#   work=quick   raw accesses, files, more reads at once than a turn serves, and the same while the guest moves, with
+#                memory above 4 GiB
 #   size=N id=TEXT           the disk's sectors and its name
 #   ops=N files=N            how many accesses each of the four workers makes, and how many files it writes
 #   flush=1      the disk has a cache to flush
@@ -239,6 +241,57 @@ load() {
     done
 }
 
+# More reads at once, of each queue, than the back end serves in a turn. It sleeps meanwhile, if there is one.
+burst() {
+    local cpu number pids="" from how
+    echo "burst"
+    read -r how < /dev/console
+    for number in $(seq 80); do
+        for cpu in 1 2; do
+            from=$(((2 * number + cpu) * 4096))
+            taskset "$cpu" dd if="/dev/$disk" of="/tmp/burst.$number.$cpu" bs=4096 count=1 skip=$((HALF + from)) \
+                iflag=skip_bytes,direct status=none &
+            pids="$pids $!"
+        done
+    done
+    until [ "$how" != held ] || [ "$(awk '{ print $1 }' "/sys/block/$disk/inflight")" = 160 ]; do
+        usleep 100000
+    done
+    echo "waiting"
+    for pid in $pids; do
+        wait "$pid" || fail "a read of the burst ended with status $?"
+    done
+    for number in $(seq 80); do
+        for cpu in 1 2; do
+            from=$(((2 * number + cpu) * 4096))
+            rm -f /tmp/want
+            move /tmp/shadow.0 "$from" /tmp/want 0 4096
+            same "/tmp/burst.$number.$cpu" /tmp/want "read $number of the burst has other bytes"
+        done
+    done
+    rm /tmp/burst.*
+}
+
+# A shorter `full`, a burst, and a move with the memory that the disk fills above 4 GiB.
+quick() {
+    check_disk 0
+    take_areas
+    raw 1
+    check_areas "after accesses"
+    burst
+    make_files
+    files a
+    check_files "mounted again"
+    move_away
+}
+
+# How many pages of files lie above 4 GiB.
+pages_above() {
+    awk '/^Node/ { is_above = $4 == "Normal" }
+        is_above && /nr_zone_(in)?active_file/ { sum += $2 }
+        END { print sum + 0 }' /proc/zoneinfo
+}
+
 # The disk grows meanwhile. The part that comes is used like the second half.
 grow() {
     check_disk 0
@@ -281,6 +334,8 @@ move_away() {
         done
     ) &
     local load=$!
+    # The memory of the second processor, if it has some of its own, lies above 4 GiB first.
+    taskset -p 2 $$ > /dev/null
     wait_for_file /tmp/moving
     # The kernel forgets what it read of a disk that nobody has open.
     exec 9< "/dev/$disk"
@@ -292,6 +347,7 @@ move_away() {
     echo "ready"
     wait_for_file /tmp/filling
     head -c "$PART" "/dev/$disk" > /dev/null
+    [ "$work" != quick ] || [ "$(pages_above)" -gt 1000 ] || fail "only $(pages_above) pages lie above 4 GiB"
     echo "filled"
     wait_for_file /tmp/moved
     echo "moved $(cut -d' ' -f1 /proc/uptime)"
@@ -323,6 +379,7 @@ main() {
     load) load ;;
     grow) grow ;;
     move) move_away ;;
+    quick) quick ;;
     *) fail "no such work: $work" ;;
     esac
     sync

@@ -321,22 +321,22 @@ static void notifications(void) {
 
 /* A write of sector 0x20005 whose chain has a header, a sector and room for a status. */
 static void requests(void) {
-    vmm_blk_terms terms = {0x20006, 1 << 9, 0, 3, 0x400}, few = {0x20006, 0, 0, 0, 0xff};
-    vmm_blk_terms one = {0x20006, 0, 0, 1, 0}, read_only = {0x20006, 0, 1, 0, 0};
+    vmm_blk_limits limits = {0x20006, 1 << 9, 0, 3, 0x400}, few = {0x20006, 0, 0, 0, 0xff};
+    vmm_blk_limits one = {0x20006, 0, 0, 1, 0}, read_only = {0x20006, 0, 1, 0, 0};
     DONE(vmm_store(s, 4, 4, DATA, 1));
     DONE(vmm_store(s, 4, 8, DATA + 8, 0x20005));
     put(TABLE + 16 * 3, DATA, 16, 1, 1);
     put(TABLE + 16 * 1, DATA + 0x400, 256, 1, 0);
     put(TABLE, DATA + 0x600, 256, 1, 2);
     IS(vmm_pop(s, 1, 4), VMM_DONE, 528, 3, 0x110);
-    IS(vmm_begin_request(s, 1, 4, 3, terms), VMM_DONE, 512, VMM_BLK_WRITE, 0x20005);
+    IS(vmm_begin_request(s, 1, 4, 3, limits), VMM_DONE, 512, VMM_BLK_WRITE, 0x20005);
     IS(vmm_begin_request(s, 1, 4, 3, few), VMM_DONE, VMM_BLK_S_IOERR, VMM_BLK_REFUSED, 0);
     IS(vmm_begin_request(s, 1, 4, 3, one), VMM_DONE, VMM_BLK_S_IOERR, VMM_BLK_REFUSED, 0);
     IS(vmm_begin_request(s, 1, 4, 3, read_only), VMM_DONE, VMM_BLK_S_IOERR, VMM_BLK_REFUSED, 0);
-    terms.features = 0;
-    IS(vmm_begin_request(s, 1, 4, 3, terms), VMM_DONE, 512, VMM_BLK_WRITE_STABLE, 0x20005);
-    terms.sectors = 0x20005;
-    IS(vmm_begin_request(s, 1, 4, 3, terms), VMM_DONE, VMM_BLK_S_IOERR, VMM_BLK_REFUSED, 0);
+    limits.features = 0;
+    IS(vmm_begin_request(s, 1, 4, 3, limits), VMM_DONE, 512, VMM_BLK_WRITE_STABLE, 0x20005);
+    limits.sectors = 0x20005;
+    IS(vmm_begin_request(s, 1, 4, 3, limits), VMM_DONE, VMM_BLK_S_IOERR, VMM_BLK_REFUSED, 0);
     /* The status lies after all bytes but one of those that can be written. */
     MAKES(vmm_finish_request(s, 1, 4, 3, VMM_BLK_S_UNSUPP, 0x10f), 0x110);
     MAKES(vmm_load(s, 4, 1, DATA + 0x30f), VMM_BLK_S_UNSUPP);

@@ -165,10 +165,10 @@ static void request(uint32_t kind, uint64_t sector, uint32_t given, uint32_t roo
 
 /* What a device with a disk of four sectors has to do. */
 static vmm_answer begin(int read_only, uint64_t features) {
-    vmm_blk_terms terms = {4, 0, 0, 0, 0};
-    terms.features = features;
-    terms.read_only = read_only;
-    return vmm_begin_request(&session, 0, 0, 0, terms);
+    vmm_blk_limits limits = {4, 0, 0, 0, 0};
+    limits.features = features;
+    limits.read_only = read_only;
+    return vmm_begin_request(&session, 0, 0, 0, limits);
 }
 
 /* Whether a status is written, and whether the length is this. */
@@ -216,8 +216,8 @@ static int requests(void) {
 /* Calls of requests that mean nothing. */
 static int no_requests(void) {
     request(4, 0, 0, 1);
-    vmm_blk_terms terms = {4, 0, 0, 0, 0};
-    if (vmm_begin_request(&session, 0, 0, 1, terms).code != VMM_NOT_IN_FLIGHT ||
+    vmm_blk_limits limits = {4, 0, 0, 0, 0};
+    if (vmm_begin_request(&session, 0, 0, 1, limits).code != VMM_NOT_IN_FLIGHT ||
         vmm_finish_request(&session, 0, 0, 1, 0, 0).code != VMM_NOT_IN_FLIGHT) {
         return 60;
     }
@@ -233,10 +233,10 @@ static int no_requests(void) {
 
 /* What queue 1's chain asks for, if the driver keeps these limits. */
 static vmm_answer begin_within(uint32_t seg_max, uint32_t size_max) {
-    vmm_blk_terms terms = {4, 1 << 9, 0, 0, 0};
-    terms.seg_max = seg_max;
-    terms.size_max = size_max;
-    return vmm_begin_request(&session, 1, 0, 0, terms);
+    vmm_blk_limits limits = {4, 1 << 9, 0, 0, 0};
+    limits.seg_max = seg_max;
+    limits.size_max = size_max;
+    return vmm_begin_request(&session, 1, 0, 0, limits);
 }
 
 /* A write of two sectors in two segments, in flight in a queue of its own. */

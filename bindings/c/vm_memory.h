@@ -450,7 +450,8 @@ static inline uint64_t vmm_number(const void *list, size_t place) {
 /* Virtqueues, split and packed: crates/virtio_queue/README.md. */
 
 /* A queue in its reset state, with the maximum size: a power of two, 1 to 32768. All of its chains in flight have at
- * most `descriptors` descriptors. `value` is its number. */
+ * most `descriptors` segments: the descriptors in an indirect table count, and the one that names the table does not.
+ * `value` is its number. */
 static inline vmm_answer vmm_queue(vmm_session *s, size_t max_size, size_t descriptors) {
     vmm_request call = vmm_at(VMM_QUEUE, 0, 0, max_size);
     call.other_length = descriptors;
@@ -648,14 +649,14 @@ static inline vmm_answer vmm_disable_notification(vmm_session *s, size_t queue, 
 
 /* Requests of a block device whose disk is the caller's: crates/virtio_blk/README.md. */
 
-/* What a request is held against: the disk has `sectors` sectors, and the driver accepted these features, each as its bit:
+/* What a request is checked against: the disk has `sectors` sectors, and the driver accepted these features, each as its bit:
  * 9 is FLUSH. If it accepted SEG_MAX, a request has at most `seg_max` data segments, two fewer than its chain has in
  * all, and if it accepted SIZE_MAX, each segment of the chain has at most `size_max` bytes. 0 is no limit. */
-typedef struct vmm_blk_terms {
+typedef struct vmm_blk_limits {
     uint64_t sectors, features;
     int read_only;
     uint32_t seg_max, size_max;
-} vmm_blk_terms;
+} vmm_blk_limits;
 
 /* Says what the request of a chain in flight asks a device for, and changes nothing. `value` is one of vmm_blk_request:
  * - VMM_BLK_READ: `count` bytes of the disk, from the sector `address` on, go to the front of the writable bytes.
@@ -668,13 +669,13 @@ typedef struct vmm_blk_terms {
  * The sectors lie on the disk. If an IOMMU refuses an access, nothing is decided, and the call is made again after the
  * mapping came. */
 static inline vmm_answer vmm_begin_request(vmm_session *s, size_t queue, size_t memory, size_t head,
-                                           vmm_blk_terms terms) {
+                                           vmm_blk_limits limits) {
     vmm_request call = vmm_on(VMM_BEGIN_REQUEST, queue, memory, head);
-    call.target = terms.sectors;
-    call.access = (uint32_t)(terms.read_only ? VMM_R : VMM_RW);
-    call.value = terms.features;
-    call.length = terms.seg_max;
-    call.other_length = terms.size_max;
+    call.target = limits.sectors;
+    call.access = (uint32_t)(limits.read_only ? VMM_R : VMM_RW);
+    call.value = limits.features;
+    call.length = limits.seg_max;
+    call.other_length = limits.size_max;
     return vmm_asked(s, &call, NULL, 0, NULL, 0);
 }
 

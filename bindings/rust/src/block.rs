@@ -6,18 +6,18 @@
 //! memory:
 //!
 //! ```
-//! use vm_memory_proved::block::{Request, Terms, HEADER_LEN, SECTOR_LEN, VIRTIO_BLK_S_IOERR, VIRTIO_BLK_S_OK};
+//! use vm_memory_proved::block::{DeviceLimits, Request, HEADER_LEN, SECTOR_LEN, VIRTIO_BLK_S_IOERR, VIRTIO_BLK_S_OK};
 //! use vm_memory_proved::queue::{DescriptorChain, QueueError};
 //! use vm_memory_proved::GuestMemory;
 //!
 //! // Serves a request, and returns the length for `add_used`.
 //! fn serve(disk: &mut [u8], chain: &DescriptorChain<'_>, memory: &GuestMemory<'_>) -> Result<u32, QueueError> {
-//!     let terms = Terms {
+//!     let limits = DeviceLimits {
 //!         sectors: (disk.len() / SECTOR_LEN) as u64,
-//!         ..Terms::default()
+//!         ..DeviceLimits::default()
 //!     };
 //!     let status_of = |is_done| if is_done { VIRTIO_BLK_S_OK } else { VIRTIO_BLK_S_IOERR };
-//!     let (status, moved) = match chain.begin_request(memory, terms)? {
+//!     let (status, moved) = match chain.begin_request(memory, limits)? {
 //!         Request::Read { sector, len } => {
 //!             let start = SECTOR_LEN * sector as usize;
 //!             let moved = chain.write_at(memory, 0, &disk[start..start + len]).unwrap_or(0);
@@ -54,7 +54,7 @@ pub const VIRTIO_BLK_S_IOERR: u8 = 1;
 /// The status of a request of a kind that the device does not know.
 pub const VIRTIO_BLK_S_UNSUPP: u8 = 2;
 
-/// The number of the feature FLUSH: its bit of [`Terms::acked`].
+/// The number of the feature FLUSH: its bit of [`DeviceLimits::acked`].
 pub const VIRTIO_BLK_F_FLUSH: u32 = 9;
 
 /// How many bytes a sector has.
@@ -63,9 +63,9 @@ pub const SECTOR_LEN: usize = 512;
 /// How many bytes the header of a request has: at this offset of the readable bytes the data of a write begin.
 pub const HEADER_LEN: usize = 16;
 
-/// What a request is held against: the disk, and what the driver accepted.
+/// What a request is checked against: the disk, and what the driver accepted.
 #[derive(Clone, Copy, Debug, Default, PartialEq, Eq)]
-pub struct Terms {
+pub struct DeviceLimits {
     /// The number of sectors of the disk, each of 512 bytes.
     pub sectors: u64,
     /// Whether the disk is only read.
@@ -138,22 +138,22 @@ impl Request {
 impl DescriptorChain<'_> {
     /// Reads the header of a request and says what the device has to do. Nothing changes.
     ///
-    /// A wrong request is not an error, but [`Request::Refused`]. One that breaks a limit of the terms is refused
+    /// A wrong request is not an error, but [`Request::Refused`]. One that breaks one of the limits is refused
     /// before its header is read. If an IOMMU refuses an access to the header, or an
     /// allocation fails, nothing is decided. A device whose mappings come later makes the call again then.
     #[inline]
-    pub fn begin_request(&self, mem: &GuestMemory<'_>, terms: Terms) -> Result<Request, QueueError> {
-        let access = if terms.read_only {
+    pub fn begin_request(&self, mem: &GuestMemory<'_>, limits: DeviceLimits) -> Result<Request, QueueError> {
+        let access = if limits.read_only {
             Permissions::Read
         } else {
             Permissions::ReadWrite
         };
         let mut call = self.call_at(kind::BEGIN_REQUEST, mem, 0);
-        call.target = terms.sectors;
+        call.target = limits.sectors;
         call.access = access as u32;
-        call.value = terms.acked;
-        call.length = terms.seg_max.unwrap_or(0) as usize;
-        call.other_length = terms.size_max.unwrap_or(0) as usize;
+        call.value = limits.acked;
+        call.length = limits.seg_max.unwrap_or(0) as usize;
+        call.other_length = limits.size_max.unwrap_or(0) as usize;
         self.ask(&call).map(|answer| Request::new(&answer))
     }
 

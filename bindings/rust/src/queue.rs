@@ -48,8 +48,8 @@
 //!   program keeps.
 //! - Each call takes the memory, as do the reader and the writer of a chain, which keeps none.
 //! - A chain that was popped is in flight until its head is returned or forgotten. If the driver publishes that head
-//!   again meanwhile, it is not popped. All chains in flight have at most as many descriptors as the queue was made
-//!   for; one that names an indirect table is not counted.
+//!   again meanwhile, it is not popped. All chains in flight together have at most as many segments as the queue was
+//!   made for. The descriptors in an indirect table are segments; the one that names the table is none.
 //! - So there is no `go_to_previous_position`: [`forget`](Queue::forget) and [`set_next_avail`](Queue::set_next_avail)
 //!   make a chain the next one again.
 //! - No call takes an order. Each reads and writes in the order that the VirtIO specification asks of a device.
@@ -114,8 +114,8 @@ pub struct Queue<'a> {
 
 impl Machine {
     /// Makes a queue in its reset state, with the maximum size. `InvalidMaxSize` if that is not a power of two
-    /// from 1 to 32768. All chains that are in flight together have at most `max_descriptors` descriptors, those of
-    /// indirect tables too.
+    /// from 1 to 32768. All chains that are in flight together have at most `max_descriptors` segments: the descriptors
+    /// in an indirect table count, and the one that names the table does not.
     pub fn queue(&self, max_size: u16, max_descriptors: usize) -> Result<Queue<'_>, QueueError> {
         self.make_queue(kind::QUEUE, max_size, max_descriptors)
     }

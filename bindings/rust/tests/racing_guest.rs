@@ -15,7 +15,7 @@ use std::sync::atomic::Ordering::{Relaxed, SeqCst};
 use std::sync::atomic::{AtomicBool, AtomicU32};
 use std::thread;
 use std::time::{Duration, Instant};
-use vm_memory_proved::block::{Request, Terms, HEADER_LEN, SECTOR_LEN, VIRTIO_BLK_S_IOERR, VIRTIO_BLK_S_OK};
+use vm_memory_proved::block::{DeviceLimits, Request, HEADER_LEN, SECTOR_LEN, VIRTIO_BLK_S_IOERR, VIRTIO_BLK_S_OK};
 use vm_memory_proved::queue::{DescriptorChain, Queue, QueueError};
 use vm_memory_proved::{memfd, GuestMemory, Machine, MemoryId, Permissions};
 
@@ -376,10 +376,10 @@ impl<'a> Device<'a> {
 
     fn serve(&mut self, chain: &DescriptorChain<'_>) {
         self.expect_named(chain);
-        let terms = Terms {
+        let limits = DeviceLimits {
             sectors: SECTORS,
             read_only: self.numbers.one_in(4),
-            ..Terms::default()
+            ..DeviceLimits::default()
         };
         let range = |sector: u64, len: usize| {
             assert!(NAMED.contains(&sector), "no header names sector {sector:#x}");
@@ -388,13 +388,13 @@ impl<'a> Device<'a> {
             start..start + len
         };
         let memory = &self.memory;
-        let (is_done, moved) = match chain.begin_request(memory, terms).unwrap() {
+        let (is_done, moved) = match chain.begin_request(memory, limits).unwrap() {
             Request::Read { sector, len } => {
                 let moved = chain.write_at(memory, 0, &self.disk[range(sector, len)]).unwrap_or(0);
                 (moved == len, moved)
             }
             Request::Write { sector, len, .. } => {
-                assert!(!terms.read_only, "the disk is only read");
+                assert!(!limits.read_only, "the disk is only read");
                 let moved = chain
                     .read_at(memory, HEADER_LEN, &mut self.disk[range(sector, len)])
                     .unwrap_or(0);

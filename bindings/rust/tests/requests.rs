@@ -8,7 +8,7 @@ mod slow;
 
 use disk::*;
 use slow::{addresses, Segment};
-use vm_memory_proved::block::{Request, Terms};
+use vm_memory_proved::block::{DeviceLimits, Request};
 use vm_memory_proved::queue::{DescriptorChain, QueueError};
 use vm_memory_proved::raw::{code, kind, request, Answer, Call};
 use vm_memory_proved::Machine;
@@ -28,14 +28,20 @@ fn shapes(given: u64, room: u64) -> Vec<Vec<Segment>> {
 
 // Serves a request in each shape, by direct descriptors, by an indirect table, and by both, and returns what it asks
 // for, its status, if there is a byte for that, and the length of its used entry. These are the same each time.
-fn serves(guest: &mut Guest<'_>, head: &[u8], given: u64, room: u64, terms: Terms) -> (Request, Option<u8>, u32) {
+fn serves(
+    guest: &mut Guest<'_>,
+    head: &[u8],
+    given: u64,
+    room: u64,
+    limits: DeviceLimits,
+) -> (Request, Option<u8>, u32) {
     let mut disks = [Disk::new(8), Disk::new(8)];
     let mut answers = Vec::new();
     for segments in shapes(given, room) {
         for direct in [segments.len(), 0, segments.len() / 2] {
             guest.set(HEADER, head);
             guest.set(ROOM + room.saturating_sub(1), &[0xee]);
-            let (request, len) = guest.serve(&segments, direct, &mut disks, terms);
+            let (request, len) = guest.serve(&segments, direct, &mut disks, limits);
             let status = guest.image.byte(ROOM + room.saturating_sub(1));
             answers.push((request, status.filter(|_| room != 0), len));
         }
@@ -54,8 +60,11 @@ fn with_guest(test: impl FnOnce(&mut Guest<'_>)) {
 fn reads_are_of_whole_sectors_on_the_disk() {
     with_guest(|guest| {
         for read_only in [false, true] {
-            let terms = Terms { read_only, ..terms(8) };
-            let mut ask = |sector, len: u64| serves(guest, &header(IN, sector), 0, len + 1, terms);
+            let limits = DeviceLimits {
+                read_only,
+                ..limits_of(8)
+            };
+            let mut ask = |sector, len: u64| serves(guest, &header(IN, sector), 0, len + 1, limits);
             for (sector, len) in [(0, 512), (7, 512), (0, 4096), (4, 2048), (6, 1024), (3, 0), (8, 0)] {
                 assert_eq!(ask(sector, len), (to_read(sector, len), Some(0), len as u32 + 1));
             }
@@ -86,25 +95,25 @@ fn reads_are_of_whole_sectors_on_the_disk() {
 #[test]
 fn writes_are_of_whole_sectors_on_the_disk() {
     with_guest(|guest| {
-        let mut ask = |sector, len, room: u64, terms| serves(guest, &header(OUT, sector), len, room + 1, terms);
+        let mut ask = |sector, len, room: u64, limits| serves(guest, &header(OUT, sector), len, room + 1, limits);
         for (sector, len) in [(0, 512), (7, 512), (0, 1024), (6, 1024), (3, 0), (8, 0)] {
             let done = to_write(sector, len, false);
-            assert_eq!(ask(sector, len, 0, terms(8)), (done, Some(0), 1));
-            assert_eq!(ask(sector, len, 5, terms(8)), (done, Some(0), 0));
+            assert_eq!(ask(sector, len, 0, limits_of(8)), (done, Some(0), 1));
+            assert_eq!(ask(sector, len, 5, limits_of(8)), (done, Some(0), 0));
             // Of a driver that did not accept FLUSH they are stable.
             for acked in [0, !ACCEPTS_FLUSH, 1 << 8, 1 << 10] {
                 let done = to_write(sector, len, len != 0);
-                let terms = Terms { acked, ..terms(8) };
-                assert_eq!(ask(sector, len, 0, terms), (done, Some(0), 1));
+                let limits = DeviceLimits { acked, ..limits_of(8) };
+                assert_eq!(ask(sector, len, 0, limits), (done, Some(0), 1));
             }
-            let only_read = Terms {
+            let only_read = DeviceLimits {
                 read_only: true,
-                ..terms(8)
+                ..limits_of(8)
             };
             assert_eq!(ask(sector, len, 0, only_read), (IOERR, Some(1), 1));
         }
         for len in [1, 15, 16, 511, 513, 1023] {
-            assert_eq!(ask(0, len, 0, terms(8)), (IOERR, Some(1), 1));
+            assert_eq!(ask(0, len, 0, limits_of(8)), (IOERR, Some(1), 1));
         }
         for (sector, len) in [
             (8, 512),
@@ -114,9 +123,9 @@ fn writes_are_of_whole_sectors_on_the_disk() {
             ((1 << 55) - 1, 1024),
             (u64::MAX, 512),
         ] {
-            assert_eq!(ask(sector, len, 0, terms(8)), (IOERR, Some(1), 1));
+            assert_eq!(ask(sector, len, 0, limits_of(8)), (IOERR, Some(1), 1));
         }
-        let request = serves(guest, &header(IN, 2), 77, 513, terms(8)).0;
+        let request = serves(guest, &header(IN, 2), 77, 513, limits_of(8)).0;
         assert_eq!(request, to_read(2, 512));
     });
 }
@@ -126,14 +135,14 @@ fn a_write_is_stable_or_waits_for_a_flush() {
     with_guest(|guest| {
         let segments = [read(HEADER, 16), read(DATA, 512), written(ROOM, 1)];
         for acked in [0, ACCEPTS_FLUSH, !ACCEPTS_FLUSH] {
-            let (mut disks, terms) = ([Disk::new(8), Disk::new(8)], Terms { acked, ..terms(8) });
+            let (mut disks, limits) = ([Disk::new(8), Disk::new(8)], DeviceLimits { acked, ..limits_of(8) });
             guest.set(HEADER, &header(OUT, 3));
             guest.set(DATA, &[0x5a; 512]);
-            guest.serve(&segments, 3, &mut disks, terms);
+            guest.serve(&segments, 3, &mut disks, limits);
             assert_eq!(disks[0].bytes[3 * 512..4 * 512], [0x5a; 512]);
             assert_eq!(disks[0].stable == disks[0].bytes, acked != ACCEPTS_FLUSH);
             guest.set(HEADER, &header(FLUSH, 0));
-            guest.serve(&segments, 3, &mut disks, terms);
+            guest.serve(&segments, 3, &mut disks, limits);
             assert!(disks[0].stable == disks[0].bytes);
         }
     });
@@ -143,11 +152,17 @@ fn a_write_is_stable_or_waits_for_a_flush() {
 fn flushes_and_names() {
     with_guest(|guest| {
         for (sector, given, room, read_only) in [(0, 0, 1, false), (9, 5, 1, true), (u64::MAX, 512, 513, false)] {
-            let (len, terms) = (u32::from(room == 1), Terms { read_only, ..terms(8) });
-            let asked = serves(guest, &header(FLUSH, sector), given, room, terms);
+            let (len, limits) = (
+                u32::from(room == 1),
+                DeviceLimits {
+                    read_only,
+                    ..limits_of(8)
+                },
+            );
+            let asked = serves(guest, &header(FLUSH, sector), given, room, limits);
             assert_eq!(asked, (Request::Flush, Some(0), len));
             for room in [0_u32, 1, 19, 20, 21, 600] {
-                let asked = serves(guest, &header(GET_ID, sector), given, u64::from(room) + 1, terms);
+                let asked = serves(guest, &header(GET_ID, sector), given, u64::from(room) + 1, limits);
                 let len = room.min(20) as usize;
                 // With more room, there is a gap before the status.
                 let used = if room <= 20 { room + 1 } else { 20 };
@@ -169,7 +184,7 @@ fn other_kinds_are_not_known() {
         let near = (0..256).filter(|kind| ![IN, OUT, FLUSH, GET_ID].contains(kind));
         for kind in near.chain(far).chain([u32::MAX, u32::MAX - 1]) {
             for (given, room) in [(0, 0), (512, 512)] {
-                let asked = serves(guest, &header(kind, 0), given, room + 1, terms(8));
+                let asked = serves(guest, &header(kind, 0), given, room + 1, limits_of(8));
                 assert_eq!(asked, (UNSUPP, Some(2), u32::from(room == 0)), "{kind:#x}");
             }
         }
@@ -189,7 +204,7 @@ fn short_headers_and_chains_without_a_status() {
                 guest.set(HEADER, &header(kind, 0));
                 let mut serve = |rest: &[Segment]| {
                     let segments = [&cut(read(HEADER, len), lens)[..], rest].concat();
-                    guest.serve(&segments, segments.len(), &mut disks, terms(8))
+                    guest.serve(&segments, segments.len(), &mut disks, limits_of(8))
                 };
                 for none in [&[][..], &[written(ROOM, 0)], &[written(u64::MAX, 0), written(0, 0)]] {
                     assert_eq!(serve(none), (Request::Unserved, 0));
@@ -227,8 +242,8 @@ fn disks_of_any_number_of_sectors() {
             guest.publish(&segments, 2);
             let chain = guest.queue.pop_descriptor_chain(&guest.memory).unwrap().unwrap();
             let wanted = if fits { to_read(sector, room) } else { IOERR };
-            assert_eq!(chain.begin_request(&guest.memory, terms(sectors)).unwrap(), wanted);
-            assert_eq!(asked(&guest.image, &segments, terms(sectors)), wanted);
+            assert_eq!(chain.begin_request(&guest.memory, limits_of(sectors)).unwrap(), wanted);
+            assert_eq!(asked(&guest.image, &segments, limits_of(sectors)), wanted);
             guest.queue.forget(0).unwrap();
         }
     });
@@ -237,14 +252,14 @@ fn disks_of_any_number_of_sectors() {
 // ---- limits
 
 // What a chain asks for, if the driver keeps these limits.
-fn asks_within(guest: &mut Guest<'_>, segments: &[Segment], limits: [Option<u32>; 2]) -> Request {
+fn asks_within(guest: &mut Guest<'_>, segments: &[Segment], most: [Option<u32>; 2]) -> Request {
     let mut disks = [Disk::new(8), Disk::new(8)];
-    let terms = Terms {
-        seg_max: limits[0],
-        size_max: limits[1],
-        ..terms(8)
+    let limits = DeviceLimits {
+        seg_max: most[0],
+        size_max: most[1],
+        ..limits_of(8)
     };
-    guest.serve(segments, segments.len(), &mut disks, terms).0
+    guest.serve(segments, segments.len(), &mut disks, limits).0
 }
 
 // SEG_MAX counts all but two segments, and SIZE_MAX the bytes of each, whatever is in it. A limit of 0 is none.
@@ -255,7 +270,7 @@ fn chains_that_break_a_limit_are_refused() {
         let data = [read(DATA, 512), read(DATA + 512, 512)];
         guest.set(HEADER, &header(OUT, 1));
         let segments = [&[read(HEADER, 16)], &data[..], &[written(ROOM, 1)]].concat();
-        for (limits, asked) in [
+        for (most, asked) in [
             ([None, None], done),
             ([Some(2), Some(512)], done),
             ([Some(u32::MAX), Some(u32::MAX)], done),
@@ -265,7 +280,7 @@ fn chains_that_break_a_limit_are_refused() {
             ([Some(1), Some(512)], IOERR),
             ([Some(2), Some(16)], IOERR),
         ] {
-            assert_eq!(asks_within(guest, &segments, limits), asked, "{limits:?}");
+            assert_eq!(asks_within(guest, &segments, most), asked, "{most:?}");
         }
         // A header in two segments leaves one fewer for data. Without a byte for the status nothing is served.
         let header = [read(HEADER, 8), read(HEADER + 8, 8)];
@@ -303,7 +318,7 @@ fn serves_at(guest: &mut Guest<'_>, segments: &[Segment], head: [u8; 16]) -> (Re
         guest.set(addr, &[byte]);
     }
     let mut disks = [Disk::new(8), Disk::new(8)];
-    let (request, len) = guest.serve(segments, segments.len(), &mut disks, terms(8));
+    let (request, len) = guest.serve(segments, segments.len(), &mut disks, limits_of(8));
     (request, len, disks[0] == Disk::new(8))
 }
 
@@ -424,7 +439,7 @@ fn only_the_status_makes_a_page_dirty() {
         guest.publish(&[read(HEADER, 16), written(ROOM, 513)], 2);
         dirty(guest);
         let chain = guest.queue.pop_descriptor_chain(&guest.memory).unwrap().unwrap();
-        chain.begin_request(&guest.memory, terms(8)).unwrap();
+        chain.begin_request(&guest.memory, limits_of(8)).unwrap();
         assert_eq!(dirty(guest), [vec![], vec![]]);
         chain.finish_request(&guest.memory, 0, 512).unwrap();
         assert_eq!(dirty(guest), [vec![], vec![512 / 16]]);
@@ -518,7 +533,10 @@ fn calls_that_mean_nothing_change_nothing() {
             );
         }
         guest.compare();
-        assert_eq!(chain.begin_request(&guest.memory, terms(8)).unwrap(), to_read(0, 512));
+        assert_eq!(
+            chain.begin_request(&guest.memory, limits_of(8)).unwrap(),
+            to_read(0, 512)
+        );
     });
 }
 
@@ -527,7 +545,7 @@ fn a_request_that_was_returned_is_over() {
     with_guest(|guest| {
         let chain = one_in_flight(guest);
         guest.queue.add_used(&guest.memory, 0, 0).unwrap();
-        let begun = chain.begin_request(&guest.memory, terms(8));
+        let begun = chain.begin_request(&guest.memory, limits_of(8));
         assert!(matches!(begun, Err(QueueError::NotInFlight)));
         let finished = chain.finish_request(&guest.memory, 7, 0);
         assert!(matches!(finished, Err(QueueError::NotInFlight)));

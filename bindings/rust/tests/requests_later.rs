@@ -72,7 +72,7 @@ fn each_access_waits_for_its_mapping() {
     let descriptors = (0..8).map(|i| (RINGS + 16 * i, 16));
     let accesses = [(avail + 2, 2), (avail + 4, 2)].into_iter().chain(descriptors);
     assert_eq!(refused, accesses.collect::<Vec<_>>());
-    let begun = late(guest, || chain.begin_request(&memory, terms(8)));
+    let begun = late(guest, || chain.begin_request(&memory, limits_of(8)));
     let accesses = vec![(0x1000, 4), (0x1200, 1), (0x1400, 11)];
     assert_eq!(begun, (to_write(1, 512, false), accesses));
     let data = addresses(&segments, false, 16, 512).into_iter();
@@ -150,9 +150,17 @@ fn a_broken_limit_waits_for_no_mapping() {
     let (chain, _) = late(guest, || queue.pop_descriptor_chain(&memory));
     let chain = chain.unwrap();
     let size_max = Some(511);
-    let begun = late(guest, || chain.begin_request(&memory, Terms { size_max, ..terms(8) }));
+    let begun = late(guest, || {
+        chain.begin_request(
+            &memory,
+            DeviceLimits {
+                size_max,
+                ..limits_of(8)
+            },
+        )
+    });
     assert_eq!(begun, (IOERR, vec![]));
-    let (_, refused) = late(guest, || chain.begin_request(&memory, terms(8)));
+    let (_, refused) = late(guest, || chain.begin_request(&memory, limits_of(8)));
     assert_eq!(refused, [(0x1000, 16)]);
 }
 
@@ -184,11 +192,11 @@ fn perform(disk: &mut [u8], request: Request, memory: &GuestMemory<'_>, chain: &
 
 // Serves a request on a disk in memory. After an error the caller makes the call again when the mapping came.
 fn serve(disk: &mut [u8], memory: &GuestMemory<'_>, chain: &DescriptorChain<'_>) -> Result<u32, QueueError> {
-    let terms = Terms {
+    let limits = DeviceLimits {
         acked: 0,
-        ..terms((disk.len() / SECTOR_LEN) as u64)
+        ..limits_of((disk.len() / SECTOR_LEN) as u64)
     };
-    let request = chain.begin_request(memory, terms)?;
+    let request = chain.begin_request(memory, limits)?;
     let (status, moved) = perform(disk, request, memory, chain);
     chain.finish_request(memory, status, moved)
 }
@@ -296,9 +304,9 @@ fn place(numbers: &mut Numbers, len: u64) -> u64 {
     }
 }
 
-fn random_terms(numbers: &mut Numbers) -> Terms {
+fn random_limits(numbers: &mut Numbers) -> DeviceLimits {
     let acked = numbers.any();
-    Terms {
+    DeviceLimits {
         sectors: numbers.below(4).max(numbers.below(DISK as u64 + 1)),
         read_only: numbers.one_in(6),
         acked,
@@ -376,8 +384,8 @@ fn served_randomly(guest: &mut Guest<'_>, count: usize) -> Vec<(Request, u32)> {
     let mut disks = [Disk::new(DISK), Disk::new(DISK)];
     let mut all = Vec::new();
     for _ in 0..count {
-        let terms = random_terms(numbers);
-        let (kind, head) = random_header(numbers, terms.sectors);
+        let limits = random_limits(numbers);
+        let (kind, head) = random_header(numbers, limits.sectors);
         let segments = random_segments(numbers, kind);
         for _ in 0..20 {
             let addr = place(numbers, 1);
@@ -387,7 +395,7 @@ fn served_randomly(guest: &mut Guest<'_>, count: usize) -> Vec<(Request, u32)> {
             guest.set(addr, &[byte]);
         }
         let direct = numbers.below(segments.len() as u64 + 1).min(60) as usize;
-        all.push(guest.serve(&segments, direct, &mut disks, terms));
+        all.push(guest.serve(&segments, direct, &mut disks, limits));
     }
     for sort in 0..8 {
         let those = all.iter().filter(|(request, _)| sort_of(*request) == sort).count();

@@ -127,7 +127,7 @@ fn compare_write(
     }
 }
 
-// ---- a million small rings, of the numbers of crates/queue_rings
+// ---- a million small rings, of the numbers of crates/ring_trials
 
 const BEGIN: u64 = 0x1000;
 const END: u64 = 0x1400;
@@ -239,9 +239,11 @@ impl Sequence {
 
 // How many rings ended in each way, by the output of that program.
 fn wanted_ends() -> BTreeMap<String, u64> {
-    let output = Path::new(env!("CARGO_MANIFEST_DIR")).join("../../crates/queue_rings/stdout");
+    let output = Path::new(env!("CARGO_MANIFEST_DIR")).join("../../crates/ring_trials/stdout");
     let output = fs::read_to_string(output).unwrap();
-    let counts = output.lines().map(|line| line.rsplit_once(' ').unwrap());
+    let lines = output.lines().skip_while(|line| *line != "split rings").skip(1);
+    let lines = lines.take_while(|line| *line != "packed rings");
+    let counts = lines.map(|line| line.rsplit_once(' ').unwrap());
     let counts = counts.map(|(name, count)| (name.to_string(), count.parse().unwrap()));
     counts.filter(|(_, count)| *count != 0).collect()
 }

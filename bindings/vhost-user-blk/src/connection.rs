@@ -225,8 +225,8 @@ impl<'a> Connection<'a> {
         }
     }
 
-    // If the image has another size, requests are held against that from now on, and the front end is told if it wants
-    // to be.
+    // If the image has another size, requests are checked against that from now on, and the front end is told if it
+    // wants to be.
     fn measure_disk(&mut self) {
         if !self.hangups.measure(self.disk) {
             return;
@@ -685,7 +685,7 @@ impl<'a> Connection<'a> {
             is_packed,
             memory,
             guest: memory.guest(is_translated),
-            terms: self.server.terms(self.features),
+            limits: self.server.limits(self.features),
             logger,
         };
         let ring = &mut self.rings[index];

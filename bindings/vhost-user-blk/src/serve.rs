@@ -13,7 +13,7 @@ use crate::stats::Stats;
 use parts::Segments;
 use std::collections::TryReserveError;
 use std::io;
-use vm_memory_proved::block::{Request, Terms, HEADER_LEN, SECTOR_LEN, VIRTIO_BLK_S_IOERR, VIRTIO_BLK_S_OK};
+use vm_memory_proved::block::{DeviceLimits, Request, HEADER_LEN, SECTOR_LEN, VIRTIO_BLK_S_IOERR, VIRTIO_BLK_S_OK};
 use vm_memory_proved::queue::{ChainId, Queue, QueueError};
 use vm_memory_proved::vhost_user::Refusal;
 use vm_memory_proved::{GuestAddress, GuestMemory, GuestMemoryError, IommuError, Miss, Permissions, Reason};
@@ -226,14 +226,14 @@ impl Step {
     }
 }
 
-/// A ring, the memory that it is in, and what requests are held against.
+/// A ring, the memory that it is in, and what requests are checked against.
 #[derive(Clone, Copy)]
 pub struct Place<'a> {
     pub queue: Queue<'a>,
     pub is_packed: bool,
     pub memory: &'a Memory,
     pub guest: GuestMemory<'a>,
-    pub terms: Terms,
+    pub limits: DeviceLimits,
     /// What marks writes in the log, if they are marked.
     pub logger: Option<Logger<'a>>,
 }
@@ -266,10 +266,10 @@ impl<'a> Server<'a> {
         })
     }
 
-    /// What requests are held against if these features were accepted.
-    pub fn terms(&self, features: u64) -> Terms {
+    /// What requests are checked against if these features were accepted.
+    pub fn limits(&self, features: u64) -> DeviceLimits {
         let (seg_max, size_max) = features::limits(features);
-        Terms {
+        DeviceLimits {
             sectors: self.disk.sectors(),
             read_only: self.disk.read_only(),
             acked: features,
@@ -379,7 +379,7 @@ impl<'a> Server<'a> {
     // Asks what a chain asks for.
     fn begin(&mut self, at: &Place<'_>, id: ChainId) -> Result<Step, Fault> {
         let of = |way, len| Transfer { way, len, moved: 0 };
-        Ok(match at.queue.chain_by_id(id).begin_request(&at.guest, at.terms)? {
+        Ok(match at.queue.chain_by_id(id).begin_request(&at.guest, at.limits)? {
             Request::Read { sector, len } => {
                 self.stats.reads += 1;
                 Step::Move(id, of(Way::Read(place_of(sector)), len))

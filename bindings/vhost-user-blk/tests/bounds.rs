@@ -212,6 +212,28 @@ fn the_driver_is_interrupted_among_many_requests() {
     }
 }
 
+// Each turn tells what came back in it, and does not leave that to the last one.
+#[test]
+fn the_driver_is_interrupted_before_the_last_request() {
+    let program = Program::start_on_a_hole("told", 128 << 20, &[]);
+    let mut front = started(&program, USUAL);
+    front.read_disk(0, 1, 512);
+    program.rest();
+    take(&front.rings[0].call);
+    for head in 0..32 {
+        front.put_long(head, 0, 0, &[(8 * MIB, MIB)]);
+        front.publish(0, head);
+    }
+    front.kick(0);
+    let begun = Instant::now();
+    while front.used_idx(0) != front.rings[0].next_avail {
+        assert!(begun.elapsed() < LONG, "not all requests come back");
+        sleep(Duration::from_millis(1));
+    }
+    program.rest();
+    assert!(take(&front.rings[0].call) > 1, "one interrupt for all");
+}
+
 #[test]
 fn a_kick_without_a_request_interrupts_nobody() {
     let program = Program::start_on_a_hole("idle_kick", 1 << 20, &[]);

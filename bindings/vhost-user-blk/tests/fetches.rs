@@ -7,7 +7,7 @@ mod traced;
 use std::collections::BTreeSet;
 use std::ops::Range;
 use traced::{trace, Access};
-use vm_memory_proved::block::{Request, Terms};
+use vm_memory_proved::block::{DeviceLimits, Request};
 use vm_memory_proved::queue::Queue;
 use vm_memory_proved::{GuestAddress, GuestMemory, Machine, MemoryId, Permissions};
 
@@ -248,11 +248,11 @@ fn serve_one(is_packed: bool, is_translated: bool, event_idx: bool, is_indirect:
     }
     expect(&accesses, &wanted, &what("pop"));
     // A request.
-    let terms = Terms {
+    let limits = DeviceLimits {
         sectors: 8,
-        ..Terms::default()
+        ..DeviceLimits::default()
     };
-    let (request, accesses) = it.trace(|_, memory| chain.begin_request(memory, terms).unwrap());
+    let (request, accesses) = it.trace(|_, memory| chain.begin_request(memory, limits).unwrap());
     assert_eq!(request, Request::Read { sector: 3, len: 512 });
     expect(&accesses, &[(LOAD, HEADER..HEADER + 16)], &what("begin"));
     let (len, accesses) = it.trace(|_, memory| chain.finish_request(memory, 0, 512).unwrap());

@@ -160,19 +160,38 @@ fn a_log_that_is_too_short_ends_the_connection() {
     }
 }
 
-// A log whose file loses its bytes ends the connection, and not the program.
+// A log whose file loses its bytes ends the connection, and not the program: the first log, the next one, one that was
+// there before the memory, and the last page of a long one.
 #[test]
 fn a_log_that_goes_away_ends_the_connection() {
     let mut program = Program::start("log_lost", LEN, &[]);
-    let mut front = started(&program, USUAL);
-    let log = begin(&mut front, USUAL, LOG_LEN);
-    front.read_disk(0, 1, 512);
-    File::from(log).set_len(0).unwrap();
-    front.put_request(0, 0, 0, 1, 512);
-    front.publish(0, 0);
-    front.kick(0);
-    assert!(front.is_let_go());
-    assert!(program.lives());
+    for case in ["first", "next", "older", "long"] {
+        let (mut front, mut log) = if case == "long" {
+            far_started(&program)
+        } else {
+            let mut front = started(&program, USUAL);
+            let log = begin(&mut front, USUAL, LOG_LEN);
+            (front, log)
+        };
+        front.read_disk(0, 1, 512);
+        let (mut data, mut left) = (9 << 20, 0);
+        match case {
+            "next" => log = begin(&mut front, USUAL, LOG_LEN),
+            "older" => {
+                let file = memfd(RAM);
+                front.move_memory(&file, 0);
+                front.set_memory();
+            }
+            "long" => (data, left) = (FAR, LOG_AT + (FAR / 8) as u64 / PAGE),
+            _ => (),
+        }
+        File::from(log).set_len(left).unwrap();
+        front.put_long(1, 0, 1, &[(data, 512)]);
+        front.publish(0, 1);
+        front.kick(0);
+        assert!(front.is_let_go(), "{case}");
+        assert!(program.lives());
+    }
     started(&program, USUAL).read_disk(0, 1, 512);
 }
 

@@ -97,6 +97,7 @@ fn the_same_size_is_not_told() {
         std::thread::sleep(Duration::from_millis(20));
         assert_eq!(capacity(&mut front), 64);
     }
+    program.rest();
     assert_eq!(left_on(channel), 0);
 }
 

@@ -9,7 +9,7 @@ use std::io::{Read, Write};
 use std::os::fd::{AsFd, AsRawFd};
 use std::os::unix::fs::FileExt;
 use std::time::Duration;
-use vm_memory_proved::block::{Request, Terms};
+use vm_memory_proved::block::{DeviceLimits, Request};
 use vm_memory_proved::queue::Queue;
 use vm_memory_proved::{GuestAddress, GuestMemory, Machine};
 
@@ -85,15 +85,15 @@ fn eventfds_asleep() -> f64 {
 }
 
 fn serve(queue: &Queue<'_>, memory: &GuestMemory<'_>, bytes: &[u8]) -> usize {
-    let terms = Terms {
+    let limits = DeviceLimits {
         sectors: LEN as u64 / 512,
         acked: USUAL,
-        ..Terms::default()
+        ..DeviceLimits::default()
     };
     let mut served = 0;
     queue.disable_notification(memory).unwrap();
     while let Some(chain) = queue.pop_descriptor_chain(memory).unwrap() {
-        let Request::Read { len, .. } = chain.begin_request(memory, terms).unwrap() else {
+        let Request::Read { len, .. } = chain.begin_request(memory, limits).unwrap() else {
             panic!("it is a read");
         };
         let moved = chain.write_at(memory, 0, &bytes[..len]).unwrap();

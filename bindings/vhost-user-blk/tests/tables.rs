@@ -162,28 +162,37 @@ fn an_empty_table_takes_the_memory() {
     }
 }
 
-// Of eight regions with a file each one loses its bytes. A request that reaches there does not come back, and nothing
-// of it is on the disk. The other files are as they were.
+// Of eight regions with a file each one loses its bytes, or its last page: one that an earlier table had, or a new one.
+// A request that reaches there does not come back, and nothing of it is on the disk. The other files are as they were.
 #[test]
 fn each_region_may_go_away() {
+    const SIZE: u64 = 1 << 20;
     let mut program = Program::start("lost_regions", LEN, &[]);
     let place = |region: usize| PLUGGED + region as u64 * GIB;
     for (region, kind) in (0..7).flat_map(|region| [(region, 0), (region, 1)]) {
         let mut front = program.connect();
         front.negotiate(USUAL);
-        let files: Vec<OwnedFd> = (0..7).map(|_| memfd(1 << 20)).collect();
+        let files: Vec<OwnedFd> = (0..7).map(|_| memfd(SIZE as usize)).collect();
         let mut rows = vec![(0, RAM as u64, 0)];
-        rows.extend((0..7).map(|at| (place(at), 1 << 20, 0)));
+        rows.extend((0..7).map(|at| (place(at), SIZE, 0)));
         let ram = again(&front.ram);
         let all: Vec<&OwnedFd> = [&ram].into_iter().chain(&files).collect();
-        assert!(front.is_done(SET_MEM_TABLE, &FrontEnd::table(&rows), &all));
+        for count in [2 + region - kind, 8] {
+            let table = FrontEnd::table(&rows[..count]);
+            assert!(front.is_done(SET_MEM_TABLE, &table, &all[..count]));
+        }
         front.start_ring(16, 0);
         for (at, file) in files.iter().enumerate() {
             read_into(&mut front, file, 0x2000, place(at) + 0x2000);
         }
         let before = front.used_idx(0);
-        File::from(again(&files[region])).set_len(0).unwrap();
-        front.put_long(2, kind, 8, &[(place(region) as usize + 0x2000, 1024)]);
+        let (left, lost) = if (region + kind) % 2 == 0 {
+            (0, 0x2000)
+        } else {
+            (SIZE - PAGE, SIZE - PAGE)
+        };
+        File::from(again(&files[region])).set_len(left).unwrap();
+        front.put_long(2, kind as u32, 8, &[((place(region) + lost) as usize, 1024)]);
         front.publish(0, 2);
         front.kick(0);
         assert!(front.is_let_go(), "region {region}");

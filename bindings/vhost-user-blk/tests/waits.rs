@@ -137,7 +137,7 @@ fn a_kick_that_comes_with_the_stop_is_taken() {
     }
 }
 
-// A pipe has room for 8,192 notifications.
+// A pipe has room for 8,192 notifications. Some come together.
 #[test]
 fn a_pipe_notifies_again_and_again() {
     let program = Program::start("pipe_kick", LEN, &[]);
@@ -146,7 +146,10 @@ fn a_pipe_notifies_again_and_again() {
     assert!(front.is_done(SET_VRING_KICK, &0_u64.to_le_bytes(), &[&read]));
     set_waiting(&write, false);
     front.rings[0].kick = write;
-    for _ in 0..10_000 {
+    for round in 0..10_000 {
+        if round % 2 == 0 {
+            File::from(again(&front.rings[0].kick)).write_all(&[0; 32]).unwrap();
+        }
         front.read_disk(0, 1, 512);
     }
     drop(front);

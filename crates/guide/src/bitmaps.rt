@@ -10,7 +10,7 @@ use vm_memory::{
     GuestMemoryMmap, HostMemory, TrackedBitmap,
 };
 
-/// Writes, asks for one page through a window, and harvests: `ExclusiveBitmap`, behind one owner.
+/// Writes, asks for one page through a window, and harvests: `ExclusiveBitmap`, with one owner.
 pub fn pages_of_a_window(rt: &impl Print, alloc: Global) -> anyhow::Result<()> {
     let mut host = HostMemory::<ExclusiveBitmap>::new(alloc);
     let ranges = [(GuestAddress(0), 0x4000)];

@@ -67,8 +67,8 @@ impl ByteValued for Header {
         (self.kind, (self.reserved, self.sector)).to_slice(out)
     }
 
-    fn known(&self) {
-        (self.kind, (self.reserved, self.sector)).known();
+    fn recall_law(&self) {
+        (self.kind, (self.reserved, self.sector)).recall_law();
     }
 
     // A pair's bytes stand for its values as those of both parts do.

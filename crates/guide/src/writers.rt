@@ -5,7 +5,7 @@ use std::sync::{Mutex, Wait};
 use std::thread::{self, Threads};
 use vm_memory::{Bytes, GuestAddress, GuestMemoryMmap, HostMemory};
 
-// Writes under the lock of the host. Behind a lock, what the host holds has to be tested again.
+// Writes under the lock of the host. Under a lock, what the host holds has to be tested again.
 fn write_one<R: Wait>(
     rt: &R,
     host: &Mutex<HostMemory<()>>,

@@ -11,17 +11,17 @@ use Rattle.live_migration.specs.Image.{are_zero, page_bytes, placed}
 use Rattle.live_migration.specs.Placing.{Applies, HasPlaced, TellsNothing}
 use Rattle.live_migration.specs.Receiving.{zeroed}
 use Rattle.live_migration.specs.declared.header.BlockEntry.{BlockEntry}
-use Rattle.live_migration.proofs.ImageLemmas.{get_or-placed, length-placed, is_before, is_behind, is_inside}
+use Rattle.live_migration.proofs.ImageLemmas.{get_or-placed, length-placed, is_before, is_after, is_inside}
 use Rattle.live_migration.proofs.PlacingLemmas.{zeros_apply, zeros_there}
 
 -- ---- bytes that come into a block
 
 -- a byte past what was placed
-placed_behind : (at k : ℕ) (bytes image : List ℕ) → at + length bytes ≤ k
+placed_after : (at k : ℕ) (bytes image : List ℕ) → at + length bytes ≤ k
     → get_or (placed at bytes image) k 0 ≡ get_or image k 0
-placed_behind at k bytes image past = elim (cases_lt k (length image)) [
+placed_after at k bytes image past = elim (cases_lt k (length image)) [
   | inl within ↦
-      get_or-placed at bytes image k within ∙ cond-false _ _ _ (is_behind at (length bytes) k past)
+      get_or-placed at bytes image k within ∙ cond-false _ _ _ (is_after at (length bytes) k past)
   | inr out ↦
       get_or_past (placed at bytes image) k 0 (omega (arith, length-placed at bytes image))
       ∙ sym (get_or_past image k 0 out)
@@ -43,7 +43,7 @@ placed_zero at n k image none = elim (cases_lt k (length image)) [
     | inl low ↦ cond-false _ _ _ (is_before at _ k low) ∙ none
     | inr high ↦ elim (cases_lt k (at + length (replicate {A = ℕ} n 0))) [
       | inl inside ↦ cond-true _ _ _ (is_inside at _ k high inside) ∙ zero_at n (k - at)
-      | inr behind ↦ cond-false _ _ _ (is_behind at _ k behind) ∙ none
+      | inr behind ↦ cond-false _ _ _ (is_after at _ k behind) ∙ none
     ]
   ]
 ]
@@ -53,18 +53,18 @@ module _ {B : Type 0} (base block at : ℕ) (old new : Host B) where
   apart j ne e = ne (omega arith)
 
   -- the block is bare past the bytes that came, and the others as before
-  pub bare_behind : (bytes offsets next : List ℕ) → HasPlaced old new (base + block) at bytes
+  pub bare_after : (bytes offsets next : List ℕ) → HasPlaced old new (base + block) at bytes
       → AreBare base offsets old → length next ≡ length offsets
       → ((j : ℕ) → (j ≡ block → ⊥) → get_or next j 0 ≡ get_or offsets j 0)
       → get_or offsets block 0 ≤ get_or next block 0
       → (block < length offsets → at + length bytes ≤ get_or next block 0) → AreBare base next new
-  bare_behind bytes offsets next has bare len others kept end = λ j k l from. elim (cases_eq j block) [
+  bare_after bytes offsets next has bare len others kept end = λ j k l from. elim (cases_eq j block) [
     | inl same ↦
         let here : block < length offsets = omega (arith, same) in
         let past : get_or next block 0 ≤ k = subst (λ (i : ℕ). get_or next i 0 ≤ k) same from in
         ap (λ (i : ℕ). get_or (block_at new.blocks (base + i)) k 0) same
         ∙ ap (λ (xs : List ℕ). get_or xs k 0) has.block_is
-        ∙ placed_behind at k bytes (block_at old.blocks (base + block)) (omega (arith, end here))
+        ∙ placed_after at k bytes (block_at old.blocks (base + block)) (omega (arith, end here))
         ∙ bare block k here (omega arith)
     | inr ne ↦
         ap (λ (xs : List ℕ). get_or xs k 0) (has.others (base + j) (apart j ne))

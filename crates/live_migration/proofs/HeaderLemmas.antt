@@ -28,7 +28,7 @@ bits_are zero l = refl
 bits_are (suc zero) l = refl
 bits_are (suc (suc n)) l = absurd (omega arith)
 
--- a test that was passed, and what came behind it
+-- a test that was passed, and what came after it
 passed : {A : Type 0} (b : Bool) (r : Result A Refusal) (e : Refusal) (x : A) → cond b r (Err e) ≡ Ok x
     → (b ≡ true) × (r ≡ Ok x)
 passed true r e x h = (refl, h)
@@ -94,7 +94,7 @@ options_again : (d : Bool) → (ltb (option_bits d) 2 ≡ true) × (eqb (option_
 options_again true = (refl, refl, lit< tt)
 options_again false = (refl, refl, lit< tt)
 
--- a front, and what lies behind it
+-- a front, and what lies after it
 abbrev front_text : Bool → ℕ → List ℕ → List ℕ
 front_text d n rest = to_le_bytes w64 0x5441_5247_494d_4d56
     ++ (to_le_bytes w32 2 ++ (to_le_bytes w32 (option_bits d) ++ (to_le_bytes w32 n ++ rest)))
@@ -147,7 +147,7 @@ checked_is from left e x h =
         short = ltb-true _ _ pa.1;
         paged = ltb-true _ _ pb.0;
         small = leb-true _ _ pb.1;
-        behind = leb-true _ _ pc.0;
+        ascends = leb-true _ _ pc.0;
         addressed = ltb-true _ _ pc.1;
         allowed = leb-true _ _ d.0;
       },
@@ -160,7 +160,7 @@ checked_again from left e is =
     let b : (ltb 0 e.page_size && leb e.page_size (2 ^ 20)) ≡ true =
     and_from _ _ (lt-ltb _ _ is.paged) (le-leb _ _ is.small) in
     let c : (leb from e.address && ltb (e.address + e.len) (2 ^ 64)) ≡ true =
-    and_from _ _ (le-leb _ _ is.behind) (lt-ltb _ _ is.addressed) in
+    and_from _ _ (le-leb _ _ is.ascends) (lt-ltb _ _ is.addressed) in
     let d : leb e.len left ≡ true = le-leb _ _ is.allowed in
     rw (a, b, c, d) refl
 
@@ -311,7 +311,7 @@ wider_entries (e ∷ es) from left more l are =
         short = is.short;
         paged = is.paged;
         small = is.small;
-        behind = is.behind;
+        ascends = is.ascends;
         addressed = is.addressed;
         allowed = omega arith;
       },
@@ -342,7 +342,7 @@ same_fronts d e m n x y h =
       ap (λ (p : Bool × ℕ × List ℕ). p.2) same,
     )
 
--- the options and blocks of a header, and what lies behind it, are decided by the bytes
+-- the options and blocks of a header, and what lies after it, are decided by the bytes
 pub same_header : (limit most : ℕ) (d d' : Bool) (es fs : List BlockEntry) (x y : List ℕ) → IsHeader limit es
     → IsHeader most fs → header_bytes d es ++ x ≡ header_bytes d' fs ++ y → (d ≡ d') × (es ≡ fs) × (x ≡ y)
 same_header limit most d d' es fs x y a b e =
@@ -435,10 +435,10 @@ unless_memory refusal.Failed read h = h
 unless_memory refusal.Options read h = h
 
 -- one entry more is written
-pub entry_behind : (front out new : List ℕ) (es : List BlockEntry) (i : ℕ) (d : BlockEntry) → i < length es
+pub entry_after : (front out new : List ℕ) (es : List BlockEntry) (i : ℕ) (d : BlockEntry) → i < length es
     → out ≡ front ++ flat_map entry_bytes (take i es) → new ≡ out ++ entry_bytes (get_or es i d)
     → new ≡ front ++ flat_map entry_bytes (take (i + 1) es)
-entry_behind front out new es i d l e f =
+entry_after front out new es i d l e f =
     f ∙ ap (λ (x : List ℕ). x ++ entry_bytes (get_or es i d)) e
     ∙ flat_map_more entry_bytes front (take i es) (get_or es i d)
     ∙ ap (λ (x : List BlockEntry). front ++ flat_map entry_bytes x) (sym (take_more es i d l))

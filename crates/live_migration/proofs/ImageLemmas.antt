@@ -44,8 +44,8 @@ is_inside at len k low high = and_from _ _ (le-leb _ _ low) (lt-ltb _ _ high)
 pub is_before : (at len k : ℕ) → k < at → is_within at len k ≡ false
 is_before at len k low = and_left _ _ (lt-leb _ _ low)
 
-pub is_behind : (at len k : ℕ) → at + len ≤ k → is_within at len k ≡ false
-is_behind at len k high = and_right _ _ (le-ltb _ _ high)
+pub is_after : (at len k : ℕ) → at + len ≤ k → is_within at len k ≡ false
+is_after at len k high = and_right _ _ (le-ltb _ _ high)
 
 length-zeros : (n : ℕ) → length (replicate {A = ℕ} n 0) ≡ n
 length-zeros n = length-replicate n 0
@@ -100,7 +100,7 @@ module _ (size block page k : ℕ) (some : 0 < size) (here : k / size ≡ page) 
       get_or-placed (first * size) bytes image k l
       ∙ cond-false _ _ _ (elim (and_cases _ _ out) [
         | inl before ↦ is_before (first * size) (length bytes) k (early (leb-false first page before))
-        | inr behind ↦ is_behind (first * size) (length bytes) k (late (ltb-false _ _ behind))
+        | inr behind ↦ is_after (first * size) (length bytes) k (late (ltb-false _ _ behind))
       ])
     where
       early : page < first → k < first * size
@@ -131,7 +131,7 @@ module _ (size block page k : ℕ) (some : 0 < size) (here : k / size ≡ page) 
           | inl inside ↦ absurd (eqb-false p page other
               (let first : p ≤ k / size = le-div p k size some above in
               let last : k / size < p + 1 = div_below k size (p + 1) some (omega arith) in omega (arith, here)))
-          | inr behind ↦ is_behind (p * size) _ k
+          | inr behind ↦ is_after (p * size) _ k
               (omega (arith, length-zeros size))
         ]
       ]
@@ -198,7 +198,7 @@ module _ (size block p k : ℕ) (some : 0 < size) (bytes : List ℕ) (within : k
         | inl below ↦ is_before (p * size) _ k below
         | inr above ↦ elim (cases_lt k (p * size + size)) [
           | inl in_page ↦ absurd (other (page_of above in_page))
-          | inr behind ↦ is_behind (p * size) _ k (omega arith)
+          | inr behind ↦ is_after (p * size) _ k (omega arith)
         ]
       ]
 

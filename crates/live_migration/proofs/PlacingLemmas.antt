@@ -15,7 +15,7 @@ use Rattle.live_migration.specs.Image.{are_zero, page_bytes, placed, received}
 use Rattle.live_migration.specs.Placing.{HasPlaced, Applies, TellsNothing}
 use Rattle.live_migration.specs.declared.header.BlockEntry.{BlockEntry}
 use Rattle.vm_memory_guest.proofs.WrittenLaws.{bytes_at-block}
-use Rattle.live_migration.proofs.ImageLemmas.{get_or-placed, length-placed, is_before, is_behind, is_inside}
+use Rattle.live_migration.proofs.ImageLemmas.{get_or-placed, length-placed, is_before, is_after, is_inside}
 use Rattle.live_migration.proofs.ZeroLemmas.{zeros_stay}
 
 -- ---- bytes that are written to the cells of a block
@@ -47,7 +47,7 @@ module _ (b : ℕ) where
       nowhere : (off k : ℕ) → is_within off 0 k ≡ false
       nowhere off k = elim (cases_lt k off) [
         | inl low ↦ is_before off 0 k low
-        | inr high ↦ is_behind off 0 k (omega arith)
+        | inr high ↦ is_after off 0 k (omega arith)
       ]
   written_byte (suc n) off [] blocks len l room k = absurd (omega (arith, len))
   written_byte (suc n) off (x ∷ xs) blocks len l room k =
@@ -68,8 +68,8 @@ module _ (b : ℕ) where
                 cond-true _ _ _ (is_inside (off + 1) n k (after high there) (omega arith))
                 ∙ sym (cond-true _ _ _ (is_inside off (suc n) k high inside) ∙ later (after high there))
             | inr behind ↦
-                cond-false _ _ _ (is_behind (off + 1) n k (omega arith))
-                ∙ old there ∙ sym (cond-false _ _ _ (is_behind off (suc n) k behind))
+                cond-false _ _ _ (is_after (off + 1) n k (omega arith))
+                ∙ old there ∙ sym (cond-false _ _ _ (is_after off (suc n) k behind))
           ]
         ]
       ]
@@ -290,8 +290,8 @@ module _ {B : Type 0} (base : ℕ) (entries : List BlockEntry) (old new : Host B
               cond-true _ _ _ (is_inside at _ k high (omega (arith, zeros size))) ∙ zero_at size (k - at)
               ∙ sym (cond-true _ _ _ (is_inside at _ k high (omega (arith, zeros n))) ∙ zero_at n (k - at))
           | inr behind ↦
-              cond-false _ _ _ (is_behind at _ k (omega (arith, zeros size)))
-              ∙ sym (cond-false _ _ _ (is_behind at _ k (omega (arith, zeros n))))
+              cond-false _ _ _ (is_after at _ k (omega (arith, zeros size)))
+              ∙ sym (cond-false _ _ _ (is_after at _ k (omega (arith, zeros n))))
         ]
       ]
 

@@ -1,11 +1,11 @@
--- Bytes that are put behind others.
+-- Bytes that are put after others.
 use Rattle.std.proofs.Common.{◌≡◌, ℕ, ◌+◌, ◌≤◌, List, ◌++◌, length, take, Result, Ok, Err, OnOk, OnErr, refl, sym, ap, ◌∙◌, append_assoc, arith}
 use Rattle.std.proofs.lemmas.List.{take_at, take-take, length-append}
 use Rattle.live_migration.specs.Frame.{Pages, ZeroPage, spelling}
 
--- one behind the other
-pub behind : (new mid old a b : List ℕ) → new ≡ mid ++ b → mid ≡ old ++ a → new ≡ old ++ (a ++ b)
-behind new mid old a b e f = e ∙ ap (λ (x : List ℕ). x ++ b) f ∙ append_assoc old a b
+-- one after the other
+pub one_after_other : (new mid old a b : List ℕ) → new ≡ mid ++ b → mid ≡ old ++ a → new ≡ old ++ (a ++ b)
+one_after_other new mid old a b e f = e ∙ ap (λ (x : List ℕ). x ++ b) f ∙ append_assoc old a b
 
 -- what was there is still in front
 pub front_kept : (new mid old a : List ℕ) → take (length mid) new ≡ mid → mid ≡ old ++ a
@@ -16,7 +16,7 @@ front_kept new mid old a e f =
     let below : length old ≤ length mid = omega (arith, ap length f, length-append old a) in
     sym (take-take (length old) (length mid) new below) ∙ all
 
-pub ruleset put_behind = (behind, front_kept)
+pub ruleset put_after = (one_after_other, front_kept)
 
 -- by how much bytes grow, if they do
 grows_by : {X E : Type 0} (r : Result X E) (old new more : List ℕ) (n : ℕ) → OnOk r (new ≡ old ++ more)

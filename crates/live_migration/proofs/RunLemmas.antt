@@ -10,7 +10,7 @@ use Rattle.vm_memory_base.specs.Address.{is_within}
 use Rattle.live_migration.specs.Frame.{IsMessage, Message, Pages, ZeroPage, RoundEnd, Section, Done, Go, spelling}
 use Rattle.live_migration.specs.Image.{are_zero, arrived, copied, one_by_one, page_bytes, placed, received, split}
 use Rattle.live_migration.specs.Sending.{CopiesRuns, IsRun, IsWrittenPage}
-use Rattle.live_migration.proofs.ImageLemmas.{arrived-append, get_or-placed, length-placed, is_before, is_behind, is_inside}
+use Rattle.live_migration.proofs.ImageLemmas.{arrived-append, get_or-placed, length-placed, is_before, is_after, is_inside}
 
 pub fits-append : (ms ns : List Message) → AllByRecursion IsMessage ms → AllByRecursion IsMessage ns
     → AllByRecursion IsMessage (ms ++ ns)
@@ -38,7 +38,7 @@ placed_parts at n bytes image =
     past : (k : ℕ) → at + length bytes ≤ k → is_within (at + n) (length (drop n bytes)) k ≡ false
     past k behind = elim (cases_lt k (at + n)) [
       | inl early ↦ is_before (at + n) (length (drop n bytes)) k early
-      | inr late ↦ is_behind (at + n) (length (drop n bytes)) k (omega (arith, length-drop n bytes))
+      | inr late ↦ is_after (at + n) (length (drop n bytes)) k (omega (arith, length-drop n bytes))
     ]
 
     byte : (k : ℕ)
@@ -65,8 +65,8 @@ placed_parts at n bytes image =
         ]
         | inr behind ↦
             cond-false _ _ _ (past k behind)
-            ∙ cond-false _ _ _ (is_behind at (length (take n bytes)) k (omega (arith, length-take n bytes)))
-            ∙ sym (cond-false _ _ _ (is_behind at (length bytes) k behind))
+            ∙ cond-false _ _ _ (is_after at (length (take n bytes)) k (omega (arith, length-take n bytes)))
+            ∙ sym (cond-false _ _ _ (is_after at (length bytes) k behind))
       ]
     ]
 
@@ -281,7 +281,7 @@ module _ (size number : ℕ) (bytes : List ℕ) where
   run_head [] first some run = absurd (omega arith)
   run_head (p ∷ ps) first some run = run.1
 
-  -- a page, and those behind it
+  -- a page, and those after it
   pub run_starts : (ps : List ℕ) (first n : ℕ) → 0 < length ps → get_or ps 0 0 ≡ first → IsWrittenPage size bytes first
       → IsRun size bytes (first + 1) (take n (drop 1 ps)) → IsRun size bytes first (take (1 + n) ps)
   run_starts [] first n some at w run = absurd (omega arith)

@@ -9,7 +9,7 @@ use Rattle.live_migration.specs.Image.{arrived, copied}
 use Rattle.live_migration.specs.Rounds.{AllStill, Copy, EndRound, Ends, Event, Harvest, IsStill, Send, Write, after, after_copy, after_harvest, after_round, after_send, clean, is_round_over, may_harvest, size_of, story}
 use Rattle.live_migration.proofs.RoundsLemmas.{none_set}
 
--- nothing is dirty, nothing waits, and the two ends are equal, behind the first round
+-- nothing is dirty, nothing waits, and the two ends are equal, after the first round
 pub record IsSettled (s : Ends) : Type 0 where
   pub later : 0 < s.round
   pub waiting : s.waiting ≡ []

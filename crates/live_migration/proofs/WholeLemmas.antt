@@ -170,7 +170,7 @@ module _ (are_listed : kept.AreListed) {B : Type 0} (pages_of : B → PageSet) (
         let s2 = story k.events s1 in
         let end = w.ends.1 in
         let closed = end_sent pages_of begun.digests ts are_listed w.through w.ends.0 s2 k.messages k.sent end in
-        let r = all_go_on pages_of begun.digests ts are_listed w.behind w.ends.0 last (after event.EndRound s2) _ closed w.ends.2 in
+        let r = all_go_on pages_of begun.digests ts are_listed w.later w.ends.0 last (after event.EndRound s2) _ closed w.ends.2 in
         let through = is_through pages_of w.through.sender.rounds w.through.host s2 k.sent.follows end.idle end.through
         in
         let fresh : s1.turn ≡ 0 = g.sent.follows.turn ∙ w.begins in

@@ -6,7 +6,7 @@ use Rattle.std.proofs.lemmas.Bool.{cases_lt, cond-true, cond-false, eqb-true, an
 use Rattle.std.proofs.lemmas.List.{drop-drop, ext_get_or, get_or-drop, get_or-take, length-drop, length-take, take-append-drop, take_all}
 use Rattle.std.proofs.lemmas.List.Folds.{list_all-append}
 use Rattle.live_migration.specs.Image.{are_zero, page_bytes, placed}
-use Rattle.live_migration.proofs.ImageLemmas.{get_or-placed, length-placed, is_before, is_behind, is_inside}
+use Rattle.live_migration.proofs.ImageLemmas.{get_or-placed, length-placed, is_before, is_after, is_inside}
 
 pub zeros_are : (bs : List ℕ) → are_zero bs ≡ true → bs ≡ replicate (length bs) 0
 zeros_are [] e = refl
@@ -71,7 +71,7 @@ placed_own at n image room =
             cond-true _ _ _ (is_inside at (length own) k high (omega (arith, len)))
             ∙ get_or-take n (drop at image) (k - at) 0 (omega arith) ∙ get_or-drop at image (k - at) 0
             ∙ ap (λ (i : ℕ). get_or image i 0) (let same : at + (k - at) ≡ k = omega arith in same)
-        | inr behind ↦ cond-false _ _ _ (is_behind at (length own) k (omega (arith, len)))
+        | inr behind ↦ cond-false _ _ _ (is_after at (length own) k (omega (arith, len)))
       ]
     ])
 

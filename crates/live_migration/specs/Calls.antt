@@ -132,14 +132,14 @@ module _ {B : Type 0} (pages_of : B → PageSet) where
   pub record EndsPaused (first last : Moment B) : Type 0 where
     pub before : List Call
     pub round : List Call
-    pub behind : List Call
+    pub later : List Call
     pub paused : Moment B
     pub through : Moment B
     pub runs : DoAll before first paused
     pub begins : paused.sender.rounds.turn ≡ 0
     pub goes : DoAll round paused through
-    pub ends : DoAll (EndRound ∷ behind) through last
-    pub quiet : AllByRecursion IsQuiet round × AllByRecursion IsQuiet behind
+    pub ends : DoAll (EndRound ∷ later) through last
+    pub quiet : AllByRecursion IsQuiet round × AllByRecursion IsQuiet later
 
 -- a receiver read the whole of a stream, up to leave to run the guest
 pub record ReadsAll {C : Type 0} (made : ℕ → C → Type 0) (marks : C → ℕ → ℕ → C → Type 0) (stream : Option (List ℕ))

@@ -37,7 +37,7 @@ pub record IsEntry (from left : ℕ) (e : BlockEntry) : Type 0 where
   pub short : e.len < 2 ^ 63
   pub paged : 0 < e.page_size
   pub small : e.page_size ≤ 2 ^ 20
-  pub behind : from ≤ e.address
+  pub ascends : from ≤ e.address
   pub addressed : e.address + e.len < 2 ^ 64
   pub allowed : e.len ≤ left
 

@@ -17,20 +17,20 @@ in_round Done = Err Order
 in_round Go = Err Order
 
 -- after the end of a round
-abbrev pub behind_round : Message → Result Stage Refusal
-behind_round Done = Ok stage.Done
-behind_round m = in_round m
+abbrev pub after_round_end : Message → Result Stage Refusal
+after_round_end Done = Ok stage.Done
+after_round_end m = in_round m
 
 -- after done
-abbrev pub behind_done : Message → Result Stage Refusal
-behind_done Go = Ok stage.Gone
-behind_done m = Err Order
+abbrev pub after_done : Message → Result Stage Refusal
+after_done Go = Ok stage.Gone
+after_done m = Err Order
 
 -- the stage after a message
 abbrev pub stage_after : Stage → Message → Result Stage Refusal
 stage_after stage.Round m = in_round m
-stage_after stage.RoundEnded m = behind_round m
-stage_after stage.Done m = behind_done m
+stage_after stage.RoundEnded m = after_round_end m
+stage_after stage.Done m = after_done m
 stage_after stage.Gone m = Err Order
 stage_after stage.Failed m = Err Order
 

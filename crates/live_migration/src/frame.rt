@@ -172,7 +172,7 @@ fn page_bytes(block: u32, page: u64) -> [u8; 12]
     [a, b, c, d, e, f, g, h, i, j, k, l]
 }
 
-#[tactic(auto, using(crate::proofs::PutLemmas::put_behind))]
+#[tactic(auto, using(crate::proofs::PutLemmas::put_after))]
 fn put_two(out: &mut Vec<u8>, first: &[u8], second: &[u8]) -> Result<(), AllocError>
     ensures ok { OnOk result (out.new.items ≡ out.old.items ++ (first.now ++ second.now)) }
     ensures err { OnErr result (take (length out.old.items) out.new.items ≡ out.old.items) }
@@ -182,7 +182,7 @@ fn put_two(out: &mut Vec<u8>, first: &[u8], second: &[u8]) -> Result<(), AllocEr
     Ok(())
 }
 
-#[tactic(auto, using(crate::proofs::PutLemmas::put_behind))]
+#[tactic(auto, using(crate::proofs::PutLemmas::put_after))]
 fn put_section(out: &mut Vec<u8>, name: &[u8], bytes: &[u8]) -> Result<(), AllocError>
     requires { length name.now < 256 }
     ensures ok { OnOk result (out.new.items ≡ out.old.items ++ ((length name.now ∷ name.now) ++ bytes.now)) }
@@ -227,7 +227,7 @@ impl<'a> Frame<'a> {
         }
     }
 
-    // Puts the payload behind other bytes.
+    // Puts the payload after other bytes.
     fn put_payload(&self, out: &mut Vec<u8>) -> Result<(), AllocError>
         requires { IsMessage (message_of self.now) }
         ensures ok { OnOk result (out.new.items ≡ out.old.items ++ payload_of (message_of self.now)) }
@@ -246,7 +246,7 @@ impl<'a> Frame<'a> {
         }
     }
 
-    #[tactic(auto, using(crate::proofs::PutLemmas::put_behind), unfolding(crate::specs::Frame::spelling))]
+    #[tactic(auto, using(crate::proofs::PutLemmas::put_after), unfolding(crate::specs::Frame::spelling))]
     fn put(&self, out: &mut Vec<u8>) -> Result<(), AllocError>
         requires { IsMessage (message_of self.now) }
         ensures ok { OnOk result (out.new.items ≡ out.old.items ++ spelling (message_of self.now)) }

@@ -41,6 +41,8 @@ use vm_memory_base::{Bitmap, ExactBitmap};
 /// After any harvests, copies, sends, round ends and writes that mark what they change, in any order, no page of a
 /// block is lost: it is dirty or due to the first harvest, or waits to be copied, or waits to be sent, or is equal at
 /// both ends.
+///
+/// Witness: tests_migration::send_rounds
 pub fn no_page_is_lost()
     ensures { (events : List Event) (s : Ends) → IsBeginning s → AllMay events s
         → let t = story events s in (block page : ℕ) → block < t.count → IsKept t block page }
@@ -50,6 +52,8 @@ pub fn no_page_is_lost()
 
 /// A stream means one thing: the frames of a stream are decided by its bytes, and so are the options and the blocks of
 /// a header, and what comes after it.
+///
+/// Witness: tests_migration::receive_twice
 pub fn streams_mean_one_thing()
     ensures frames { (ms ns : List Message) → AllByRecursion IsMessage ms → AllByRecursion IsMessage ns
         → flat_map spelling ms ≡ flat_map spelling ns → ms ≡ ns }
@@ -60,6 +64,8 @@ pub fn streams_mean_one_thing()
 /// A write of a host with exact bitmaps marks what it changes: what `Bytes::write` and its kin write, and what a window
 /// of a host gets. Windows that physical addresses reach mark their own block, as do those of a block,
 /// and their parts. Behind an IOMMU that is on they mark a space, and leave the block's bitmap as it is.
+///
+/// Witness: tests_migration::write_bytes, tests_migration::store_number, tests_migration::write_second
 pub fn writes_mark_what_they_change<B: ExactBitmap>()
     ensures changes { (ws : List Window) (bytes : List ℕ) (old new : Host B) → Writes B.marks ws bytes old new
         → MarksChanges ws (with_pages B.pages old) (with_pages B.pages new) }
@@ -83,6 +89,8 @@ pub fn writes_mark_what_they_change<B: ExactBitmap>()
 /// succeed, or are refused and leave the stream, and any writes that mark what they change. There are events that may
 /// come by which the sender does as the rounds say, and once go is sent, a receiver that reads the whole stream has of
 /// each block the image of the rounds. If the guest was paused for a last round, both ends have the same blocks.
+///
+/// Witness: tests_migration::send_rounds, tests_migration::send_whole
 pub fn receivers_have_what_was_sent<B: ExactBitmap, C: Bitmap>()
     ensures rounds { (calls : List Call) (first last : Moment B) → HasBegun B.pages first
         → DoAll B.pages calls first last
@@ -102,12 +110,16 @@ pub fn receivers_have_what_was_sent<B: ExactBitmap, C: Bitmap>()
 }
 
 /// How calls of a sender are put together for the theorem above.
+///
+/// Witness: tests_migration::send_rounds
 pub fn calls_add_up<B: ExactBitmap>()
     ensures { (calls more : List Call) (first mid last : Moment B) → DoAll B.pages calls first mid
         → DoAll B.pages more mid last → DoAll B.pages (calls ++ more) first last }
 {}
 
 /// How frames that a receiver takes one by one are put together: nothing at first, and then one more.
+///
+/// Witness: tests_migration::take_all
 pub fn frames_add_up<C: Bitmap>()
     ensures none { (stream : Option (List ℕ)) (base : ℕ) (entries : List BlockEntry) (host : Host C)
         → ReceivesAll C.marks stream stream base entries host host }
@@ -119,6 +131,8 @@ pub fn frames_add_up<C: Bitmap>()
 
 /// What `abort` leaves: each byte of each block whose pages were harvested is dirty, if the host still has the block
 /// as it was. No byte changed, and no page is clean that was dirty. So a migration that failed loses no page.
+///
+/// Witness: tests_migration::abort_early
 pub fn aborted_rounds_lose_no_page<B: ExactBitmap>()
     ensures { (ts : List Target) (old new : Host B) → AreMarkedAgain B.pages ts old new
         → (new.blocks ≡ old.blocks)
@@ -134,6 +148,8 @@ pub fn aborted_rounds_lose_no_page<B: ExactBitmap>()
 /// A page that the harvester of a `TrackedBitmap` knows to be marked or seen set was harvested in its round, and waits
 /// to be copied, if the words of this harvest are taken. Or it is among those that `close` leaves, for the last
 /// round. A harvest adds its words to those that are known, and no other call does.
+///
+/// Witness: tests_migration::harvest_and_close
 pub fn marks_are_harvested_or_left()
     ensures kept { (harvester : Harvester) (harvests : List (ℕ × List ℕ)) (left : List ℕ) (count word round page : ℕ)
         → (known_by harvester).harvests ≡ noted harvests → IsLeft (known_by harvester) left

@@ -36,8 +36,8 @@ pub(crate) fn stage_after(stage: Stage, frame: &Frame<'_>) -> Result<Stage, Refu
 {
     match stage {
         Stage::Round => in_round(frame),
-        Stage::RoundEnded => behind_round(frame),
-        Stage::Done => behind_done(frame),
+        Stage::RoundEnded => after_round_end(frame),
+        Stage::Done => after_done(frame),
         Stage::Gone | Stage::Failed => Err(Refusal::Order),
     }
 }
@@ -52,7 +52,7 @@ fn in_round(frame: &Frame<'_>) -> Result<Stage, Refusal>
     }
 }
 
-fn behind_round(frame: &Frame<'_>) -> Result<Stage, Refusal>
+fn after_round_end(frame: &Frame<'_>) -> Result<Stage, Refusal>
     ensures { result ≡ stage_after Stage.RoundEnded (message_of frame.now) }
 {
     match frame {
@@ -63,7 +63,7 @@ fn behind_round(frame: &Frame<'_>) -> Result<Stage, Refusal>
     }
 }
 
-fn behind_done(frame: &Frame<'_>) -> Result<Stage, Refusal>
+fn after_done(frame: &Frame<'_>) -> Result<Stage, Refusal>
     ensures { result ≡ stage_after Stage.Done (message_of frame.now) }
 {
     match frame {

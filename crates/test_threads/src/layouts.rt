@@ -385,7 +385,7 @@ fn add_in_turn<R: Wait>(
     Ok(())
 }
 
-// 200 new pages, of which each begins 0x4000 bytes behind the start of the one before.
+// 200 new pages, of which each begins 0x4000 bytes after the start of the one before.
 fn pages_from(
     alloc: Global,
     host: &mut HostMemory<()>,

@@ -80,8 +80,8 @@ fn sources_give_what_they_have(rt: HostRuntime) -> Result<(), Fail> {
     expect_text(0, out.as_str(), READS)
 }
 
-// Seven bytes behind a cursor as a source: two tries, all that is wanted twice, and both past their end.
-fn reads_behind<T>(cursor: &mut Cursor<T>, out: &mut String) -> Result<(), Fail>
+// Seven bytes after a cursor as a source: two tries, all that is wanted twice, and both past their end.
+fn reads_on<T>(cursor: &mut Cursor<T>, out: &mut String) -> Result<(), Fail>
 where
     Cursor<T>: ReadVolatile,
 {
@@ -99,7 +99,7 @@ where
     Ok(())
 }
 
-const BEHIND_A_CURSOR: &str = "\
+const AFTER_A_CURSOR: &str = "\
 Ok(4) [1, 2, 3, 4, 0]
 Ok(3) [5, 6, 7, 0, 0]
 at 7
@@ -115,11 +115,11 @@ at 18446744073709551615
 fn cursors_give_the_bytes_behind_them(rt: HostRuntime) -> Result<(), Fail> {
     let mut bytes = [1u8, 2, 3, 4, 5, 6, 7];
     let mut out = String::new(rt.alloc());
-    reads_behind(&mut Cursor::new(&bytes[..]), &mut out)?;
-    expect_text(0, out.as_str(), BEHIND_A_CURSOR)?;
+    reads_on(&mut Cursor::new(&bytes[..]), &mut out)?;
+    expect_text(0, out.as_str(), AFTER_A_CURSOR)?;
     let mut out = String::new(rt.alloc());
-    reads_behind(&mut Cursor::new(&mut bytes[..]), &mut out)?;
-    expect_text(1, out.as_str(), BEHIND_A_CURSOR)?;
+    reads_on(&mut Cursor::new(&mut bytes[..]), &mut out)?;
+    expect_text(1, out.as_str(), AFTER_A_CURSOR)?;
     assert!(rt; bytes == [1, 2, 3, 4, 5, 6, 7]);
     Ok(())
 }

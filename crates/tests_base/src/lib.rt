@@ -31,3 +31,5 @@ mod told;
 mod value_streams;
 #[cfg(test)]
 mod values;
+#[cfg(test)]
+mod witnesses;

@@ -23,7 +23,7 @@ struct SortedTable {
     alloc: Global,
 }
 
-// Adds a range behind the others, which joins the last one where that touches it and is mapped alike.
+// Adds a range after the others, which joins the last one where that touches it and is mapped alike.
 fn add(ranges: &mut Vec<Mapped>, range: Mapped) -> Result<(), Fail> {
     if let Some(last) = ranges.last_mut() {
         let alike = last.difference == range.difference && last.permissions == range.permissions;

@@ -7,7 +7,7 @@ use std::test::Fail;
 use test_text::next_number;
 use vm_memory_base::{AtomicBitmap, Bitmap, SharedBitmap};
 
-// One call on both: what the bitmap took, if it is one that takes. A page by its number may lie behind the last.
+// One call on both: what the bitmap took, if it is one that takes. A page by its number may lie after the last.
 fn step(
     alloc: Global,
     fast: &mut AtomicBitmap,

@@ -7,7 +7,7 @@ use std::test::Fail;
 use vm_memory_base::{Bitmap, BitmapId, BitmapRef, ExactBitmap, ExclusiveBitmap, NewBitmap};
 
 // Makes marks of a clean bitmap of this page size and number of pages, and takes the dirty pages: the first ones, so
-// many. The bytes before and behind their end are told as they are.
+// many. The bytes before and after their end are told as they are.
 fn harvests_first<B: ExactBitmap>(
     rt: &impl Abort,
     bitmap: &mut B,

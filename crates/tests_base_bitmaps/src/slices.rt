@@ -1,4 +1,4 @@
-//! Slices of bitmaps, and bitmaps behind options.
+//! Slices of bitmaps, and bitmaps in options.
 
 use std::num::NonZeroUsize;
 use std::sync::Arc;

@@ -117,8 +117,8 @@ pub trait Scene<D: Disk> {
     ) -> Result<(), Fail>;
 }
 
-/// Returns what a scene writes, with a device on a disk. A function that names the types of a guest is dear to prove, so
-/// tests call this one.
+/// Returns what a scene writes, with a device on a disk. A function that names the types of a guest is dear to prove,
+/// so tests call this one.
 pub fn told_of<D: Disk, S: Scene<D>>(
     alloc: Global,
     scattered: bool,
@@ -161,7 +161,7 @@ impl<M: GuestMemory, B: Bitmap, D: Disk> Bench<M, B, D> {
         Ok(bytes)
     }
 
-    // Puts the descriptor of a segment, with the next one behind it where there is one.
+    // Puts the descriptor of a segment, with the next one after it where there is one.
     fn put_part(&mut self, index: u16, part: Part, next: bool) -> Result<(), Fail> {
         let (addr, len, writable) = part;
         let flags = u16::from(next) + 2 * u16::from(writable);

@@ -92,7 +92,7 @@ fn tell_failure<M: GuestMemory, B: Bitmap>(
     Ok(())
 }
 
-// How many bytes of the disk are 9, and how many behind them are 7.
+// How many bytes of the disk are 9, and how many after them are 7.
 fn tell_disk<M: GuestMemory, B: Bitmap>(
     bench: &Bench<M, B, Failing>,
     told: &mut String,

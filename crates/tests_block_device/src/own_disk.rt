@@ -4,13 +4,13 @@ ghost use Rattle.virtio_blk.specs.Steps.{FitsOn};
 ghost use Rattle.vm_memory_guest.specs.Host.{shape_of, Holds};
 
 use crate::bench::NAME;
-use virtio_blk::{Request, Terms, VIRTIO_BLK_S_IOERR, VIRTIO_BLK_S_OK, begin, finish};
+use virtio_blk::{DeviceLimits, Request, VIRTIO_BLK_S_IOERR, VIRTIO_BLK_S_OK, begin, finish};
 use vm_memory_base::Bitmap;
 use vm_memory_device::Chain;
 use vm_memory_guest::{GuestMemory, GuestMemoryResult, HostMemory};
 
-/// Does what a request asks for, and returns its status and how many bytes it moved to the front of the chain's writable
-/// ones.
+/// Does what a request asks for, and returns its status and how many bytes it moved to the front of the chain's
+/// writable ones.
 pub fn perform<M: GuestMemory, B: Bitmap>(
     disk: &mut [u8],
     request: Request,
@@ -52,8 +52,8 @@ pub fn perform<M: GuestMemory, B: Bitmap>(
     (VIRTIO_BLK_S_OK, moved)
 }
 
-/// Serves a request on a disk of bytes, of a driver that accepted these features, and returns the length for `add_used`.
-/// After an error the caller makes the call again when the mapping came.
+/// Serves a request on a disk of bytes, of a driver that accepted these features, and returns the length for
+/// `add_used`. After an error the caller makes the call again when the mapping came.
 pub fn serve<M: GuestMemory, B: Bitmap>(
     disk: &mut [u8],
     acked: u64,
@@ -64,14 +64,14 @@ pub fn serve<M: GuestMemory, B: Bitmap>(
     requires { Holds (shape_of host.old) (M.names memory.now) }
     ensures { shape_of host.new ≡ shape_of host.old }
 {
-    let terms = Terms {
+    let limits = DeviceLimits {
         sectors: (disk.len() / 512) as u64,
         read_only: false,
         acked,
         seg_max: None,
         size_max: None,
     };
-    let request = begin(terms, memory, host, chain)?;
+    let request = begin(limits, memory, host, chain)?;
     let (status, moved) = perform(disk, request, memory, host, chain);
     finish(memory, host, chain, status, moved)
 }

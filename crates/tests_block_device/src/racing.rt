@@ -3,7 +3,7 @@ ghost use Rattle.std.specs.Prelude.{ℕ};
 
 use std::test::Fail;
 use test_text::expect_text;
-use virtio_blk::{Fetches, Puts, Terms, begin_from, finish_from};
+use virtio_blk::{DeviceLimits, Fetches, Puts, begin_from, finish_from};
 use vm_memory_base::GuestAddress;
 use vm_memory_device::{Chain, ChainReader, ChainWriter, Segment};
 use vm_memory_guest::GuestMemoryResult;
@@ -49,7 +49,7 @@ fn headers_are_what_the_first_looks_found(rt: HostRuntime) -> Result<(), Fail> {
         })?;
     }
     let chain = Chain::new(segments)?;
-    let terms = Terms {
+    let limits = DeviceLimits {
         sectors: 2,
         read_only: false,
         acked: 0,
@@ -61,7 +61,7 @@ fn headers_are_what_the_first_looks_found(rt: HostRuntime) -> Result<(), Fail> {
         stores: 0,
         status: 9,
     };
-    let request = begin_from(terms, &mut guest, &chain)?;
+    let request = begin_from(limits, &mut guest, &chain)?;
     let len = finish_from(&mut guest, &chain, 0, 512)?;
     let told = format!(in rt.alloc();
         "{request:?} {len} {} {} {}",

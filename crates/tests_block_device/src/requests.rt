@@ -221,7 +221,7 @@ static CASES: [Case; 44] = [
         &[H, (DATA, 512, true), (HOLE, 1, true)],
         "512 255 [1, 2, 3, 4] 512",
     ),
-    // The status is the last byte of a longer segment, and of a segment of its own behind an empty one.
+    // The status is the last byte of a longer segment, and of a segment of its own after an empty one.
     (
         false,
         0,
@@ -384,17 +384,17 @@ const PARTLY: [(u32, &[Part], &str, &str); 2] = [
 
 #[test]
 fn accesses_end_where_memory_does(rt: HostRuntime) -> Result<(), Fail> {
-    for (number, (kind, parts, plain, behind)) in PARTLY.iter().enumerate() {
+    for (number, (kind, parts, plain, translated)) in PARTLY.iter().enumerate() {
         let case = (false, *kind, 1, *parts, "");
         let text = told(rt.alloc(), &case, false)?;
         expect_text(number, text.as_str(), plain)?;
         let text = told(rt.alloc(), &case, true)?;
-        expect_text(number, text.as_str(), behind)?;
+        expect_text(number, text.as_str(), translated)?;
     }
     Ok(())
 }
 
-// Writes two sectors from memory, cut behind so many bytes, and reads them back to another place, cut there too.
+// Writes two sectors from memory, cut after so many bytes, and reads them back to another place, cut there too.
 fn cut_at<M: GuestMemory, B: Bitmap>(
     alloc: Global,
     bench: &mut Bench<M, B, MemoryDisk>,
@@ -403,13 +403,13 @@ fn cut_at<M: GuestMemory, B: Bitmap>(
     let data: Vec<u8> = (0..1024).map(|i| (i * 7 % 251) as u8).collect(alloc)?;
     bench.put(DATA, data.as_slice())?;
     let rest = 1024u32.saturating_sub(cut);
-    let behind = DATA + 0x4000 + cut as u64;
+    let second = DATA + 0x4000 + cut as u64;
     let from = [H, (DATA, cut, false), (DATA + cut as u64, rest, false), S];
     let wrote = bench.ask(header_of(1, 2), &from)?;
-    let to = [H, (DATA + 0x8000, cut, true), (behind, rest, true), S];
+    let to = [H, (DATA + 0x8000, cut, true), (second, rest, true), S];
     let read = bench.ask(header_of(0, 2), &to)?;
     let front = bench.get(alloc, DATA + 0x8000, cut as usize)?;
-    let back = bench.get(alloc, behind, rest as usize)?;
+    let back = bench.get(alloc, second, rest as usize)?;
     let disk = bench.device.disk().bytes();
     let same = Some(front.as_slice()) == data.as_slice().get(..cut as usize)
         && Some(back.as_slice()) == data.as_slice().get(cut as usize..);
@@ -429,7 +429,7 @@ fn cut_anywhere<M: GuestMemory, B: Bitmap>(
     Ok(())
 }
 
-// Cuts a header behind so many bytes, and before the status. Fails where its request is not served then.
+// Cuts a header after so many bytes, and before the status. Fails where its request is not served then.
 fn header_cut_at<M: GuestMemory, B: Bitmap>(
     bench: &mut Bench<M, B, MemoryDisk>,
     cut: u32,

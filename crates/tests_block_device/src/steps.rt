@@ -79,7 +79,7 @@ fn tell_waiting<M: GuestMemory, B: Bitmap>(
     tell_served(bench, &mut [], &chain, told)
 }
 
-// A part of the device's name is told, and no byte behind it changes.
+// A part of the device's name is told, and no byte after it changes.
 fn expect_name<M: GuestMemory, B: Bitmap>(
     alloc: Global,
     bench: &Bench<M, B, MemoryDisk>,

@@ -63,7 +63,8 @@ fn place_in<M: GuestMemoryBackend>(backend: &M, addr: GuestAddress) -> Option<(u
     Some((region.start_addr().0, offset.0))
 }
 
-// Whether a search near a region finds, for the first and the last of 0x1000 addresses, what a search without one finds.
+// Whether a search near a region finds, for the first and the last of 0x1000 addresses, what a search without one
+// finds.
 fn finds_alike(layout: &GuestRegionCollection<TestRegion>, page: u64, hint: usize) -> bool {
     [0u64, 0xfff].iter().all(|offset| {
         let addr = GuestAddress(page.wrapping_mul(0x1000).wrapping_add(*offset));

@@ -1,5 +1,5 @@
-//! Tests of values in guest memory, of questions about ranges and accesses by a callback, of snapshots of memory that is
-//! replaced, and of the texts of errors.
+//! Tests of values in guest memory, of questions about ranges and accesses by a callback, of snapshots of memory that
+//! is replaced, and of the texts of errors.
 #![tactic(auto)]
 
 #[cfg(test)]

@@ -68,9 +68,12 @@ fn a_socket_that_ends_or_fails_leaves_what_came(rt: HostRuntime) -> Result<(), F
 
 // A file that was opened to be written fails each read.
 const FILES: [&str; 3] = [
-    "Err(IOError(Os { code: 9, kind: Uncategorized, message: \"Bad file descriptor\" })) [1, 2, 3, 4, 170, 170, 170, 170]",
-    "Err(IOError(Os { code: 9, kind: Uncategorized, message: \"Bad file descriptor\" })) [170, 170, 170, 170, 170, 5, 6, 170]",
-    "Err(IOError(Os { code: 9, kind: Uncategorized, message: \"Bad file descriptor\" })) [170, 170, 170, 170, 170, 170, 170, 170]",
+    "Err(IOError(Os { code: 9, kind: Uncategorized, message: \"Bad file descriptor\" })) [1, 2, 3, 4, 170, 170, 170, \
+     170]",
+    "Err(IOError(Os { code: 9, kind: Uncategorized, message: \"Bad file descriptor\" })) [170, 170, 170, 170, 170, 5, \
+     6, 170]",
+    "Err(IOError(Os { code: 9, kind: Uncategorized, message: \"Bad file descriptor\" })) [170, 170, 170, 170, 170, \
+     170, 170, 170]",
 ];
 
 const FULL: &str =

@@ -286,7 +286,7 @@ fn told_of_views<B: Bitmap>(
     let array = window.get_array_ref::<u16>(1, 3)?;
     let none = window.get_array_ref::<u16>(8, 0)?;
     let (rest, part) = (window.offset(3)?, window.subslice(2, 4)?);
-    let (front, behind) = window.split_at(3)?;
+    let (front, back) = window.split_at(3)?;
     let mut text = String::new(alloc);
     for (window, empty, bitmap) in [
         (value.to_slice(), false, value.bitmap()),
@@ -294,7 +294,7 @@ fn told_of_views<B: Bitmap>(
         (none.to_slice(), none.is_empty(), none.bitmap()),
         (rest, false, rest.bitmap()),
         (front, false, front.bitmap()),
-        (behind, false, behind.bitmap()),
+        (back, false, back.bitmap()),
         (part, false, part.bitmap()),
     ] {
         if !host.holds(&window) {

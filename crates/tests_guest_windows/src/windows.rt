@@ -204,7 +204,7 @@ const CELL_VALUES: &str =
                            Err(PartialBuffer { expected: 8, completed: 4 }) Err(OutOfBounds { addr: 8 }) \
                            [0, 0, 0, 0, 255, 255, 255, 255]";
 
-// A value in the second cell of a window, one that goes past the last cell, written and read, and one behind it.
+// A value in the second cell of a window, one that goes past the last cell, written and read, and one after it.
 #[test]
 fn a_type_of_its_own_gives_access_to_bytes(rt: HostRuntime) -> Result<(), Fail> {
     let mut host: HostMemory<()> = HostMemory::new(rt.alloc());
@@ -215,11 +215,11 @@ fn a_type_of_its_own_gives_access_to_bytes(rt: HostRuntime) -> Result<(), Fail> 
     let whole = cells.read_obj::<u64, ()>(&host, 0);
     let past = cells.write_obj(&mut host, u64::MAX, 1);
     let short = cells.read_obj::<u64, ()>(&host, 1);
-    let behind = cells.read_obj::<u64, ()>(&host, 2);
+    let later = cells.read_obj::<u64, ()>(&host, 2);
     let mut bytes = [7; 8];
     window.read_slice(&host, &mut bytes, 0)?;
     let told = format!(in rt.alloc();
-        "{wrote:?} {whole:?} {past:?} {short:?} {behind:?} {bytes:?}"
+        "{wrote:?} {whole:?} {past:?} {short:?} {later:?} {bytes:?}"
     )?;
     expect_text(0, told.as_str(), CELL_VALUES)
 }

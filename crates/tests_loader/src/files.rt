@@ -9,7 +9,7 @@ use std::test::Fail;
 use vm_memory_base::{Bitmap, ReadVolatile, VolatileMemoryResult};
 use vm_memory_guest::{GuestMemory, HostMemory};
 
-// Where four bytes that are the case's number lie, behind which a file ends.
+// Where four bytes that are the case's number lie, after which a file ends.
 const PLACES: [u64; 9] = [
     0,
     0x7fff_fffc,

@@ -87,8 +87,8 @@ pub const ELF: [Edit; 32] = [
 /// How many bytes the small bzImage has.
 pub const BZ_SIZE: usize = 0x410;
 
-/// The small bzImage: a boot sector, one sector of setup code and a kernel of 16 bytes, loaded at 0x11f8. It moves itself
-/// to run at 0x1100, and needs 16 bytes there.
+/// The small bzImage: a boot sector, one sector of setup code and a kernel of 16 bytes, loaded at 0x11f8. It moves
+/// itself to run at 0x1100, and needs 16 bytes there.
 pub const BZ: [Edit; 11] = [
     (0x1f1, 1, 1),
     (0x201, 1, 0x66),

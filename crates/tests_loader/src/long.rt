@@ -66,7 +66,8 @@ fn long_command_lines(rt: HostRuntime) -> Result<(), Fail> {
 
 const ENTRY: u64 = 0x1234_5678;
 
-// The small ELF file with so many bytes of notes at its end: one of another kind that fills them, and that of the entry.
+// The small ELF file with so many bytes of notes at its end: one of another kind that fills them, and that of the
+// entry.
 fn file_of(alloc: Global, count: u64) -> Result<Vec<u8>, Fail> {
     let start = ELF_SIZE as u64;
     let mut file = image_of(alloc, ELF_SIZE.saturating_add(count as usize), &ELF)?;

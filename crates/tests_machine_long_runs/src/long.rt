@@ -60,7 +60,7 @@ pub fn expect_long(alloc: Global, scripts: &[(Rows, Rows)]) -> Result<(), Fail> 
 
 // A thousand blocks of a byte each lie one after the other, in two layouts. I/O address 1000 leads to the last of
 // them, the next to the one before, and so on. Accesses and transfers reach all of them. At last every fourth mapping
-// is taken out, and the one behind it is for reads alone.
+// is taken out, and the one after it is for reads alone.
 const THOUSAND: (Rows, Rows) = (
     &[
         (1000, &[Text("block 1 1\n")]),
@@ -353,7 +353,7 @@ const MEBIBYTE_TWICE: (Rows, Rows) = (
     ],
 );
 
-// A mebibyte comes from a source that gives it in two halves and is interrupted behind each, and goes to a sink.
+// A mebibyte comes from a source that gives it in two halves and is interrupted after each, and goes to a sink.
 const MEBIBYTE_MOVED: (Rows, Rows) = (
     &[
         (
@@ -520,7 +520,7 @@ const LONG_COMMENT_AND_STEPS: (Rows, Rows) = (
     ],
 );
 
-// A bad line behind many that are none.
+// A bad line after many that are none.
 const LATE_LINE: (Rows, Rows) = (
     &[
         (70_000, &[Text("# "), Number(1, 0), Text("\n")]),

@@ -75,8 +75,8 @@ fn sends_no_more(alloc: Global, sender: &mut Sender) -> bool {
     all && stream.is_empty() && input.len() == replies.len()
 }
 
-// Moves a guest to an empty host over a connection that is cut after so many bytes. Where it is cut, all pages that were
-// harvested are dirty again. Answers whether it was not cut and the blocks are equal.
+// Moves a guest to an empty host over a connection that is cut after so many bytes. Where it is cut, all pages that
+// were harvested are dirty again. Answers whether it was not cut and the blocks are equal.
 fn tried<B: ExactBitmap, C: NewBitmap + Drop>(
     alloc: Global,
     host: &mut HostMemory<B>,
@@ -116,7 +116,7 @@ const HEADER: usize = 20 + 2 * 24;
 
 const FIRST_BLOCK: usize = 20 + 20 + 21;
 
-// How many pages of each block are dirty after a try that was cut behind so many bytes: those of a block that was
+// How many pages of each block are dirty after a try that was cut after so many bytes: those of a block that was
 // harvested are again, also what no one had written.
 fn dirty_after(left: usize) -> (usize, usize) {
     if left < HEADER {
@@ -128,8 +128,8 @@ fn dirty_after(left: usize) -> (usize, usize) {
     }
 }
 
-// Answers whether a try was not cut. Where it was, fails if other pages are dirty than ought to be, or the next try does
-// not move all to another empty host.
+// Answers whether a try was not cut. Where it was, fails if other pages are dirty than ought to be, or the next try
+// does not move all to another empty host.
 fn is_whole<B: ExactBitmap, C: NewBitmap + Drop>(
     alloc: Global,
     host: &mut HostMemory<B>,

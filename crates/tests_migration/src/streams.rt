@@ -10,10 +10,10 @@ use test_text::expect_text;
 use vm_memory_base::NewBitmap;
 use vm_memory_guest::{BlockId, HostMemory};
 
-/// A stream in words: `m` is the magic word, `4,7` a number of 32 bits, `8,7` one of 64, `x,01ff` bytes, `z,3` N
-/// zeros, `e,0` the end of a round with the digest of all before it, and `n,0` one with none; numbers are hexadecimal.
-/// `a` is a header that asks for digests, of a block of 5 bytes in pages of 2 and one of 3 bytes in a page of 4, and `b`
-/// the same that asks for none. Then the bytes of both blocks, or why the receiver refused.
+/// A stream in words: `m` is the magic word, `4,7` a number of 32 bits, `8,7` one of 64, `x,01ff` bytes, `z,3` N zeros,
+/// `e,0` the end of a round with the digest of all before it, and `n,0` one with none; numbers are hexadecimal. `a` is
+/// a header that asks for digests, of a block of 5 bytes in pages of 2 and one of 3 bytes in a page of 4, and `b` the
+/// same that asks for none. Then the bytes of both blocks, or why the receiver refused.
 pub(crate) const CASES: [(&str, &str); 78] = [
     // Pages, one after the other and alone, zeros, cut pages, rounds, sections.
     ("a e,0 4,5 4,0 4,6 4,0", "[0, 0, 0, 0, 0] [0, 0, 0]"),

@@ -16,7 +16,7 @@ pub struct Given {
     // How many reads and writes there were.
     pub reads: usize,
     pub writes: usize,
-    // Whether it ends behind its bytes. Else nothing more comes.
+    // Whether it ends after its bytes. Else nothing more comes.
     pub ends: bool,
     // Whether a reply of 20 bytes comes only for a message of 44 that was written, and so many messages later.
     pub answers: bool,

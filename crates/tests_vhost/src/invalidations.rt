@@ -61,8 +61,8 @@ static OTHERS: [((u64, u64), u8, u8); 5] = [
 ];
 
 // What QEMU sends for a guest that runs its IOMMU lazily: a page near 2^32 is mapped, and all addresses but those of
-// interrupts are invalidated in two messages. Each has its range, its user address, its permissions, its kind, and which
-// bytes are mapped after it.
+// interrupts are invalidated in two messages. Each has its range, its user address, its permissions, its kind, and
+// which bytes are mapped after it.
 static LAZY: [((u64, u64), u64, u8, u8, &str); 3] = [
     ((0xffff_d000, 0x1000), 0x7fff_0000_0000, 3, 2, "..m."),
     ((0, 0xfee0_0000), 0, 0, 3, "..m."),

@@ -22,7 +22,7 @@ enum Ask {
 
 // The limit of the table, the request, what the front end sends, its replies on the back end's own channel, and what
 // comes of it: the answer, the messages of the back end, and the values of its replies. The front end's replies come
-// behind the messages that they are for, or early, or late, which is one message later.
+// after the messages that they are for, or early, or late, which is one message later.
 //
 // `u3` is an UPDATE of page 3, `r3` one for reads alone, `i3` an INVALIDATE; `e3` an UPDATE of nothing, `v3` one of
 // another version, `a3` one of memory that was not announced. Messages of other requests are `k`, without a payload,
@@ -33,11 +33,11 @@ type Case = (usize, Ask, &'static str, &'static str, &'static str);
 static CASES: [Case; 38] = [
     // The page is there before.
     (2, NEAR, "+u0", "", "Ok;;"),
-    // A miss of the first byte, and of one behind a page that is there.
+    // A miss of the first byte, and of one after a page that is there.
     (2, NEAR, "u0", "0", "Ok; miss0.8r;"),
     (2, ACROSS, "+u0 u1", "0", "Ok; miss1.0r;"),
     (2, Ask::Write(8, 1), "u0", "0", "Ok; miss0.8w;"),
-    // The mapping comes before the reply, behind it, and without one.
+    // The mapping comes before the reply, after it, and without one.
     (2, NEAR, "u0", "", "Ok; miss0.8r;"),
     // A miss at each of eight pages.
     (64, ALL, EACH, "", EIGHT),
@@ -169,13 +169,13 @@ fn put_numbers(out: &mut Vec<u8>, numbers: &[u64]) -> Result<(), Fail> {
     Ok(())
 }
 
-// The page of a word, which is the number behind its first letter.
+// The page of a word, which is the number after its first letter.
 fn page_of(word: &str) -> u64 {
     let digit = byte_at(word.as_bytes(), 1);
     u64::from(digit.wrapping_sub(b'0') % 16)
 }
 
-// Puts what a word sends behind other bytes.
+// Puts what a word sends after other bytes.
 fn put_word(out: &mut Vec<u8>, word: &str, flags: u32) -> Result<(), Fail> {
     let page = page_of(word);
     match byte_at(word.as_bytes(), 0) {
@@ -236,7 +236,7 @@ fn put_word(out: &mut Vec<u8>, word: &str, flags: u32) -> Result<(), Fail> {
 }
 
 // What words send, each with its flags: version 1, and whether a reply is asked for. `front` are those in front of the
-// request, or else those behind it.
+// request, or else those after it.
 fn sent(alloc: Global, words: &str, front: bool) -> Result<Vec<u8>, Fail> {
     let mut out = Vec::new(alloc);
     for word in words.split(' ') {
@@ -348,7 +348,7 @@ fn asked(
     }
 }
 
-// The address of guest memory that a byte so far behind the first page is.
+// The address of guest memory that a byte so far after the first page is.
 fn target_at(offset: u64) -> u64 {
     target_of(offset / PAGE).wrapping_add(offset % PAGE)
 }
@@ -451,7 +451,7 @@ fn tell_answers(alloc: Global, text: &mut String, output: &[u8]) -> Result<(), F
     Ok(())
 }
 
-// Makes a request behind the messages that come in front of it.
+// Makes a request after the messages that come in front of it.
 fn handled_and_made(
     alloc: Global,
     world: &mut World,

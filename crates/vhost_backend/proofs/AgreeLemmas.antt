@@ -11,7 +11,7 @@ use Rattle.virtio_queue.specs.declared.error.QueueError.TheVariants as errors
 use Rattle.virtio_queue.specs.declared.packed.state.PackedBuffer.{PackedBuffer}
 use Rattle.virtio_blk.specs.declared.request.Request.{Request}
 use Rattle.virtio_blk.specs.declared.request.Request.TheVariants.{Refused}
-use Rattle.virtio_blk.specs.declared.request.Terms.{Terms}
+use Rattle.virtio_blk.specs.declared.request.DeviceLimits.{DeviceLimits}
 use Rattle.vhost_backend.proofs.OnceLemmas.{step_keeps}
 use Rattle.vhost_backend.proofs.TurnLemmas.{nothing_popped}
 use Rattle.vhost_backend.specs.Block.{block_parts, len_of}
@@ -154,7 +154,7 @@ refused_is (errors.InvalidChain fault) = inr refl
 refused_is errors.InvalidUsedEntry = inr refl
 refused_is errors.Memory = inl refl
 
-module _ {H : Type 0} (step : H → (s : MemoryStep) → Returned s → H → Type 0) (terms : Terms) (q : BlockQueueState)
+module _ {H : Type 0} (step : H → (s : MemoryStep) → Returned s → H → Type 0) (terms : DeviceLimits) (q : BlockQueueState)
     (r : RingState) (agrees : Agrees q r) (same : length q.asked ≡ length r.requests) (runs : may_run r ≡ true) where
   -- one more is under way if the ring takes a chain
   abbrev Grows : RingEvent → BlockQueueState → Type 0

@@ -11,7 +11,7 @@ use Rattle.virtio_queue.specs.Packed.{to_bits}
 use Rattle.virtio_queue.specs.PackedEvents.{kick_flags}
 use Rattle.virtio_queue.specs.PackedRing.{is_available}
 use Rattle.virtio_queue.specs.PackedUsed.{is_out, rest_bytes, used_flags}
-use Rattle.virtio_queue.specs.Rings.{behind, slot}
+use Rattle.virtio_queue.specs.Rings.{index_after, slot}
 use Rattle.virtio_queue.specs.Used.{entry_bytes}
 use Rattle.virtio_queue.specs.declared.any.AnyQueue.{AnyQueue}
 use Rattle.virtio_queue.specs.declared.any.AnyQueue.TheVariants.{Split, Packed}
@@ -76,7 +76,7 @@ return_covered (Split q) buffer len = go q.state.ready (nat_le q.state.size buff
 
     go : (ready past : Bool) → Stores (Covered (return_marks (Split q))) (if_ready ready (if past
         then gives (Err errors.InvalidDescriptorIndex)
-        else handing s.used_ring (4 + 8 * slot s.size s.next_used) (entry_bytes buffer.id len) 2 (behind s.next_used)))
+        else handing s.used_ring (4 + 8 * slot s.size s.next_used) (entry_bytes buffer.id len) 2 (index_after s.next_used)))
     go false past = tt
     go true true = tt
     go true false = λ a window. (inl (omega arith, omega arith), (inr (inl (omega arith, omega arith)), tt))

@@ -11,7 +11,7 @@ use Rattle.virtio_queue.specs.declared.packed.state.PackedBuffer.{PackedBuffer}
 use Rattle.virtio_blk.specs.Steps.{FitsOn}
 use Rattle.virtio_blk.specs.declared.request.Request.{Request}
 use Rattle.virtio_blk.specs.declared.request.Request.TheVariants.{Read, Write, Flush, GetId, Refused, Unserved}
-use Rattle.virtio_blk.specs.declared.request.Terms.{Terms}
+use Rattle.virtio_blk.specs.declared.request.DeviceLimits.{DeviceLimits}
 use Rattle.vhost_backend.proofs.OwnWayLemmas.{get-replicate, get-set_other, get-set_same}
 use Rattle.vhost_backend.specs.Block.{Short, len_of}
 use Rattle.vhost_backend.specs.BlockQueue.{AllShort, Begins, BlockQueueState, shortened, with_queue}
@@ -54,7 +54,7 @@ short_request sectors r fits small = elim (cases_lt (len_of r) (2 ^ 32)) [
 ]
 
 -- a queue that goes back to where it stood
-pub popped_begins : {H : Type 0} (step : H → (s : MemoryStep) → Returned s → H → Type 0) (terms : Terms)
+pub popped_begins : {H : Type 0} (step : H → (s : MemoryStep) → Returned s → H → Type 0) (terms : DeviceLimits)
     (q : BlockQueueState) (back queue : AnyQueue) (buffer : PackedBuffer) (chain : List Segment) (old : H) (a : Pop)
     (new_q : BlockQueueState) (new : H) → back ≡ q.queue → queue ≡ past q.queue buffer
     → Begins step terms back (with_queue q queue) buffer chain old a new_q new

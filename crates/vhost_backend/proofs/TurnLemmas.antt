@@ -9,7 +9,7 @@ use Rattle.virtio_queue.specs.declared.error.QueueError.TheVariants as errors
 use Rattle.virtio_queue.specs.declared.packed.state.PackedBuffer.{PackedBuffer}
 use Rattle.virtio_blk.specs.declared.request.Request.{Request}
 use Rattle.virtio_blk.specs.declared.request.Request.TheVariants.{Refused}
-use Rattle.virtio_blk.specs.declared.request.Terms.{Terms}
+use Rattle.virtio_blk.specs.declared.request.DeviceLimits.{DeviceLimits}
 use Rattle.vhost_backend.specs.BlockQueue.{AfterAsk, AfterPop, Asks, BlockQueueState, FoundNone, HappensNext, Pops, Waits, begun, event_of, has_place, popped, refused, with_queue}
 use Rattle.vhost_backend.specs.RingMemory.{MemoryStep, Returned, pops}
 use Rattle.vhost_backend.specs.RingMemory as memory
@@ -48,7 +48,7 @@ begun_some : (back : AnyQueue) (q : BlockQueueState) (buffer : PackedBuffer) (ch
 begun_some back q buffer chain (Ok request) is = absurd (cc)
 begun_some back q buffer chain (Err e) is = absurd (cc)
 
-module _ {H : Type 0} (step : H → (s : MemoryStep) → Returned s → H → Type 0) (terms : Terms) where
+module _ {H : Type 0} (step : H → (s : MemoryStep) → Returned s → H → Type 0) (terms : DeviceLimits) where
   -- a pop found nothing: the queue is as it was
   pub nothing_popped : (q q' : BlockQueueState) (old new : H) → Pops step terms q old pop.None q' new
       → (q' ≡ q) × step old (pops q.queue) (Ok None) new

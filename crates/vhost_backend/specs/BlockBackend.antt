@@ -1,7 +1,7 @@
 -- A block device's back end as a whole: what each event makes of it, and what is to be done, step by step.
 use Rattle.std.specs.Prelude.{◌≡◌, ℕ, ◌+◌, ◌-◌, ◌^◌, ◌==◌, ◌&&◌, not, min, nat_lt, bit_and, Bool, true, false, if◌then◌else◌, List, [], length, drop, slice_get, slice_set, Option, Some, None, is_none, is_some, Result, Ok, Err, MatchOption, MatchResult}
 use Rattle.std.specs.Int.{to_le_bytes, w64}
-use Rattle.virtio_blk.specs.declared.request.Terms.{Terms}
+use Rattle.virtio_blk.specs.declared.request.DeviceLimits.{DeviceLimits}
 use Rattle.virtio_queue.specs.declared.error.QueueError.{QueueError}
 use Rattle.vhost_message.specs.declared.header.Header.{Header}
 use Rattle.vhost_message.specs.declared.regions.MemoryRegion.{MemoryRegion}
@@ -55,7 +55,7 @@ abbrev pub limit_if : Bool → ℕ → Option ℕ
 limit_if true limit = Some limit
 limit_if false limit = None
 
-abbrev pub terms_by : Limits → ℕ → Terms
+abbrev pub terms_by : Limits → ℕ → DeviceLimits
 terms_by limits acked = record {
   sectors = min limits.sectors (2 ^ 55 - 1);
   read_only = limits.read_only;
@@ -64,7 +64,7 @@ terms_by limits acked = record {
   size_max = limit_if (not (bit_and acked 2 == 0)) limits.size_max;
 }
 
-abbrev pub terms_of : BlockBackend → Terms
+abbrev pub terms_of : BlockBackend → DeviceLimits
 terms_of w = terms_by w.limits w.backend.connection.features
 
 -- ---- whether something is left to be done

@@ -9,7 +9,7 @@ use Rattle.virtio_queue.specs.declared.error.QueueError.TheVariants as errors
 use Rattle.virtio_queue.specs.declared.packed.state.PackedBuffer.{PackedBuffer}
 use Rattle.virtio_blk.specs.declared.request.Request.{Request}
 use Rattle.virtio_blk.specs.declared.request.Request.TheVariants.{Refused}
-use Rattle.virtio_blk.specs.declared.request.Terms.{Terms}
+use Rattle.virtio_blk.specs.declared.request.DeviceLimits.{DeviceLimits}
 use Rattle.vhost_backend.specs.Block.{Short, block_parts, len_of, status_of, written_of}
 use Rattle.vhost_backend.specs.Marks.{Marks, asking_marks, chain_marks, return_marks}
 use Rattle.vhost_backend.specs.Ring.{RingState, Step}
@@ -91,14 +91,14 @@ gave (Err e) = back.Broken e
 
 module _ {H : Type 0} (step : H → (s : MemoryStep) → Returned s → H → Type 0) where
   -- a chain was popped: its header is read, if it can be under way. If not, it breaks the ring, which the event says
-  abbrev pub Begins : Terms → AnyQueue → BlockQueueState → PackedBuffer → List Segment → H → Pop → BlockQueueState → H
+  abbrev pub Begins : DeviceLimits → AnyQueue → BlockQueueState → PackedBuffer → List Segment → H → Pop → BlockQueueState → H
       → Type 0
   Begins terms back q buffer chain old a q' new = MatchBool (has_place q buffer.id)
       ((r : Result Request GuestMemoryError) × step old (begins terms chain) r new
       × ((a, q') ≡ begun back q buffer chain r))
       ((a ≡ popped buffer (Refused 1)) × (q' ≡ q) × (new ≡ old))
 
-  abbrev pub PopsBy : Terms → BlockQueueState → Result (Option (PackedBuffer × List Segment)) QueueError → H → Pop
+  abbrev pub PopsBy : DeviceLimits → BlockQueueState → Result (Option (PackedBuffer × List Segment)) QueueError → H → Pop
       → BlockQueueState → H → Type 0
   PopsBy terms q (Ok (Some p)) old a q' new =
       Begins terms q.queue (with_queue q (past q.queue p.0)) p.0 p.1 old a q' new
@@ -106,7 +106,7 @@ module _ {H : Type 0} (step : H → (s : MemoryStep) → Returned s → H → Ty
   PopsBy terms q (Err e) old a q' new = (a ≡ refused e) × (q' ≡ q) × (new ≡ old)
 
   -- the next chain is popped, if there is one
-  abbrev pub Pops : Terms → BlockQueueState → H → Pop → BlockQueueState → H → Type 0
+  abbrev pub Pops : DeviceLimits → BlockQueueState → H → Pop → BlockQueueState → H → Type 0
   Pops terms q old a q' new = (r : Result (Option (PackedBuffer × List Segment)) QueueError) × (mid : H)
       × step old (pops q.queue) r mid × PopsBy terms q r mid a q' new
 
@@ -120,22 +120,22 @@ module _ {H : Type 0} (step : H → (s : MemoryStep) → Returned s → H → Ty
       × (((r ≡ Ok false) × (new ≡ asked)) ⊎ ((r ≡ Ok true) × step asked (pops q) (Ok None) new))
 
   -- if there is none, the driver is asked to notify. If there is one by then, it is popped
-  abbrev pub AfterAsk : Terms → BlockQueueState → Result Bool QueueError → H → Option RingEvent → BlockQueueState → H
+  abbrev pub AfterAsk : DeviceLimits → BlockQueueState → Result Bool QueueError → H → Option RingEvent → BlockQueueState → H
       → Type 0
   AfterAsk terms q (Ok true) old a q' new = (found : Pop) × Pops terms q old found q' new × (a ≡ event_of found)
   AfterAsk terms q (Ok false) old a q' new = (a ≡ Some Emptied) × (q' ≡ q) × (new ≡ old)
   AfterAsk terms q (Err e) old a q' new = (a ≡ event_of (refused e)) × (q' ≡ q) × (new ≡ old)
 
-  abbrev pub Waits : Terms → BlockQueueState → H → Option RingEvent → BlockQueueState → H → Type 0
+  abbrev pub Waits : DeviceLimits → BlockQueueState → H → Option RingEvent → BlockQueueState → H → Type 0
   Waits terms q old a q' new = (r : Result Bool QueueError) × (mid : H) × Asks q.queue old r mid
       × AfterAsk terms q r mid a q' new
 
-  abbrev pub AfterPop : Terms → Pop → BlockQueueState → H → Option RingEvent → BlockQueueState → H → Type 0
+  abbrev pub AfterPop : DeviceLimits → Pop → BlockQueueState → H → Option RingEvent → BlockQueueState → H → Type 0
   AfterPop terms pop.None q old a q' new = Waits terms q old a q' new
   AfterPop terms found q old a q' new = (a ≡ event_of found) × (q' ≡ q) × (new ≡ old)
 
   -- what happens to a ring next in its turn
-  abbrev pub HappensNext : Terms → BlockQueueState → H → Option RingEvent → BlockQueueState → H → Type 0
+  abbrev pub HappensNext : DeviceLimits → BlockQueueState → H → Option RingEvent → BlockQueueState → H → Type 0
   HappensNext terms q old a q' new = (found : Pop) × (mid_q : BlockQueueState) × (mid : H)
       × Pops terms q old found mid_q mid × AfterPop terms found mid_q mid a q' new
 

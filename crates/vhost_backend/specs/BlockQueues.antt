@@ -1,7 +1,7 @@
 -- The queues of a block device's rings: what is done for one of them, step by step, and what it leaves.
 use Rattle.std.specs.Prelude.{◌≡◌, ℕ, ◌-◌, ◌&&◌, nat_le, nat_lt, Bool, true, false, if◌then◌else◌, List, replicate, slice_get, slice_set, Option, Some, None, Result, Ok, Err, MatchBool, MatchOption, option_map}
 use Rattle.virtio_blk.specs.declared.request.Request.{Request}
-use Rattle.virtio_blk.specs.declared.request.Terms.{Terms}
+use Rattle.virtio_blk.specs.declared.request.DeviceLimits.{DeviceLimits}
 use Rattle.virtio_queue.specs.Any.{after_asked, with_ready}
 use Rattle.virtio_queue.specs.declared.any.AnyQueue.{AnyQueue}
 use Rattle.virtio_queue.specs.declared.error.QueueError.{QueueError}
@@ -83,6 +83,6 @@ module _ {H : Type 0} (step : H → (s : MemoryStep) → Returned s → H → Ty
   Asks old new q r q' = step old (needs q.queue) r new × (q' ≡ with_queue q (after_asked q.queue r))
 
   -- the ring takes a step of its turn
-  abbrev pub Turns : Terms → ℕ → BackendState → BackendState → H → H → BlockQueueState → Option Todo → BlockQueueState
+  abbrev pub Turns : DeviceLimits → ℕ → BackendState → BackendState → H → H → BlockQueueState → Option Todo → BlockQueueState
       → Type 0
   Turns terms ring b b' old new q r q' = TakesStep step terms ring b q old r b' q' new

@@ -24,7 +24,7 @@ hull one other = record { first = min one.first other.first; end = max one.end o
 abbrev pub capped : ℕ → ℕ
 capped n = min n 0xffff_ffff_ffff_ffff
 
--- the pages of N bytes so far behind an address that have a bit
+-- the pages of N bytes so far after an address that have a bit
 abbrev pub pages_from : ℕ → ℕ → ℕ → Option PageRange
 pages_from pages from n = if nat_le pages (from / 4096) then None
     else Some (record { first = from / 4096; end = min pages (capped (from + (n - 1)) / 4096 + 1) })

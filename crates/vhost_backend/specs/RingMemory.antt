@@ -17,18 +17,18 @@ use Rattle.virtio_queue.specs.Used.{MayWantUsedIdx, used_idx}
 use Rattle.virtio_blk.specs.Looks.{BeginsBy, FinishesBy}
 use Rattle.virtio_blk.specs.Steps.{Begins, Finishes, breaks_limits}
 use Rattle.virtio_blk.specs.declared.request.Request.{Request}
-use Rattle.virtio_blk.specs.declared.request.Terms.{Terms}
+use Rattle.virtio_blk.specs.declared.request.DeviceLimits.{DeviceLimits}
 use Rattle.vhost_backend.specs.PageList.{marked}
 use Rattle.vhost_backend.specs.declared.ring_memory.Logged.{Logged}
 
 -- a pop, a return, whether the driver has to be notified, that it is to notify; the index in the used ring; the beginning and the end of the block
--- request of a chain; and a mark of the pages with N bytes so far behind an address
+-- request of a chain; and a mark of the pages with N bytes so far after an address
 pub data MemoryStep : Type 0 where
   pops : AnyQueue → MemoryStep
   adds_used : AnyQueue → PackedBuffer → ℕ → MemoryStep
   needs : AnyQueue → MemoryStep
   enables : AnyQueue → MemoryStep
-  begins : Terms → List Segment → MemoryStep
+  begins : DeviceLimits → List Segment → MemoryStep
   finishes : List Segment → ℕ → ℕ → MemoryStep
   reads_used : Virtqueue → MemoryStep
   marks : ℕ → ℕ → ℕ → MemoryStep

@@ -26,7 +26,7 @@ use std::alloc::Global;
 use std::mem;
 use vhost_message::{Header, MemoryRegion, Message, Refusal};
 use vhost_user::{Offer, OfferError, RunningVring};
-use virtio_blk::Terms;
+use virtio_blk::DeviceLimits;
 use virtio_queue::QueueError;
 
 // The features by which a driver keeps the bounds on the length and the number of segments.
@@ -270,12 +270,12 @@ impl BlockBackend {
     }
 
     /// What requests are held against.
-    pub fn terms(&self) -> Terms
+    pub fn terms(&self) -> DeviceLimits
         ensures terms { result ≡ terms_of self.now }
         ensures small { result.sectors < 2 ^ 55 }
     {
         let acked = self.backend.connection().features();
-        Terms {
+        DeviceLimits {
             sectors: self.limits.sectors.min(MOST_SECTORS),
             read_only: self.limits.read_only,
             acked,

@@ -197,7 +197,7 @@ fn lies_in_memory(memory: &ConnectionMemory, chain: &Chain, step: BlockStep) -> 
     true
 }
 
-// Puts a row behind those that were put, if there is room.
+// Puts a row after those that were put, if there is room.
 fn put_piece(pieces: &mut [PieceRow], count: &mut usize, place: RegionPiece) -> bool {
     match pieces.get_mut(*count) {
         Some(row) => {
@@ -238,7 +238,7 @@ fn put_pieces(
     given
 }
 
-// Puts a row behind those that were put.
+// Puts a row after those that were put.
 fn put_action(actions: &mut [ActionRow], count: &mut usize, row: ActionRow) {
     if let Some(place) = actions.get_mut(*count) {
         *place = row;
@@ -246,7 +246,7 @@ fn put_action(actions: &mut [ActionRow], count: &mut usize, row: ActionRow) {
     }
 }
 
-// Puts bytes behind those that were put. Returns whether there is room.
+// Puts bytes after those that were put. Returns whether there is room.
 fn put_bytes(output: &mut [u8], count: &mut usize, bytes: &[u8]) -> bool {
     let from = *count;
     if from > output.len() || bytes.len() > output.len() - from {

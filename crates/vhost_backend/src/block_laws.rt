@@ -6,7 +6,7 @@ ghost use Rattle.vm_memory_device.specs.declared.chain.Segment.{Segment};
 ghost use Rattle.virtio_queue.specs.Any.{enabling, returning};
 ghost use Rattle.virtio_queue.specs.declared.any.AnyQueue.{AnyQueue};
 ghost use Rattle.virtio_queue.specs.declared.packed.state.PackedBuffer.{PackedBuffer};
-ghost use Rattle.virtio_blk.specs.declared.request.Terms.{Terms};
+ghost use Rattle.virtio_blk.specs.declared.request.DeviceLimits.{DeviceLimits};
 ghost use Rattle.vhost_backend.specs.BlockQueue.{Agrees, BlockQueueState, FindsAll, FoundNone, HappensNext};
 ghost use Rattle.vhost_backend.specs.Marks.{Covered, Stores, asking_marks, chain_marks, return_marks};
 ghost use Rattle.vhost_backend.specs.Pieces.{piece_from, side};
@@ -34,7 +34,7 @@ pub fn no_page_is_lost()
 
 /// A turn is over for want of chains only if the driver was asked to notify, and a look after that found none.
 pub fn turns_end_after_a_look<H, D: RingMemory<H>>()
-    ensures { (mem : D) (terms : Terms) (q new_q : BlockQueueState) (old new : H)
+    ensures { (mem : D) (terms : DeviceLimits) (q new_q : BlockQueueState) (old new : H)
         → HappensNext (D.steps mem) terms q old (Some Emptied) new_q new → FoundNone (D.steps mem) q.queue new }
 {}
 
@@ -42,8 +42,8 @@ pub fn turns_end_after_a_look<H, D: RingMemory<H>>()
 /// whatever else happens to the ring, once the chains that are then to be returned were given back. So each return
 /// finds its request.
 pub fn each_return_finds_its_request<H, D: RingMemory<H>>()
-    ensures turns { (mem : D) (terms : Terms) (q new_q : BlockQueueState) (old new : H) (r : RingState) (e : RingEvent)
-        → Agrees q r → length q.asked ≡ length r.requests → may_run r ≡ true
+    ensures turns { (mem : D) (terms : DeviceLimits) (q new_q : BlockQueueState) (old new : H) (r : RingState)
+        (e : RingEvent) → Agrees q r → length q.asked ≡ length r.requests → may_run r ≡ true
         → HappensNext (D.steps mem) terms q old (Some e) new_q new → FindsAll new_q (stepped r (On e)) }
     ensures others { (q : BlockQueueState) (r : RingState) (s : RingStep) → Agrees q r → taken r s ≡ []
         → FindsAll q (stepped r s) }

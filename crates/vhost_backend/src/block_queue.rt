@@ -13,7 +13,7 @@ use crate::ring::RingEvent;
 use crate::ring_memory::RingMemory;
 use std::alloc::{AllocError, Global};
 use std::marker::Model;
-use virtio_blk::{Request, Terms, VIRTIO_BLK_S_IOERR};
+use virtio_blk::{DeviceLimits, Request, VIRTIO_BLK_S_IOERR};
 use virtio_queue::{AnyQueue, PackedBuffer, QueueError};
 use vm_memory_device::{Chain as Descriptors, Segment};
 
@@ -117,7 +117,7 @@ fn mark_chain<H, D: RingMemory<H>>(mem: &D, host: &mut H, chain: &Descriptors)
     }
 }
 
-// Marks two ranges behind an address.
+// Marks two ranges after an address.
 fn mark_both<H, D: RingMemory<H>>(mem: &D, host: &mut H, first: Piece, second: Piece)
     requires { D.held mem.now host.old }
     ensures marks { Marks (D.steps mem.now) (first ∷ second ∷ []) host.old host.new }
@@ -299,7 +299,7 @@ impl BlockQueue {
         &mut self,
         mem: &D,
         host: &mut H,
-        terms: Terms,
+        terms: DeviceLimits,
         next: u16,
         popped: (PackedBuffer, Descriptors),
     ) -> Pop
@@ -339,7 +339,7 @@ impl BlockQueue {
         alloc: Global,
         mem: &D,
         host: &mut H,
-        terms: Terms,
+        terms: DeviceLimits,
     ) -> Pop
         requires held { D.held mem.now host.old }
         requires small { terms.sectors < 2 ^ 55 }
@@ -371,7 +371,7 @@ impl BlockQueue {
         alloc: Global,
         mem: &D,
         host: &mut H,
-        terms: Terms,
+        terms: DeviceLimits,
     ) -> Option<RingEvent>
         requires held { D.held mem.now host.old }
         requires small { terms.sectors < 2 ^ 55 }
@@ -392,7 +392,7 @@ impl BlockQueue {
         alloc: Global,
         mem: &D,
         host: &mut H,
-        terms: Terms,
+        terms: DeviceLimits,
     ) -> Option<RingEvent>
         requires held { D.held mem.now host.old }
         requires small { terms.sectors < 2 ^ 55 }

@@ -15,7 +15,7 @@ use crate::turn::take_step;
 use std::alloc::Global;
 use std::marker::Model;
 use vhost_user::{OfferError, RunningVring};
-use virtio_blk::Terms;
+use virtio_blk::DeviceLimits;
 use virtio_queue::QueueError;
 use vm_memory_device::Chain as Descriptors;
 
@@ -215,7 +215,7 @@ impl BlockQueues {
         alloc: Global,
         mem: &D,
         host: &mut H,
-        terms: Terms,
+        terms: DeviceLimits,
     ) -> Option<Todo>
         requires held { D.held mem.now host.old }
         requires small { terms.sectors < 2 ^ 55 }

@@ -23,7 +23,7 @@ use vm_memory_guest::{
 pub struct RegionPiece {
     /// The number of the region, in the order of the table.
     pub region: usize,
-    /// How far behind the region's first byte they begin.
+    /// How far after the region's first byte they begin.
     pub offset: u64,
     /// How many there are.
     pub len: u64,

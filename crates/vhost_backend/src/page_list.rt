@@ -35,7 +35,7 @@ fn hull(one: PageRange, other: PageRange) -> PageRange
     }
 }
 
-// The pages of `len` bytes so far behind an address that are among the first `pages`.
+// The pages of `len` bytes so far after an address that are among the first `pages`.
 fn pages_of(pages: u64, base: u64, offset: u64, len: u64) -> Option<PageRange>
     ensures { result ≡ pages_of pages base offset len }
 {
@@ -105,7 +105,7 @@ impl PageList {
         self.last.is_none()
     }
 
-    /// Adds each page that has one of `len` bytes so far behind an address, and a bit in the log.
+    /// Adds each page that has one of `len` bytes so far after an address, and a bit in the log.
     #[inline]
     pub fn mark(&mut self, base: u64, offset: u64, len: u64)
         ensures { self.new ≡ marked self.old base offset len }

@@ -8,7 +8,7 @@ ghost use Rattle.vhost_backend.specs.RingMemory.{finishes, marks, needs, pops, r
 
 use crate::page_list::PageList;
 use std::alloc::Global;
-use virtio_blk::{Fetches, Puts, Request, Terms, begin, begin_from, finish, finish_from};
+use virtio_blk::{DeviceLimits, Fetches, Puts, Request, begin, begin_from, finish, finish_from};
 use virtio_queue::{AnyQueue, Looks, PackedBuffer, Queue, QueueError, Stores};
 use vm_memory_base::Bitmap;
 use vm_memory_device::Chain;
@@ -19,7 +19,7 @@ pub trait Marks {
     /// A mark: what marked before it, its address, the offset from there, the number of bytes, and what marks after it.
     ghost logs: { Self → ℕ → ℕ → ℕ → Self → Type 0 };
 
-    /// Marks each page that has one of `len` bytes so far behind an address.
+    /// Marks each page that has one of `len` bytes so far after an address.
     fn mark(&mut self, base: u64, offset: u64, len: u64)
         ensures { logs self.old base offset len self.new };
 }
@@ -80,7 +80,7 @@ pub trait RingMemory<H> {
         ensures held { held self.now host.new };
 
     /// What the chain of a request asks for.
-    fn begin(&self, host: &mut H, terms: Terms, chain: &Chain) -> GuestMemoryResult<Request>
+    fn begin(&self, host: &mut H, terms: DeviceLimits, chain: &Chain) -> GuestMemoryResult<Request>
         requires { held self.now host.old }
         ensures step { steps self.now host.old (begins terms chain.now) result host.new }
         ensures fits { IfOk result (λ request. FitsOn terms.sectors request) }
@@ -98,7 +98,7 @@ pub trait RingMemory<H> {
         ensures step { steps self.now host.old (finishes chain.now status moved) result host.new }
         ensures held { held self.now host.new };
 
-    /// Marks in the log each page that has one of `len` bytes so far behind an address.
+    /// Marks in the log each page that has one of `len` bytes so far after an address.
     fn mark(&self, host: &mut H, base: u64, offset: u64, len: u64)
         requires { held self.now host.old }
         ensures step { steps self.now host.old (marks base offset len) tt host.new }
@@ -174,7 +174,7 @@ impl<M: GuestMemory, B: Bitmap> RingMemory<Logged<B>> for Lent<'_, M> {
     fn begin(
         &self,
         logged: &mut Logged<B>,
-        terms: Terms,
+        terms: DeviceLimits,
         chain: &Chain,
     ) -> GuestMemoryResult<Request> {
         begin(terms, self.mem, &mut logged.host, chain)
@@ -243,7 +243,12 @@ impl<L: Looks + Fetches + Puts + Marks, S: Stores<L>> RingMemory<L> for Looked<'
         queue.used_idx_from(guest)
     }
 
-    fn begin(&self, guest: &mut L, terms: Terms, chain: &Chain) -> GuestMemoryResult<Request> {
+    fn begin(
+        &self,
+        guest: &mut L,
+        terms: DeviceLimits,
+        chain: &Chain,
+    ) -> GuestMemoryResult<Request> {
         begin_from(terms, guest, chain)
     }
 

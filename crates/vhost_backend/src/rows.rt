@@ -43,7 +43,7 @@ pub struct ActionRow {
 pub struct PieceRow {
     /// The number of the region.
     pub region: u64,
-    /// How far behind its first byte they begin.
+    /// How far after its first byte they begin.
     pub offset: u64,
     /// How many there are.
     pub len: u64,
@@ -263,7 +263,7 @@ fn place_of_part(step: BlockStep) -> u64
     }
 }
 
-// A part of which `len` bytes in `count` pieces are served, from the one so far behind its first.
+// A part of which `len` bytes in `count` pieces are served, from the one so far after its first.
 pub(crate) fn part_row(
     ring: usize,
     id: u16,

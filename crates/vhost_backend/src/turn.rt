@@ -7,7 +7,7 @@ use crate::block_queue::BlockQueue;
 use crate::ring_memory::RingMemory;
 use crate::rings::Event;
 use std::alloc::Global;
-use virtio_blk::Terms;
+use virtio_blk::DeviceLimits;
 
 /// Takes a step of a ring's turn, and returns what is to be done by that. `None` if the turn is over, or an allocation
 /// failed.
@@ -18,7 +18,7 @@ pub fn take_step<H, D: RingMemory<H>>(
     alloc: Global,
     mem: &D,
     host: &mut H,
-    terms: Terms,
+    terms: DeviceLimits,
 ) -> Option<Todo>
     requires held { D.held mem.now host.old }
     requires small { terms.sectors < 2 ^ 55 }

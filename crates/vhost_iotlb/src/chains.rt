@@ -7,6 +7,7 @@ use crate::access::reach;
 use crate::request::{Outcome, Request};
 use vm_memory_base::{Bitmap, IommuError, IovaRange, Permissions};
 use vm_memory_device::{Chain, ChainReader, ChainWriter};
+use vm_memory_guest::laws::effects::writes_keep_shapes;
 use vm_memory_guest::{GuestMemory, GuestMemoryError, HostMemory, TlbId};
 
 // How far an access of `len` bytes gets that was refused for this error, and what it comes to: it stops at the first
@@ -72,6 +73,21 @@ fn read_some<M: GuestMemory, B: Bitmap>(
     }
 }
 
+// Writes to what comes next in a chain. No table changes.
+fn write_next<M: GuestMemory, B: Bitmap>(
+    memory: &M,
+    host: &mut HostMemory<B>,
+    writer: &mut ChainWriter<'_>,
+    bytes: &[u8],
+) -> Result<usize, GuestMemoryError>
+    requires { Holds (shape_of host.old) (M.names memory.now) }
+    ensures shape { shape_of host.new ≡ shape_of host.old }
+    ensures tables { host.new.tables ≡ host.old.tables }
+{
+    writes_keep_shapes::<B>();
+    writer.write(memory, host, bytes)
+}
+
 // Writes to what comes next in a chain, as `read_some` reads it.
 fn write_some<M: GuestMemory, B: Bitmap>(
     memory: &M,
@@ -85,16 +101,17 @@ fn write_some<M: GuestMemory, B: Bitmap>(
     ensures most { result.0 ≤ length bytes.now }
     ensures some { result.1 ≡ Outcome.Done → 0 < result.0 }
     ensures shape { shape_of host.new ≡ shape_of host.old }
+    ensures tables { host.new.tables ≡ host.old.tables }
 {
     let len = bytes.len();
-    let (front, outcome) = match writer.write(memory, host, bytes) {
+    let (front, outcome) = match write_next(memory, host, writer, bytes) {
         Ok(count) => return some_of(count, len),
         Err(error) => front_of(host, table, &error, len, Permissions::Write),
     };
     if front == 0 {
         return (0, outcome);
     }
-    match writer.write(memory, host, &bytes[..front]) {
+    match write_next(memory, host, writer, &bytes[..front]) {
         Ok(count) if count == front => (front, outcome),
         Ok(count) => some_of(count, len),
         Err(_) => (0, Outcome::Failed),
@@ -168,7 +185,7 @@ impl<M: GuestMemory> Request for ReadChain<'_, M> {
 /// try.
 ///
 /// Leaves open: which bytes it puts where, and what a try comes to; a write of any bytes may be reported as done. The
-/// host keeps its shape, and a request that is not done is not reported as done.
+/// host keeps its shape and its tables, and a request that is not done is not reported as done.
 #[derive(Drop)]
 pub struct WriteChain<'a, M> {
     memory: &'a M,
@@ -209,7 +226,7 @@ impl<'a, M: GuestMemory> WriteChain<'a, M> {
 impl<M: GuestMemory> Request for WriteChain<'_, M> {
     ghost is_done = { λ r. r.done ≡ length r.bytes.now };
 
-    ghost tries = { λ marks r outcome s old new. shape_of new ≡ shape_of old };
+    ghost tries = { λ marks r outcome s old new. (shape_of new ≡ shape_of old) × (new.tables ≡ old.tables) };
 
     fn attempt<B: Bitmap>(&mut self, host: &mut HostMemory<B>) -> Outcome {
         for _ in 0..usize::MAX {

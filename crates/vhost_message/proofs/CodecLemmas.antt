@@ -219,21 +219,21 @@ abbrev access_fail_in : Fields → Result IotlbMessage Malformed
 access_fail_in f = permissions_in f.permissions >>= λ p. Ok (AccessFail f.iova p)
 
 -- and of those of other kinds than the first ones
-abbrev behind_invalidate : Fields → Result IotlbMessage Malformed
-behind_invalidate f = cond (eqb f.kind 4) (access_fail_in f) unknown
+abbrev after_invalidate : Fields → Result IotlbMessage Malformed
+after_invalidate f = cond (eqb f.kind 4) (access_fail_in f) unknown
 
-abbrev behind_update : Fields → Result IotlbMessage Malformed
-behind_update f = cond (eqb f.kind 3) (invalidate_in f) (behind_invalidate f)
+abbrev after_update : Fields → Result IotlbMessage Malformed
+after_update f = cond (eqb f.kind 3) (invalidate_in f) (after_invalidate f)
 
-abbrev behind_miss : Fields → Result IotlbMessage Malformed
-behind_miss f = cond (eqb f.kind 2) (update_in f) (behind_update f)
+abbrev after_miss : Fields → Result IotlbMessage Malformed
+after_miss f = cond (eqb f.kind 2) (update_in f) (after_update f)
 
 pub read_is_spelled : (f : Fields) (m : IotlbMessage) → message_in f ≡ read_as m → Spells f m
 unfolding message_in
 read_is_spelled f m e =
-    chosen (eqb f.kind 1) (miss_in f) (behind_miss f) (read_as m) (Spells f m) e miss
-    (λ f1 e1. chosen (eqb f.kind 2) (update_in f) (behind_update f) (read_as m) (Spells f m) e1 update
-    (λ f2 e2. chosen (eqb f.kind 3) (invalidate_in f) (behind_invalidate f) (read_as m) (Spells f m) e2 invalidate
+    chosen (eqb f.kind 1) (miss_in f) (after_miss f) (read_as m) (Spells f m) e miss
+    (λ f1 e1. chosen (eqb f.kind 2) (update_in f) (after_update f) (read_as m) (Spells f m) e1 update
+    (λ f2 e2. chosen (eqb f.kind 3) (invalidate_in f) (after_invalidate f) (read_as m) (Spells f m) e2 invalidate
     (λ f3 e3. chosen (eqb f.kind 4) (access_fail_in f) unknown (read_as m) (Spells f m) e3 access_fail
     (λ f4 e4. absurd (no_message m e4)))))
   where

@@ -235,7 +235,7 @@ module _ (rs : List MemoryRegion) (i : ℕ) where
   abbrev at : ℕ
   at = 8 + 32 * i
 
-  -- what stands a little behind the beginning of the region
+  -- what stands a little after the beginning of the region
   behind : (k : ℕ) → drop (at + k) (table_bytes rs) ≡ drop k (regions_bytes (drop i rs))
   behind k =
       sym (drop-drop k at (table_bytes rs))

@@ -50,7 +50,7 @@ impl MemoryRegion {
         ensures { result ≡ begins_below self.now other.now }
     {
         match self.guest_address.0.checked_sub(other.guest_address.0) {
-            Some(behind) => behind < other.size,
+            Some(distance) => distance < other.size,
             None => true,
         }
     }
@@ -74,7 +74,7 @@ impl MemoryRegion {
         ensures { result ≡ has_range user_address size self.now }
     {
         match user_address.checked_sub(self.user_address) {
-            Some(behind) => behind <= self.size && size <= self.size - behind,
+            Some(distance) => distance <= self.size && size <= self.size - distance,
             None => false,
         }
     }
@@ -84,8 +84,8 @@ impl MemoryRegion {
         requires { self.now.user_address ≤ user_address }
         ensures { result ≡ guest_address user_address self.now }
     {
-        let behind = user_address - self.user_address;
-        GuestAddress(self.guest_address.0.wrapping_add(behind))
+        let distance = user_address - self.user_address;
+        GuestAddress(self.guest_address.0.wrapping_add(distance))
     }
 }
 

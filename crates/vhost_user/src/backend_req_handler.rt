@@ -118,7 +118,7 @@ fn log_of(address: &VringAddr) -> Option<u64>
 }
 
 // The bytes of configuration in a payload.
-fn behind_numbers(payload: &[u8]) -> &[u8]
+fn config_bytes(payload: &[u8]) -> &[u8]
     ensures { result.now ≡ drop 12 payload.now }
 {
     if payload.len() < 12 {
@@ -484,7 +484,7 @@ impl BackendReqHandler {
                 Ok(())
             }
             FrontendReq::SetMemTable(table) => self.set_mem_table(table),
-            FrontendReq::SetConfig(space) => self.set_config(space, behind_numbers(payload)),
+            FrontendReq::SetConfig(space) => self.set_config(space, config_bytes(payload)),
             FrontendReq::GetConfig(space) => self.test_config(space.offset, space.size as usize),
             FrontendReq::GetProtocolFeatures => {
                 needs(self.offer.features, VHOST_USER_F_PROTOCOL_FEATURES)

@@ -13,7 +13,7 @@ use Rattle.vm_memory_guest.specs.declared.region.error.GuestMemoryError.{GuestMe
 use Rattle.vm_memory_guest.specs.declared.region.error.GuestMemoryError.TheVariants as errors
 use Rattle.vm_memory_device.specs.Chain.{Entry, text_path}
 use Rattle.vm_memory_device.specs.declared.chain.Segment.{Segment}
-use Rattle.virtio_blk.specs.Config.{Device, counted, must_stay, terms_of}
+use Rattle.virtio_blk.specs.Config.{Device, counted, limits_of, must_stay}
 use Rattle.virtio_blk.specs.Disk.{Call}
 use Rattle.virtio_blk.specs.Inside.{CanDo, Did, asked_of, length_of}
 use Rattle.virtio_blk.specs.Looks.{failed}
@@ -23,7 +23,7 @@ use Rattle.virtio_blk.specs.Steps.{Begins, Finishes, FitsOn, Told, breaks_limits
 use Rattle.virtio_blk.specs.Texts.{Accessed, Stops, WritesAt, reached, text_bytes}
 use Rattle.virtio_blk.specs.declared.request.Request.{Request}
 use Rattle.virtio_blk.specs.declared.request.Request.TheVariants.{Read, Write, Flush, GetId, Refused, Unserved}
-use Rattle.virtio_blk.specs.declared.request.Terms.{Terms}
+use Rattle.virtio_blk.specs.declared.request.DeviceLimits.{DeviceLimits}
 use Rattle.virtio_blk.proofs.StepFacts.{Goes, call-later, goes-take}
 use Rattle.virtio_blk.proofs.TextFacts.{EndsAt, accessed_one, front_of, front_within, path_ends, stays_none, stops_there}
 
@@ -46,37 +46,37 @@ fits-parts sectors sector len h =
     (eqb-true (len % 512) 0 parts.0, leb-true (512 * sector + len) (512 * sectors) parts.1)
 
 -- what holds of each kind of request holds of what a header asks for
-each_kind : (Holds : Request → Type 0) (terms : Terms) (header : List ℕ) (given room : ℕ)
-    → (fits terms.sectors (sector_of header) room ≡ true → Holds (Read (sector_of header) room))
-    → (fits terms.sectors (sector_of header) given ≡ true
-    → Holds (Write (sector_of header) given (must_stay terms.acked given)))
+each_kind : (Holds : Request → Type 0) (limits : DeviceLimits) (header : List ℕ) (given room : ℕ)
+    → (fits limits.sectors (sector_of header) room ≡ true → Holds (Read (sector_of header) room))
+    → (fits limits.sectors (sector_of header) given ≡ true
+    → Holds (Write (sector_of header) given (must_stay limits.acked given)))
     → Holds Flush → Holds (GetId (min room 20)) → Holds (Refused 1) → Holds (Refused 2)
-    → Holds (request_of terms header given room)
-each_kind Holds terms header given room reads writes flushes id refused unknown =
+    → Holds (request_of limits header given room)
+each_kind Holds limits header given room reads writes flushes id refused unknown =
     let sector = sector_of header in
     if_either Holds (kind_of header == 0) _ _
-    (λ k. if_either Holds (fits terms.sectors sector room) (Read sector room) (Refused 1) reads refused)
+    (λ k. if_either Holds (fits limits.sectors sector room) (Read sector room) (Refused 1) reads refused)
     (if_either Holds (kind_of header == 1) _ _
-    (λ k. if_either Holds (not terms.read_only && fits terms.sectors sector given)
-    (Write sector given (must_stay terms.acked given)) (Refused 1)
-    (λ h. writes (both (not terms.read_only) (fits terms.sectors sector given) h).1) refused)
+    (λ k. if_either Holds (not limits.read_only && fits limits.sectors sector given)
+    (Write sector given (must_stay limits.acked given)) (Refused 1)
+    (λ h. writes (both (not limits.read_only) (fits limits.sectors sector given) h).1) refused)
     (if_either Holds (kind_of header == 4) Flush _ (λ k. flushes)
     (if_either Holds (kind_of header == 8) (GetId (min room 20)) (Refused 2) (λ k. id) unknown)))
 
-pub fits_of : (terms : Terms) (header : List ℕ) (given room : ℕ)
-    → FitsOn terms.sectors (request_of terms header given room)
-fits_of terms header given room =
-    each_kind (FitsOn terms.sectors) terms header given room
-    (fits-parts terms.sectors (sector_of header) room) (fits-parts terms.sectors (sector_of header) given) tt
+pub fits_of : (limits : DeviceLimits) (header : List ℕ) (given room : ℕ)
+    → FitsOn limits.sectors (request_of limits header given room)
+fits_of limits header given room =
+    each_kind (FitsOn limits.sectors) limits header given room
+    (fits-parts limits.sectors (sector_of header) room) (fits-parts limits.sectors (sector_of header) given) tt
     (omega arith) tt tt
 
 -- also if the header was not found
-pub fits_failed : (terms : Terms) (e : GuestMemoryError) (answer : Result Request GuestMemoryError)
-    → answer ≡ failed e (Refused 1) → IfOk answer (FitsOn terms.sectors)
-fits_failed terms e answer is =
-    subst (λ (a : Result Request GuestMemoryError). IfOk a (FitsOn terms.sectors)) (sym is) (go e)
+pub fits_failed : (limits : DeviceLimits) (e : GuestMemoryError) (answer : Result Request GuestMemoryError)
+    → answer ≡ failed e (Refused 1) → IfOk answer (FitsOn limits.sectors)
+fits_failed limits e answer is =
+    subst (λ (a : Result Request GuestMemoryError). IfOk a (FitsOn limits.sectors)) (sym is) (go e)
   where
-    go : (e : GuestMemoryError) → IfOk (failed e (Refused 1)) (FitsOn terms.sectors)
+    go : (e : GuestMemoryError) → IfOk (failed e (Refused 1)) (FitsOn limits.sectors)
     go (errors.InvalidGuestAddress a) = tt
     go (errors.IOError e) = tt
     go (errors.PartialBuffer expected completed) = tt
@@ -87,23 +87,23 @@ fits_failed terms e answer is =
     go (errors.IommuError e) = tt
     go errors.Memory = tt
 
-can_of-request : (terms : Terms) (header : List ℕ) (given room size : ℕ) → room + 1 ≡ size → terms.sectors < 2 ^ 55
-    → CanDo terms.sectors (request_of terms header given room) given size
-can_of-request terms header given room size all small =
-    each_kind (λ r. CanDo terms.sectors r given size) terms header given room
-    (λ h. let parts = fits-parts terms.sectors (sector_of header) room h in (parts.0, parts.1, all, small))
-    (λ h. let parts = fits-parts terms.sectors (sector_of header) given h in (parts.0, parts.1, refl, small))
+can_of-request : (limits : DeviceLimits) (header : List ℕ) (given room size : ℕ) → room + 1 ≡ size → limits.sectors < 2 ^ 55
+    → CanDo limits.sectors (request_of limits header given room) given size
+can_of-request limits header given room size all small =
+    each_kind (λ r. CanDo limits.sectors r given size) limits header given room
+    (λ h. let parts = fits-parts limits.sectors (sector_of header) room h in (parts.0, parts.1, all, small))
+    (λ h. let parts = fits-parts limits.sectors (sector_of header) given h in (parts.0, parts.1, refl, small))
     tt (omega arith, omega arith) tt tt
 
 -- ---- what a chain asks for
 
-module _ {B : Type 0} (m : Memory) (host : Host B) (terms : Terms) (given room : List Entry) where
+module _ {B : Type 0} (m : Memory) (host : Host B) (limits : DeviceLimits) (given room : List Entry) where
   -- nothing, as it has no byte for the status, or to be refused, as its header cannot be read, or what that says
   abbrev pub Asks : Request → Bool → Type 0
   Asks request unread = ((length room ≡ 0) × (request ≡ Unserved) × (unread ≡ false))
       ⊎ ((0 < length room) × ((NoHeader m host given unread × (request ≡ Refused 1))
       ⊎ ((16 ≤ length (reached m host.tables given)) × Accessed m host.tables permissions.Read given 16
-      × (request ≡ request_of terms (text_bytes m host given 16) (length given - 16) (length room - 1))
+      × (request ≡ request_of limits (text_bytes m host given 16) (length given - 16) (length room - 1))
       × (unread ≡ false))))
 
   -- what a call over the header reaches
@@ -121,7 +121,7 @@ module _ {B : Type 0} (m : Memory) (host : Host B) (terms : Terms) (given room :
       (front_of m host.tables permissions.Read given 16 enough) in
       (omega (arith, whole, within), accessed_one m host.tables permissions.Read given 16 16 whole)
 
-  -- a call for what is left of the header, behind what can be read of it, reaches nothing
+  -- a call for what is left of the header, after what can be read of it, reaches nothing
   no_header : (f : AccessFault) → Goes given → 16 ≤ length given → HeaderEnds (Some f) → NoHeader m host given false
   no_header f goes enough short =
       let k = length header_path in
@@ -151,13 +151,13 @@ module _ {B : Type 0} (m : Memory) (host : Host B) (terms : Terms) (given room :
       inr (0, (omega arith, stops))
 
   abbrev request : Request
-  request = request_of terms (text_bytes m host given 16) (length given - 16) (length room - 1)
+  request = request_of limits (text_bytes m host given 16) (length given - 16) (length room - 1)
 
   abbrev Made : Result Request GuestMemoryError → Type 0
   Made a = Asks (asked_of a).0 (asked_of a).1
 
   -- what the first step answers, or a refusal in place of an error
-  pub asks_of : (answer : Result Request GuestMemoryError) → Goes given → Begins m host terms false given room answer
+  pub asks_of : (answer : Result Request GuestMemoryError) → Goes given → Begins m host limits false given room answer
       → Asks (asked_of answer).0 (asked_of answer).1
   asks_of answer goes begins = unserved (length room == 0) refl begins
     where
@@ -193,34 +193,34 @@ module _ {B : Type 0} (m : Memory) (host : Host B) (terms : Terms) (given room :
       unserved false is told =
           let some = eqb-false (length room) 0 is in short (nat_lt (length given) 16) refl (omega (arith, some)) told
 
-  can_of : (request : Request) (unread : Bool) → Asks request unread → terms.sectors < 2 ^ 55
-      → CanDo terms.sectors request (length (drop 16 given)) (length room)
+  can_of : (request : Request) (unread : Bool) → Asks request unread → limits.sectors < 2 ^ 55
+      → CanDo limits.sectors request (length (drop 16 given)) (length room)
   can_of request unread (inl (none, is, read)) small =
-      subst (λ (r : Request). CanDo terms.sectors r (length (drop 16 given)) (length room)) (sym is) tt
+      subst (λ (r : Request). CanDo limits.sectors r (length (drop 16 given)) (length room)) (sym is) tt
   can_of request unread (inr (some, inl (none, is))) small =
-      subst (λ (r : Request). CanDo terms.sectors r (length (drop 16 given)) (length room)) (sym is) tt
+      subst (λ (r : Request). CanDo limits.sectors r (length (drop 16 given)) (length room)) (sym is) tt
   can_of request unread (inr (some, inr (whole, accessed, is, read))) small =
-      subst (λ (r : Request). CanDo terms.sectors r (length (drop 16 given)) (length room)) (sym is)
-      (subst (λ n. CanDo terms.sectors
-      (request_of terms (text_bytes m host given 16) (length given - 16) (length room - 1)) n (length room))
+      subst (λ (r : Request). CanDo limits.sectors r (length (drop 16 given)) (length room)) (sym is)
+      (subst (λ n. CanDo limits.sectors
+      (request_of limits (text_bytes m host given 16) (length given - 16) (length room - 1)) n (length room))
       (sym (length-drop 16 given))
-      (can_of-request terms (text_bytes m host given 16) (length given - 16) (length room - 1) (length room)
+      (can_of-request limits (text_bytes m host given 16) (length given - 16) (length room - 1) (length room)
       (omega (arith, some)) small))
 
 -- what the first step answers can be done
-pub can_serve : {B : Type 0} (m : Memory) (host : Host B) (terms now : Terms) (chain : List Segment)
-    (given room : List Entry) (answer : Result Request GuestMemoryError) (asked : Request × Bool) → Goes given → now ≡ terms
-    → breaks_limits terms chain ≡ false → Begins m host now (breaks_limits now chain) given room answer
-    → asked ≡ asked_of answer → terms.sectors < 2 ^ 55
-    → Asks m host terms given room asked.0 asked.1
-    × CanDo terms.sectors asked.0 (length (drop 16 given)) (length room)
-can_serve m host terms now chain given room answer asked goes same kept begun is small =
-    let asks : Asks m host terms given room asked.0 asked.1 =
-    subst (λ (p : Request × Bool). Asks m host terms given room p.0 p.1) (sym is)
-    (asks_of m host terms given room answer goes
-    (subst (λ b. Begins m host terms b given room answer) kept
-    (subst (λ (t : Terms). Begins m host t (breaks_limits t chain) given room answer) same begun))) in
-    (asks, can_of m host terms given room asked.0 asked.1 asks small)
+pub can_serve : {B : Type 0} (m : Memory) (host : Host B) (limits now : DeviceLimits) (chain : List Segment)
+    (given room : List Entry) (answer : Result Request GuestMemoryError) (asked : Request × Bool) → Goes given → now ≡ limits
+    → breaks_limits limits chain ≡ false → Begins m host now (breaks_limits now chain) given room answer
+    → asked ≡ asked_of answer → limits.sectors < 2 ^ 55
+    → Asks m host limits given room asked.0 asked.1
+    × CanDo limits.sectors asked.0 (length (drop 16 given)) (length room)
+can_serve m host limits now chain given room answer asked goes same kept begun is small =
+    let asks : Asks m host limits given room asked.0 asked.1 =
+    subst (λ (p : Request × Bool). Asks m host limits given room p.0 p.1) (sym is)
+    (asks_of m host limits given room answer goes
+    (subst (λ b. Begins m host limits b given room answer) kept
+    (subst (λ (t : DeviceLimits). Begins m host t (breaks_limits t chain) given room answer) same begun))) in
+    (asks, can_of m host limits given room asked.0 asked.1 asks small)
 
 -- a reader that skipped a header, or all that there is
 pub after_header : (es left : List Entry) (passed : ℕ) → passed ≡ min 16 (length es) → left ≡ drop passed es
@@ -308,7 +308,7 @@ module _ {B D : Type 0} (marks : B → ℕ → ℕ → B → Type 0) (bytes : D 
   -- what the header asks for was done. Memory was wanted for the header or for what that asks for
   performs_of : (given room : List Entry) (old : Device D) (host : Host B) (request : Request) (unread : Bool)
       (status : ℕ) (wanted : Bool) (sent : List ℕ) (disk : D) → 0 < length room
-      → Asks m host (terms_of sectors old) given room request unread
+      → Asks m host (limits_of sectors old) given room request unread
       → Does bytes sectors calls m host request (drop 16 given) room old status wanted sent disk
       → Performs bytes sectors calls m host given room old status (unread || wanted) sent disk
   performs_of given room old host request unread status wanted sent disk some (inl (none, is, read)) does =
@@ -331,7 +331,7 @@ module _ {B D : Type 0} (marks : B → ℕ → ℕ → B → Type 0) (bytes : D 
         whole,
         accessed,
         subst (λ b. Does bytes sectors calls m host
-            (request_of (terms_of sectors old) (text_bytes m host given 16) (length given - 16) (length room - 1))
+            (request_of (limits_of sectors old) (text_bytes m host given 16) (length given - 16) (length room - 1))
             (drop 16 given) room old status b sent disk) (sym (ap (λ b. b || wanted) read))
             (subst (λ (r : Request). Does bytes sectors calls m host r (drop 16 given) room old status wanted sent disk) is
             does),
@@ -340,7 +340,7 @@ module _ {B D : Type 0} (marks : B → ℕ → ℕ → B → Type 0) (bytes : D 
   -- nothing was done for a chain that is not served
   stays : (given room : List Entry) (old : Device D) (host : Host B) (request : Request) (unread : Bool)
       (status moved : ℕ) (wanted : Bool) (new : Device D) (mid : Host B) → length room ≡ 0
-      → Asks m host (terms_of sectors old) given room request unread
+      → Asks m host (limits_of sectors old) given room request unread
       → Did marks bytes sectors calls m request (drop 16 given) room old host status moved wanted new mid
       → (unread ≡ false) × (wanted ≡ false) × (new ≡ old) × (mid ≡ host)
   stays given room old host request unread status moved wanted new mid none (inr (some, more)) did =
@@ -358,10 +358,10 @@ module _ {B D : Type 0} (marks : B → ℕ → ℕ → B → Type 0) (bytes : D 
 
   abbrev ServesIf : Bool → List Entry → List Entry → Device D → Host B → ℕ → Device D → Host B → Type 0
   ServesIf b given room old host len new after = MatchBool b
-      ((s : ℕ) × (sent : List ℕ) × (disk : D) × (before : Bool) × (behind : Bool)
+      ((s : ℕ) × (sent : List ℕ) × (disk : D) × (before : Bool) × (later : Bool)
       × Performs bytes sectors calls m host given room old s before sent disk
-      × Tells marks m room s sent behind host len after
-      × (new ≡ record old { disk = disk; starved = counted (before || behind) old.starved }))
+      × Tells marks m room s sent later host len after
+      × (new ≡ record old { disk = disk; starved = counted (before || later) old.starved }))
       ((len ≡ 0) × (new ≡ old) × (after ≡ host))
 
   -- the device afterwards: the request left its disk, and then the chain was counted
@@ -372,7 +372,7 @@ module _ {B D : Type 0} (marks : B → ℕ → ℕ → B → Type 0) (bytes : D 
   pub served_of : (given room : List Entry) (old : Device D) (host : Host B) (asked : Request × Bool)
       (status moved : ℕ) (wanted : Bool) (now : Device D) (mid : Host B) (answer : Result ℕ GuestMemoryError)
       (told : ℕ × Bool) (new : Device D) (after : Host B)
-      → Asks m host (terms_of sectors old) given room asked.0 asked.1
+      → Asks m host (limits_of sectors old) given room asked.0 asked.1
       → Did marks bytes sectors calls m asked.0 (drop 16 given) room old host status moved wanted now mid
       → moved ≤ length room - 1 → Finishes marks m room status moved mid answer after
       → told ≡ length_of answer moved → Leaves (asked.1 || wanted || told.1) now new

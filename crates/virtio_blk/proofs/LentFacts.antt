@@ -100,9 +100,9 @@ module _ {B : Type 0} (m : Memory) (host : Host B) (es : List Entry) (a n : ℕ)
       )
 
 -- what is left of a segment is a segment
-pub placed_behind : (es left : List Entry) (a b moved : ℕ) → es ≡ entries_from b (length es) → left ≡ drop moved es
+pub placed_after : (es left : List Entry) (a b moved : ℕ) → es ≡ entries_from b (length es) → left ≡ drop moved es
     → moved ≤ length es → a ≡ b + moved → left ≡ entries_from a (length left)
-placed_behind es left a b moved are place within is =
+placed_after es left a b moved are place within is =
     let size : length left ≡ length es - moved = ap length place ∙ length-drop moved es in
     place ∙ ap (drop moved) (are ∙ sym (append-nil (entries_from b (length es))))
     ∙ drop-entries_from b (length es) moved [] within
@@ -120,7 +120,7 @@ pub placed_then : (start here : Option GuestAddress) (es left : List Entry) (mov
 placed_then start None es left moved are is at within = tt
 placed_then None (Some a) es left moved are is at within = absurd is
 placed_then (Some b) (Some a) es left moved are is at within =
-    placed_behind es left a.0 b.0 moved are at within is
+    placed_after es left a.0 b.0 moved are at within is
 
 pub lent_then : {B : Type 0} (m : Memory) (host : Host B) (es : List Entry) (start : Option GuestAddress) (n : ℕ)
     (bytes : List ℕ) → 0 < n → n ≤ length es → Placed start es

@@ -236,7 +236,7 @@ front_of sent got n whole are fits =
     ∙ ap (λ k. take k (sent ++ got)) (sym size)
     ∙ ap (λ xs. take (length (sent ++ take n got)) (xs ++ got)) (sym are)
 
--- where a piece ends that was begun behind whole ones
+-- where a piece ends that was begun after whole ones
 last_piece : (len moved n size : ℕ) → size ≡ min (len - moved) 65536 → n < size → moved % 65536 ≡ 0
     → moved + size ≡ piece_end len (moved + n)
 last_piece len moved n size is short whole =

@@ -25,7 +25,7 @@ use Rattle.virtio_blk.specs.Steps.{Begins, Finishes, Told, answer_of, gapless, h
 use Rattle.virtio_blk.specs.Texts.{WritesAt, reached, text_bytes}
 use Rattle.virtio_blk.specs.declared.request.Request.{Request}
 use Rattle.virtio_blk.specs.declared.request.Request.TheVariants as requests
-use Rattle.virtio_blk.specs.declared.request.Terms.{Terms}
+use Rattle.virtio_blk.specs.declared.request.DeviceLimits.{DeviceLimits}
 use Rattle.virtio_blk.proofs.TextFacts.{Cause, EndsAt, Fronts, answered_count, extends-front, front_of, path_ends, stays_none, wrote_front}
 
 -- ---- addresses that follow one another
@@ -145,12 +145,12 @@ module _ (regions : List Region) (r : Route) (access : Permissions) where
   next-allowed false a b n (inr h) k =
       inr (subst (λ j. allowed r j n access ≡ true) (sym h) (allowed-next r a n access k))
 
-  allowed_behind : (b : Bool) (e : Entry) (es : List Entry) (y : Reached) → Follows e es
+  allowed_after : (b : Bool) (e : Entry) (es : List Entry) (y : Reached) → Follows e es
       → (b ≡ true) ⊎ Allowed (e ∷ es) → meets_entry regions r access b e es ≡ Reaches y
       → (e.ends ≡ true) ⊎ Allowed es
   unfolding access_len
-  allowed_behind b e [] y g h is = inr tt
-  allowed_behind b e (f ∷ es) y g h is =
+  allowed_after b e [] y g h is = inr tt
+  allowed_after b e (f ∷ es) y g h is =
       next-allowed e.ends e.address f.address (access_len (f ∷ es)) g
       (reached-allowed b (allowed r e.address (access_len (e ∷ f ∷ es)) access)
       (refusal r e.address (access_len (e ∷ f ∷ es))) (meets regions r e.address 0) y h is)
@@ -172,7 +172,7 @@ module _ (regions : List Region) (r : Route) (access : Permissions) where
           → ((e.ends ≡ true) ⊎ Allowed es → k ≤ length (P e.ends es)
           → (P true (drop k es) ≡ drop k (P e.ends es)) × (T true (drop k es) ≡ T e.ends es))
           → (P true (drop k es) ≡ drop (suc k) (onto x (P e.ends es))) × (T true (drop k es) ≡ or_fault x (T e.ends es))
-      go (Reaches y) is w more = more (allowed_behind b e es y g.0 h is) (omega arith)
+      go (Reaches y) is w more = more (allowed_after b e es y g.0 h is) (omega arith)
       go (Stops f) is w more = absurd (omega arith)
 
 -- ---- errors
@@ -425,7 +425,7 @@ module _ {B : Type 0} (m : Memory) (host : Host B) (es : List Entry) where
         within : length bytes ≤ length header_path
         front : bytes ≡ bytes_of (take (length bytes) header_path)
 
-      -- it is the front of a buffer, with whatever lies behind it
+      -- it is the front of a buffer, with whatever lies after it
       so_far : (bytes buffer : List ℕ) → Came bytes → length buffer ≡ 16 - length bytes
           → HeaderSoFar (length bytes) (bytes ++ buffer) (drop (length bytes) es)
       so_far bytes buffer h size = record {
@@ -645,17 +645,17 @@ or-false : (b c : Bool) → (b || c) ≡ false → c ≡ false
 or-false true c h = absurd (cc)
 or-false false c h = h
 
-module _ {S : Type 0} (look : S → List Entry → ℕ → Result (List ℕ) GuestMemoryError → S → Type 0) (terms : Terms)
+module _ {S : Type 0} (look : S → List Entry → ℕ → Result (List ℕ) GuestMemoryError → S → Type 0) (limits : DeviceLimits)
     (is_broken : Bool) (given room : List Entry) where
   abbrev request_by : List ℕ → Request
-  request_by bytes = request_of terms bytes (length given - 16) (length room - 1)
+  request_by bytes = request_of limits bytes (length given - 16) (length room - 1)
 
   abbrev Looked : S → Result Request GuestMemoryError → S → Type 0
   Looked old answer new = (header : Result (List ℕ) GuestMemoryError) × FindsAll look given 16 old header new
       × (answer ≡ by_access header request_by (requests.Refused 1))
 
   -- a chain with no byte for the status is not looked at, and neither is one that is refused for what it is
-  pub begun_unserved : (s : S) → length room ≡ 0 → BeginsBy look terms is_broken given room s (Ok requests.Unserved) s
+  pub begun_unserved : (s : S) → length room ≡ 0 → BeginsBy look limits is_broken given room s (Ok requests.Unserved) s
   unfolding BeginsBy
   begun_unserved s none =
       let refused = (◌≡◌ {A = Result Request GuestMemoryError} (Ok requests.Unserved) (Ok (requests.Refused 1))) × (s ≡ s) in
@@ -664,7 +664,7 @@ module _ {S : Type 0} (look : S → List Entry → ℕ → Result (List ℕ) Gue
       (sym (eq-eqb (length room) 0 none)) (refl, refl)
 
   pub begun_refused : (s : S) → length room ≢ 0 → (is_broken ≡ true) ⊎ (length given < 16)
-      → BeginsBy look terms is_broken given room s (Ok (requests.Refused 1)) s
+      → BeginsBy look limits is_broken given room s (Ok (requests.Refused 1)) s
   unfolding BeginsBy
   begun_refused s some is =
       let unserved = (◌≡◌ {A = Result Request GuestMemoryError} (Ok (requests.Refused 1)) (Ok requests.Unserved)) × (s ≡ s) in
@@ -682,7 +682,7 @@ module _ {S : Type 0} (look : S → List Entry → ℕ → Result (List ℕ) Gue
   pub begun_by : (old new : S) (answer : Result Request GuestMemoryError) (header : Result (List ℕ) GuestMemoryError)
       → length room ≢ 0 → is_broken ≡ false → 16 ≤ length given → FindsAll look given 16 old header new
       → answer ≡ by_access header request_by (requests.Refused 1)
-      → BeginsBy look terms is_broken given room old answer new
+      → BeginsBy look limits is_broken given room old answer new
   unfolding BeginsBy
   begun_by old new answer header some kept enough found is =
       let refused = (answer ≡ Ok (requests.Refused 1)) × (new ≡ old) in
@@ -694,38 +694,38 @@ module _ {S : Type 0} (look : S → List Entry → ℕ → Result (List ℕ) Gue
       (header, found, is)))
 
 -- on memory that stands still this is the answer that it holds
-module _ {S B : Type 0} (look : S → List Entry → ℕ → Result (List ℕ) GuestMemoryError → S → Type 0) (terms : Terms)
+module _ {S B : Type 0} (look : S → List Entry → ℕ → Result (List ℕ) GuestMemoryError → S → Type 0) (limits : DeviceLimits)
     (is_broken : Bool) (given room : List Entry) (s new : S) (answer : Result Request GuestMemoryError)
-    (begins : BeginsBy look terms is_broken given room s answer new) (m : Memory) (host : Host B)
+    (begins : BeginsBy look limits is_broken given room s answer new) (m : Memory) (host : Host B)
     (still : (ls : List Entry) (n : ℕ) (found : Result (List ℕ) GuestMemoryError) (after : S)
     → look s ls n found after → FoundBy m host ls n found × (after ≡ s)) (goes : Goes given) where
-  pub begins_still : Begins m host terms is_broken given room answer
+  pub begins_still : Begins m host limits is_broken given room answer
   unfolding BeginsBy
   begins_still = go (length room == 0) (is_broken || nat_lt (length given) 16) refl begins
     where
-      told : 16 ≤ length given → Looked look terms is_broken given room s answer new
-          → Told m (header_fault m host.tables given) (request_by look terms is_broken given room (text_bytes m host given 16))
+      told : 16 ≤ length given → Looked look limits is_broken given room s answer new
+          → Told m (header_fault m host.tables given) (request_by look limits is_broken given room (text_bytes m host given 16))
           (requests.Refused 1) answer
       told enough (Ok bytes, found, is) =
           subst (λ (a : Result Request GuestMemoryError). Told m (header_fault m host.tables given)
-          (request_by look terms is_broken given room (text_bytes m host given 16)) (requests.Refused 1) a) (sym is)
+          (request_by look limits is_broken given room (text_bytes m host given 16)) (requests.Refused 1) a) (sym is)
           (told_map m (header_fault m host.tables given) (text_bytes m host given 16) bytes
-          (request_by look terms is_broken given room) (requests.Refused 1)
+          (request_by look limits is_broken given room) (requests.Refused 1)
           (header_found m host given look s still goes enough (Ok bytes) new found))
       told enough (Err e, found, is) =
           subst (λ (a : Result Request GuestMemoryError). Told m (header_fault m host.tables given)
-          (request_by look terms is_broken given room (text_bytes m host given 16)) (requests.Refused 1) a) (sym is)
-          (told_failed m (request_by look terms is_broken given room (text_bytes m host given 16)) (requests.Refused 1)
+          (request_by look limits is_broken given room (text_bytes m host given 16)) (requests.Refused 1) a) (sym is)
+          (told_failed m (request_by look limits is_broken given room (text_bytes m host given 16)) (requests.Refused 1)
           (header_fault m host.tables given) e
           (header_found m host given look s still goes enough (Err e) new found))
 
       go : (a b : Bool) → (is_broken || nat_lt (length given) 16) ≡ b
           → MatchBool a ((answer ≡ Ok requests.Unserved) × (new ≡ s))
           (MatchBool b ((answer ≡ Ok (requests.Refused 1)) × (new ≡ s))
-          (Looked look terms is_broken given room s answer new))
+          (Looked look limits is_broken given room s answer new))
           → MatchBool a (answer ≡ Ok requests.Unserved) (MatchBool b (answer ≡ Ok (requests.Refused 1))
           (Told m (header_fault m host.tables given)
-          (request_by look terms is_broken given room (text_bytes m host given 16)) (requests.Refused 1) answer))
+          (request_by look limits is_broken given room (text_bytes m host given 16)) (requests.Refused 1) answer))
       go true b is h = h.0
       go false true is h = h.0
       go false false is h =
@@ -824,5 +824,5 @@ module _ {S : Type 0} (store : S → List Entry → List ℕ → Result ℕ Gues
 
 -- what a reference that a call kept holds then is what its caller finds
 module _ {X N : Type 0} {was is : N} {x : X} (left : X) (same : is ≡ was) where
-  pub left_behind : (P : X → Type 0) → (was ≡ is → x ≡ left) → P left → P x
-  left_behind P follows h = subst P (sym (follows (sym same))) h
+  pub left_after : (P : X → Type 0) → (was ≡ is → x ≡ left) → P left → P x
+  left_after P follows h = subst P (sym (follows (sym same))) h

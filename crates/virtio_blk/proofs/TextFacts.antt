@@ -84,7 +84,7 @@ module _ (m : Memory) (tables : List Table) where
       go false f (Reaches r) h = ap (λ rs. r ∷ rs) h
       go false f (Stops g) h = refl
 
-  -- a text of n addresses ended behind k of them
+  -- a text of n addresses ended after k of them
   abbrev pub EndsAt : Option AccessFault → ℕ → ℕ → Type 0
   EndsAt fault k n = MatchOption fault (k ≡ n) (λ f. k < n)
 
@@ -300,7 +300,7 @@ module _ (m : Memory) (tables : List Table) (access : Permissions) where
         ∙ sym (drop-drop (sum_by (λ (c : ℕ × ℕ). c.1) cs) c.1 es)) k),
   )
 
-  -- calls behind others
+  -- calls after others
   pub accessed-append : (es : List Entry) (n k : ℕ) → Accessed m tables access es n
       → Accessed m tables access (drop n es) k → Accessed m tables access es (n + k)
   accessed-append es n k front behind = record {
@@ -524,7 +524,7 @@ module _ {B : Type 0} (marks : B → ℕ → ℕ → B → Type 0) (m : Memory) 
       counted (Ok j) told h f = answered_count m old.tables Write es (length buffer) j x f h ∙ sym told
       counted (Err e) told h f = (answered_none m old.tables Write es (length buffer) x e f h).0 ∙ sym told
 
-  -- a write behind another one
+  -- a write after another one
   pub writes-append : (es : List Entry) (bs cs : List ℕ) (old mid new : Host B) → WritesAt marks m es bs old mid
       → WritesAt marks m (drop (length bs) es) cs mid new → WritesAt marks m es (bs ++ cs) old new
   writes-append es bs cs old mid new front behind =

@@ -1,6 +1,6 @@
 -- The device as its owner sees it, and the features that it offers.
 use Rattle.std.specs.Prelude.{ℕ, ◌+◌, ◌-◌, ◌^◌, min, if◌then◌else◌, Bool, true, false, ◌==◌, ◌&&◌, not, nat_lt, List, None, bit_and}
-use Rattle.virtio_blk.specs.declared.request.Terms.{Terms}
+use Rattle.virtio_blk.specs.declared.request.DeviceLimits.{DeviceLimits}
 
 -- a device: its disk, whether it only reads that, its name of 20 bytes, the features that were accepted, and how many
 -- chains it served with an access that there was no memory to translate
@@ -11,9 +11,9 @@ pub record Device (D : Type 0) : Type 0 where
   pub acked : ℕ
   pub starved : ℕ
 
--- what its requests are held against: the device offers no limits
-abbrev pub terms_of : {D : Type 0} → (D → ℕ) → Device D → Terms
-terms_of sectors d = record {
+-- what its requests are checked against: the device offers no limits
+abbrev pub limits_of : {D : Type 0} → (D → ℕ) → Device D → DeviceLimits
+limits_of sectors d = record {
   sectors = sectors d.disk;
   read_only = d.read_only;
   acked = d.acked;

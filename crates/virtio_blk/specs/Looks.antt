@@ -11,7 +11,7 @@ use Rattle.virtio_blk.specs.Request.{request_of}
 use Rattle.virtio_blk.specs.Steps.{gapless}
 use Rattle.virtio_blk.specs.declared.request.Request.{Request}
 use Rattle.virtio_blk.specs.declared.request.Request.TheVariants.{Refused, Unserved}
-use Rattle.virtio_blk.specs.declared.request.Terms.{Terms}
+use Rattle.virtio_blk.specs.declared.request.DeviceLimits.{DeviceLimits}
 
 -- what a look found that filled the front of a buffer
 abbrev pub found_in : List ℕ → Result ℕ GuestMemoryError → Result (List ℕ) GuestMemoryError
@@ -31,7 +31,7 @@ by_access (Ok x) done without = Ok (done x)
 by_access (Err e) done without = failed e without
 
 module _ {S : Type 0} (look : S → List Entry → ℕ → Result (List ℕ) GuestMemoryError → S → Type 0) where
-  -- looks at the first N bytes of a text found these pieces, the last one first: each look is at the bytes behind those
+  -- looks at the first N bytes of a text found these pieces, the last one first: each look is at the bytes after those
   -- that were found before it, so no byte is found twice
   abbrev pub Finds : List Entry → ℕ → List (List ℕ) → S → S → Type 0
   Finds es n [] old new = new ≡ old
@@ -47,12 +47,12 @@ module _ {S : Type 0} (look : S → List Entry → ℕ → Result (List ℕ) Gue
 
   -- the first step: at most the 16 bytes of the header are looked at, and only to know what is asked for. All of that is
   -- made of what these looks found
-  unfoldable pub BeginsBy : Terms → Bool → List Entry → List Entry → S → Result Request GuestMemoryError → S → Type 0
-  BeginsBy terms is_broken given room old answer new =
+  unfoldable pub BeginsBy : DeviceLimits → Bool → List Entry → List Entry → S → Result Request GuestMemoryError → S → Type 0
+  BeginsBy limits is_broken given room old answer new =
       MatchBool (length room == 0) ((answer ≡ Ok Unserved) × (new ≡ old))
       (MatchBool (is_broken || nat_lt (length given) 16) ((answer ≡ Ok (Refused 1)) × (new ≡ old))
       ((header : Result (List ℕ) GuestMemoryError) × FindsAll given 16 old header new × (answer ≡ by_access header
-      (λ bytes. request_of terms bytes (length given - 16) (length room - 1)) (Refused 1))))
+      (λ bytes. request_of limits bytes (length given - 16) (length room - 1)) (Refused 1))))
 
 -- the second step: one store, of the status, at the last byte of a text
 unfoldable pub FinishesBy : {S : Type 0} → (S → List Entry → List ℕ → Result ℕ GuestMemoryError → S → Type 0) → List Entry

@@ -5,7 +5,7 @@ use Rattle.vm_memory_guest.specs.Host.{Host}
 use Rattle.vm_memory_guest.specs.Memory.{Memory}
 use Rattle.vm_memory_device.specs.Chain.{Entry, readable, text, writable}
 use Rattle.vm_memory_device.specs.declared.chain.Segment.{Segment}
-use Rattle.virtio_blk.specs.Config.{Device, counted, terms_of}
+use Rattle.virtio_blk.specs.Config.{Device, counted, limits_of}
 use Rattle.virtio_blk.specs.Disk.{Call, reads, writes, flushes, LieAt, Moves, after_write, joined}
 use Rattle.virtio_blk.specs.Request.{request_of}
 use Rattle.virtio_blk.specs.Texts.{Accessed, Stops, StopsAt, StopsWithin, WritesAt, reached, text_bytes}
@@ -16,7 +16,7 @@ use Rattle.virtio_blk.specs.declared.request.Request.TheVariants.{Read, Write, F
 abbrev pub piece : ℕ
 piece = 65536
 
--- the piece of a number of bytes in which one of them lies ends behind the last byte of a whole piece, or of all
+-- the piece of a number of bytes in which one of them lies ends after the last byte of a whole piece, or of all
 abbrev pub piece_end : ℕ → ℕ → ℕ
 piece_end len at = min (at / piece * piece + piece) len
 
@@ -117,7 +117,7 @@ module _ {B D : Type 0} (bytes : D → Option (List ℕ)) (sectors : D → ℕ) 
   Performs es room old status wanted sent new =
       (NoHeader m host es wanted × Does (Refused 1) (drop 16 es) room old status false sent new)
       ⊎ ((16 ≤ length (reached m host.tables es)) × Accessed m host.tables permissions.Read es 16
-      × Does (request_of (terms_of sectors old) (text_bytes m host es 16) (length es - 16) (length room - 1))
+      × Does (request_of (limits_of sectors old) (text_bytes m host es 16) (length es - 16) (length room - 1))
       (drop 16 es) room old status wanted sent new)
 
 module _ {B : Type 0} (marks : B → ℕ → ℕ → B → Type 0) (m : Memory) where
@@ -139,10 +139,10 @@ module _ {B D : Type 0} (marks : B → ℕ → ℕ → B → Type 0) (bytes : D 
   -- a chain with no byte for the status is not served. One for which an allocation failed is counted
   abbrev pub ServesTexts : List Entry → List Entry → Device D → Host B → ℕ → Device D → Host B → Type 0
   ServesTexts given room old host len new after = MatchBool (nat_lt 0 (length room))
-      ((status : ℕ) × (sent : List ℕ) × (disk : D) × (before : Bool) × (behind : Bool)
+      ((status : ℕ) × (sent : List ℕ) × (disk : D) × (before : Bool) × (later : Bool)
       × Performs bytes sectors calls m host given room old status before sent disk
-      × Tells marks m room status sent behind host len after
-      × (new ≡ record old { disk = disk; starved = counted (before || behind) old.starved }))
+      × Tells marks m room status sent later host len after
+      × (new ≡ record old { disk = disk; starved = counted (before || later) old.starved }))
       ((len ≡ 0) × (new ≡ old) × (after ≡ host))
 
   -- a chain was served: N bytes from its first writable one on were written without a gap

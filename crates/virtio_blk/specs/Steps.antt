@@ -16,7 +16,7 @@ use Rattle.virtio_blk.specs.Request.{request_of}
 use Rattle.virtio_blk.specs.Texts.{WritesAt, text_bytes}
 use Rattle.virtio_blk.specs.declared.request.Request.{Request}
 use Rattle.virtio_blk.specs.declared.request.Request.TheVariants.{Read, Write, Flush, GetId, Refused, Unserved}
-use Rattle.virtio_blk.specs.declared.request.Terms.{Terms}
+use Rattle.virtio_blk.specs.declared.request.DeviceLimits.{DeviceLimits}
 
 -- what a step returns: it was done, or it was done without bytes that have no memory. It is the error of an access that
 -- the IOMMU refuses, which the mapping may still come for
@@ -49,18 +49,18 @@ has_longer (Some most) segments = list_any (λ s. nat_lt most s.len) segments
 
 -- the segments of a chain break a limit that the driver keeps: beside the two with the header and the status they are
 -- too many, or one of all is too long
-abbrev pub breaks_limits : Terms → List Segment → Bool
-breaks_limits terms segments = is_over terms.seg_max (length segments - 2) || has_longer terms.size_max segments
+abbrev pub breaks_limits : DeviceLimits → List Segment → Bool
+breaks_limits limits segments = is_over limits.seg_max (length segments - 2) || has_longer limits.size_max segments
 
 -- what a chain with these texts asks for, which breaks a limit or not. One with no byte for the status is not served, and
 -- one that breaks a limit, or whose header is short, or has no memory, is refused
-abbrev pub Begins : {B : Type 0} → Memory → Host B → Terms → Bool → List Entry → List Entry
+abbrev pub Begins : {B : Type 0} → Memory → Host B → DeviceLimits → Bool → List Entry → List Entry
     → Result Request GuestMemoryError → Type 0
-Begins m host terms is_broken given room answer =
+Begins m host limits is_broken given room answer =
     MatchBool (length room == 0) (answer ≡ Ok Unserved)
     (MatchBool (is_broken || nat_lt (length given) 16) (answer ≡ Ok (Refused 1))
     (Told m (header_fault m host.tables given)
-    (request_of terms (text_bytes m host given 16) (length given - 16) (length room - 1)) (Refused 1) answer))
+    (request_of limits (text_bytes m host given 16) (length given - 16) (length room - 1)) (Refused 1) answer))
 
 -- the data of a request are whole sectors of a disk of N, or at most the 20 bytes of a name
 abbrev pub FitsOn : ℕ → Request → Type 0

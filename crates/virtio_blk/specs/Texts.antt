@@ -24,7 +24,7 @@ module _ (m : Memory) (tables : List Table) (access : Permissions) where
     pub why : MatchBool wanted (MayWantAt m tables access (take most es) 0)
         (text_path m.regions (route m tables) access true (take most es) ≡ [])
 
-  -- calls for the first so many addresses of a text end behind k of them, for such a reason
+  -- calls for the first so many addresses of a text end after k of them, for such a reason
   abbrev pub StopsAt : List Entry → ℕ → Bool → ℕ → Type 0
   StopsAt es count wanted k = (k < count) × Stops (drop k es) (count - k) wanted
 
@@ -32,7 +32,7 @@ module _ (m : Memory) (tables : List Table) (access : Permissions) where
   abbrev pub StopsWithin : List Entry → ℕ → Bool → Type 0
   StopsWithin es count wanted = (k : ℕ) × StopsAt es count wanted k
 
-  -- calls over a text, one behind the other, each of at most so many addresses, of which it moves so many, are allowed
+  -- calls over a text, one after the other, each of at most so many addresses, of which it moves so many, are allowed
   -- to access these
   abbrev pub AreAllowed : List (ℕ × ℕ) → List Entry → Type 0
   AreAllowed [] es = Unit {0}

@@ -2,7 +2,7 @@
 ghost use Rattle.std.specs.Prelude.{◌≡◌, ◌*◌, ◌<◌, ◌^◌, length, if◌then◌else◌, IfOk, bit_and, ◌==◌, not};
 ghost use Rattle.std.specs.Int.{w64, to_le_bytes};
 ghost use Rattle.vm_memory_guest.specs.Host.{shape_of, Holds};
-ghost use Rattle.virtio_blk.specs.Config.{Device, acceptable, offered, terms_of};
+ghost use Rattle.virtio_blk.specs.Config.{Device, acceptable, limits_of, offered};
 ghost use Rattle.virtio_blk.specs.Served.{Serves};
 
 mod pieces;
@@ -14,7 +14,7 @@ use crate::features::{
     VIRTIO_BLK_F_FLUSH, VIRTIO_BLK_F_RO, VIRTIO_F_VERSION_1, VIRTIO_RING_F_EVENT_IDX,
     VIRTIO_RING_F_INDIRECT_DESC,
 };
-use crate::request::{ID_LEN, Terms};
+use crate::request::{DeviceLimits, ID_LEN};
 use std::alloc::{AllocError, Global};
 use std::marker::Model;
 use vm_memory_device::Segment;
@@ -160,12 +160,12 @@ impl<D: Disk> BlockDevice<D> {
         self.starved
     }
 
-    // What its requests are held against.
-    fn terms(&self) -> Terms
-        ensures terms { result ≡ terms_of D.sectors self.now }
+    // What its requests are checked against.
+    fn limits(&self) -> DeviceLimits
+        ensures limits { result ≡ limits_of D.sectors self.now }
         ensures small { D.sectors self.now.disk < 2 ^ 55 }
     {
-        Terms {
+        DeviceLimits {
             sectors: self.disk.sectors(),
             read_only: self.read_only,
             acked: self.acked,

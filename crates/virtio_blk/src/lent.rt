@@ -26,7 +26,7 @@ pub(crate) fn data_segment(chain: &Chain, len: usize) -> Option<GuestAddress>
 
 // Where data is from a byte on, if it is known where it begins.
 #[inline]
-pub(crate) fn data_behind(start: Option<GuestAddress>, moved: usize) -> Option<GuestAddress>
+pub(crate) fn data_from(start: Option<GuestAddress>, moved: usize) -> Option<GuestAddress>
     ensures { MatchOption result (Unit {0}) (λ a. MatchOption start ⊥ (λ b. a.0 ≡ b.0 + moved)) }
 {
     start?.checked_add(moved as u64)

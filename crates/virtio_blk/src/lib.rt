@@ -21,7 +21,7 @@ pub use features::{
 };
 pub use looks::{Fetches, Puts};
 pub use request::{
-    ID_LEN, Request, Terms, VIRTIO_BLK_S_IOERR, VIRTIO_BLK_S_OK, VIRTIO_BLK_S_UNSUPP,
+    DeviceLimits, ID_LEN, Request, VIRTIO_BLK_S_IOERR, VIRTIO_BLK_S_OK, VIRTIO_BLK_S_UNSUPP,
     VIRTIO_BLK_T_FLUSH, VIRTIO_BLK_T_GET_ID, VIRTIO_BLK_T_IN, VIRTIO_BLK_T_OUT,
 };
 pub use steps::{begin, begin_from, finish, finish_from};

@@ -32,7 +32,7 @@ pub const VIRTIO_BLK_S_UNSUPP: u8 = 2;
 
 /// What a request is checked against: the disk, and what the driver accepted.
 #[derive(Clone, Copy, Debug, PartialEq, Eq)]
-pub struct Terms {
+pub struct DeviceLimits {
     /// The number of sectors of the disk, each of 512 bytes.
     pub sectors: u64,
     /// Whether the disk is read-only.
@@ -106,20 +106,28 @@ const UNSUPP: Request = Request::Refused {
 
 // What a request asks for, by its header, the number of readable bytes that follow it, and that of the writable ones
 // before the status.
-pub(crate) fn request_of(terms: Terms, header: &[u8; 16], given: usize, room: usize) -> Request
-    ensures { result ≡ request_of terms header.now given room }
+pub(crate) fn request_of(
+    limits: DeviceLimits,
+    header: &[u8; 16],
+    given: usize,
+    room: usize,
+) -> Request
+    ensures { result ≡ request_of limits header.now given room }
 {
     let (Some(kind), Some(sector)) = (u32::from_slice(&header[..4]), u64::from_slice(&header[8..]))
     else {
         return IOERR;
     };
     match kind {
-        VIRTIO_BLK_T_IN if fits(terms.sectors, sector, room) => Request::Read { sector, len: room },
-        VIRTIO_BLK_T_OUT if !terms.read_only && fits(terms.sectors, sector, given) => {
+        VIRTIO_BLK_T_IN if fits(limits.sectors, sector, room) => Request::Read {
+            sector,
+            len: room,
+        },
+        VIRTIO_BLK_T_OUT if !limits.read_only && fits(limits.sectors, sector, given) => {
             Request::Write {
                 sector,
                 len: given,
-                flush: must_stay(terms.acked, given),
+                flush: must_stay(limits.acked, given),
             }
         }
         VIRTIO_BLK_T_IN | VIRTIO_BLK_T_OUT => IOERR,

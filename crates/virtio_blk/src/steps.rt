@@ -7,7 +7,7 @@ ghost use Rattle.virtio_blk.specs.Looks.{BeginsBy, FinishesBy, failed};
 ghost use Rattle.virtio_blk.specs.Steps.{Begins, Finishes, FitsOn, breaks_limits, has_longer, is_over};
 
 use crate::looks::{Fetches, Lent, LentMut, Puts, fetch_all};
-use crate::request::{Request, Terms, VIRTIO_BLK_S_IOERR, request_of};
+use crate::request::{DeviceLimits, Request, VIRTIO_BLK_S_IOERR, request_of};
 use vm_memory_base::Bitmap;
 use vm_memory_device::{Chain, Segment};
 use vm_memory_guest::{GuestMemory, GuestMemoryError, GuestMemoryResult, HostMemory};
@@ -64,44 +64,45 @@ fn has_longer(limit: Option<usize>, segments: &[Segment]) -> bool
 
 // Whether the segments of a chain break a limit that the driver keeps.
 #[inline]
-fn breaks_limits(terms: Terms, segments: &[Segment]) -> bool
-    ensures { result ≡ breaks_limits terms segments.now }
+fn breaks_limits(limits: DeviceLimits, segments: &[Segment]) -> bool
+    ensures { result ≡ breaks_limits limits segments.now }
 {
-    is_over(terms.seg_max, segments.len().saturating_sub(2)) || has_longer(terms.size_max, segments)
+    is_over(limits.seg_max, segments.len().saturating_sub(2))
+        || has_longer(limits.size_max, segments)
 }
 
 /// Reads the header of a request and says what the device has to do, before it does any of it. Nothing changes.
 ///
-/// A request that is wrong is not an error, but `Refused`. One that breaks a limit of the terms is refused before its
+/// A request that is wrong is not an error, but `Refused`. One that breaks one of the limits is refused before its
 /// header is read, with `VIRTIO_BLK_S_IOERR`. An error means that nothing is decided:
 /// [`GuestMemoryError::IommuError`] if the IOMMU refuses an access to the header, and [`GuestMemoryError::Memory`] if
 /// its translation fails to allocate. A device whose mappings come later makes the call again then.
 ///
 /// Leaves open: `Memory` each time behind an IOMMU that is on, if there is a header to read. Then nothing changed.
 pub fn begin<M: GuestMemory, B: Bitmap>(
-    terms: Terms,
+    limits: DeviceLimits,
     mem: &M,
     host: &HostMemory<B>,
     chain: &Chain,
 ) -> GuestMemoryResult<Request>
     requires { Holds (shape_of host.now) (M.names mem.now) }
-    ensures begun { Begins (M.memory mem.now) host.now terms (breaks_limits terms chain.now)
+    ensures begun { Begins (M.memory mem.now) host.now limits (breaks_limits limits chain.now)
         (text (readable chain.now)) (text (writable chain.now)) result }
-    ensures fits { IfOk result (λ request. FitsOn terms.sectors request) }
+    ensures fits { IfOk result (λ request. FitsOn limits.sectors request) }
 {
     let mut lent = Lent { mem, host };
-    begin_from(terms, &mut lent, chain)
+    begin_from(limits, &mut lent, chain)
 }
 
 /// As `begin`, from memory that a driver may write meanwhile.
 pub fn begin_from<F: Fetches>(
-    terms: Terms,
+    limits: DeviceLimits,
     guest: &mut F,
     chain: &Chain,
 ) -> GuestMemoryResult<Request>
-    ensures begun { BeginsBy F.fetches terms (breaks_limits terms chain.now) (text (readable chain.now))
+    ensures begun { BeginsBy F.fetches limits (breaks_limits limits chain.now) (text (readable chain.now))
         (text (writable chain.now)) guest.old result guest.new }
-    ensures fits { IfOk result (λ request. FitsOn terms.sectors request) }
+    ensures fits { IfOk result (λ request. FitsOn limits.sectors request) }
 {
     let room = chain.writer().left();
     let len = chain.reader().left();
@@ -111,13 +112,13 @@ pub fn begin_from<F: Fetches>(
     let refused = Request::Refused {
         status: VIRTIO_BLK_S_IOERR,
     };
-    if breaks_limits(terms, chain.segments()) || len < 16 {
+    if breaks_limits(limits, chain.segments()) || len < 16 {
         return Ok(refused);
     }
     let mut reader = chain.reader();
     let mut header = [0; 16];
     match fetch_all(guest, &mut reader, &mut header) {
-        Ok(()) => Ok(request_of(terms, &header, len - 16, room - 1)),
+        Ok(()) => Ok(request_of(limits, &header, len - 16, room - 1)),
         Err(error) => failed(error, refused),
     }
 }

@@ -9,7 +9,7 @@ use borrow.Author.Tests.{ltb-true}
 use Rattle.std.proofs.lemmas.Bool.Decides.{nat_tests}
 use Rattle.std.proofs.lemmas.Option.{slice_get_past, slice_get_within}
 use Rattle.virtio_queue.specs.History.{Entry, Story, Event, Publish, Pop, Return, Take, with_slot, head_to_pop, entry_to_take, after, after_pop, after_take, May, AllMay, story, beginning, empty_rings}
-use Rattle.virtio_queue.specs.Rings.{ahead, behind, next_in, slot}
+use Rattle.virtio_queue.specs.Rings.{ahead, index_after, next_in, slot}
 use Rattle.virtio_queue.specs.State.{is_size}
 use Rattle.virtio_queue.specs.declared.error.QueueError.TheVariants.{InvalidAvailRingIndex}
 
@@ -189,15 +189,15 @@ module _ (size avail used : ℕ) (some : 0 < size) (fits : size ≤ 32768) (divi
       less : (m n : ℕ) → n ≤ m → (m ≡ n → ⊥) → n < m
       less m n h e = omega (arith, e)
 
-  behind_is : (start n index : ℕ) → index ≡ (start + n) % 65536 → behind index ≡ (start + suc n) % 65536
-  behind_is start n index e = omega arith
+  after_is : (start n index : ℕ) → index ≡ (start + n) % 65536 → index_after index ≡ (start + suc n) % 65536
+  after_is start n index e = omega arith
 
   after_publish_holds : (head : ℕ) (s : Story) → Holds size avail used s → May size (Publish head) s
       → Holds size avail used (after size (Publish head) s)
   after_publish_holds head s h may =
       let more = length_more s.published head in
       record {
-        avail_idx = behind_is avail (length s.published) s.rings.avail_idx h.avail_idx
+        avail_idx = after_is avail (length s.published) s.rings.avail_idx h.avail_idx
             ∙ ap (λ n. (avail + n) % 65536) (sym more);
         next_avail = h.next_avail;
         used_idx = h.used_idx;
@@ -220,7 +220,7 @@ module _ (size avail used : ℕ) (some : 0 < size) (fits : size ≤ 32768) (divi
       record {
         avail_idx = h.avail_idx;
         next_avail = h.next_avail;
-        used_idx = behind_is used (length s.returned) s.rings.used_idx h.used_idx
+        used_idx = after_is used (length s.returned) s.rings.used_idx h.used_idx
             ∙ ap (λ n. (used + n) % 65536) (sym more);
         next_used = h.next_used;
         popped_within = h.popped_within;
@@ -242,7 +242,7 @@ module _ (size avail used : ℕ) (some : 0 < size) (fits : size ≤ 32768) (divi
       let within = slice_get_within s.published (length s.popped) head (sym e) in
       record {
         avail_idx = h.avail_idx;
-        next_avail = behind_is avail (length s.popped) s.rings.next_avail h.next_avail
+        next_avail = after_is avail (length s.popped) s.rings.next_avail h.next_avail
             ∙ ap (λ n. (avail + n) % 65536) (sym more);
         used_idx = h.used_idx;
         next_used = h.next_used;
@@ -266,7 +266,7 @@ module _ (size avail used : ℕ) (some : 0 < size) (fits : size ≤ 32768) (divi
         avail_idx = h.avail_idx;
         next_avail = h.next_avail;
         used_idx = h.used_idx;
-        next_used = behind_is used (length s.taken) s.rings.next_used h.next_used
+        next_used = after_is used (length s.taken) s.rings.next_used h.next_used
             ∙ ap (λ n. (used + n) % 65536) (sym more);
         popped_within = h.popped_within;
         returned_within = h.returned_within;
@@ -344,10 +344,10 @@ order_is_kept size avail used es is a u may =
 
 -- a returned entry goes into its slot, and no other slot changes
 pub returned_alike : (size next index : ℕ) (slots : ℕ → Entry) (entry : Entry) → index ≡ next
-    → (behind index ≡ behind next) × (with_slot slots (slot size index) entry (slot size next) ≡ entry)
+    → (index_after index ≡ index_after next) × (with_slot slots (slot size index) entry (slot size next) ≡ entry)
     × ((j : ℕ) → (j ≡ slot size next → ⊥) → with_slot slots (slot size index) entry j ≡ slots j)
 returned_alike size next index slots entry e = (
-  ap behind e,
+  ap index_after e,
   same_slot slots (slot size index) (slot size next) entry (ap (slot size) (sym e)),
   λ j differs. other_slot slots (slot size index) j entry (λ h. differs (h ∙ ap (slot size) e)),
 )

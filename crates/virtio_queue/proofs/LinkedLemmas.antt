@@ -114,10 +114,10 @@ module _ (descriptor : ℕ → Result Descriptor QueueError) (len : ℕ) where
   unfolding LeadsTo
   here most i x ends = ([], i, refl, ends)
 
-  one_behind : (most i : ℕ) (x : QueueError) (d : Descriptor) → entry descriptor len i ≡ Ok d → is_last d ≡ false
+  one_after : (most i : ℕ) (x : QueueError) (d : Descriptor) → entry descriptor len i ≡ Ok d → is_last d ≡ false
       → Leads most d.next x → Leads (suc most) i x
   unfolding LeadsTo
-  one_behind most i x d e last (ds, j, leads, ends) = (d ∷ ds, j, (e, last, leads), more ends)
+  one_after most i x d e last (ds, j, leads, ends) = (d ∷ ds, j, (e, last, leads), more ends)
     where
       more : Ends most x ds j → Ends (suc most) x (d ∷ ds) j
       more (inl (all, within, is)) = inl (ap suc all, within, is)
@@ -132,12 +132,12 @@ module _ (descriptor : ℕ → Result Descriptor QueueError) (len : ℕ) where
       let is : x ≡ errors.InvalidDescriptorIndex = cc in
       let outside : entry descriptor len i ≡ Err x = rw (e, is) refl in here 0 i x (inr (omega arith, outside))
 
-  behind_refused : (r : Result Followed QueueError) (d : Descriptor) (x : QueueError)
+  after_refused : (r : Result Followed QueueError) (d : Descriptor) (x : QueueError)
       → prefixed (segment_of d ∷ []) r ≡ Err x → r ≡ Err x
-  behind_refused (Ok f) d x is = absurd (cc)
-  behind_refused (Err y) d x is = cc
+  after_refused (Ok f) d x is = absurd (cc)
+  after_refused (Err y) d x is = cc
 
-  -- a chain that is refused at its first descriptor, or behind it
+  -- a chain that is refused at its first descriptor, or after it
   module _ (most i : ℕ) (x : QueueError) (h : followed descriptor len (suc most) i ≡ Err x)
       (later : (j : ℕ) → followed descriptor len most j ≡ Err x → Leads most j x) where
     ended_refused : (d : Descriptor) → entry descriptor len i ≡ Ok d → (b : Bool) → is_last d ≡ b
@@ -146,9 +146,9 @@ module _ (descriptor : ℕ → Result Descriptor QueueError) (len : ℕ) where
         let no : ◌≡◌ {A = Result Followed QueueError} (Ok (told_by (d ∷ []))) (Err x) =
         sym (last_turn most i d e last) ∙ h in absurd (cc)
     ended_refused d e false last =
-        let behind = behind_refused (followed descriptor len most d.next) d x
+        let behind = after_refused (followed descriptor len most d.next) d x
         (sym (next_turn most i d e last).0 ∙ h) in
-        one_behind most i x d e last (later d.next behind)
+        one_after most i x d e last (later d.next behind)
 
     met_refused : (r : Result Descriptor QueueError) → entry descriptor len i ≡ r → Leads (suc most) i x
     met_refused (Ok d) e = ended_refused d e (is_last d) refl

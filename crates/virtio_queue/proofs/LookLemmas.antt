@@ -6,7 +6,7 @@ use Rattle.vm_memory_device.specs.declared.chain.ChainFault.{ChainFault}
 use Rattle.virtio_queue.specs.Available.{Followed, direct, if_chain, indirect_len}
 use Rattle.virtio_queue.specs.Descriptor.{has_next, is_indirect, segment_of}
 use Rattle.virtio_queue.specs.Looks.{Follows, Given, Step, Tree, and_takes, gives, if_ok, keeps, takes, row}
-use Rattle.virtio_queue.specs.Popping.{chain_behind, chain_from, following, next_head, popping, segments_from, table_behind, with_table}
+use Rattle.virtio_queue.specs.Popping.{chain_after, chain_from, following, next_head, popping, segments_from, table_after, with_table}
 use Rattle.virtio_queue.specs.declared.state.QueueState.{QueueState}
 use Rattle.virtio_queue.specs.declared.descriptor.Descriptor.{Descriptor}
 use Rattle.virtio_queue.specs.declared.error.QueueError.{QueueError}
@@ -127,21 +127,21 @@ module _ {S : Type 0} (look : S → (p : Step) → Result (Given p) QueueError �
     unfolding following
     at_outside s h k = let none : len - turns ≡ 0 = omega arith in rw (none, le-ltb index len k) (refl, refl)
 
-  -- an indirect table, behind these segments
+  -- an indirect table, after these segments
   module _ (front : List Segment) (d : Descriptor) (n : ℕ) (s new : S) (is : Ok n ≡ indirect_len d) where
     abbrev rest : Followed → Tree (List Segment)
     rest f = gives (direct f)
 
-    table_is : and_takes (following d.addr n n front 0) rest ≡ table_behind front d
+    table_is : and_takes (following d.addr n n front 0) rest ≡ table_after front d
     table_is = ap (if_ok (λ n. and_takes (following d.addr n n front 0) rest)) is
 
     pub table_refused : (e : QueueError) → Follows look (following d.addr n n front 0) s (Err e) new
-        → Follows look (table_behind front d) s (Err e) new
+        → Follows look (table_after front d) s (Err e) new
     table_refused e h = subst (λ t. Follows look t s (Err e) new) table_is
         (then_fails (following d.addr n n front 0) rest s new e h)
 
     pub table_followed : (f : Followed) → Follows look (following d.addr n n front 0) s (Ok f) new
-        → Follows look (table_behind front d) s (direct f) new
+        → Follows look (table_after front d) s (direct f) new
     table_followed f h = subst (λ t. Follows look t s (direct f) new) table_is
         (then_follows (following d.addr n n front 0) rest s new new f (direct f) h (refl, refl))
 
@@ -180,10 +180,10 @@ module _ {S : Type 0} (look : S → (p : Step) → Result (Given p) QueueError �
 
       pub pop_refused : (e : QueueError) → Follows look (chain_from q head) mid (Err e) new
           → Follows look (popping q) s (Err e) new
-      pop_refused e h = then_follows (next_head q) (chain_behind q) s mid new (Some head) (Err e) found
+      pop_refused e h = then_follows (next_head q) (chain_after q) s mid new (Some head) (Err e) found
           (then_fails (chain_from q head) with_head mid new e h)
 
       pub pop_found : (ss : List Segment) → Follows look (chain_from q head) mid (Ok ss) new
           → Follows look (popping q) s (Ok (Some (head, ss))) new
-      pop_found ss h = then_follows (next_head q) (chain_behind q) s mid new (Some head) (Ok (Some (head, ss))) found
+      pop_found ss h = then_follows (next_head q) (chain_after q) s mid new (Some head) (Ok (Some (head, ss))) found
           (then_follows (chain_from q head) with_head mid new new ss (Ok (Some (head, ss))) h (refl, refl))

@@ -26,7 +26,7 @@ module _ (descriptor : ℕ → Result PackedDescriptor QueueError) (size : ℕ) 
   unfolding listed
   turn most i r e = rw e refl
 
-  -- a chain that ends at its first descriptor, or goes on behind it
+  -- a chain that ends at its first descriptor, or goes on after it
   module _ (most i : ℕ) (l : Listed) (h : listed descriptor size (suc most) i ≡ Ok l)
       (later : (k : Listed) → listed descriptor size most (slot_after size i) ≡ Ok k
       → Lies most (slot_after size i) k) where

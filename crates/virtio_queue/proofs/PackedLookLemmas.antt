@@ -6,7 +6,7 @@ use Rattle.vm_memory_device.specs.declared.chain.Segment.{Segment}
 use Rattle.virtio_queue.specs.Available.{if_chain}
 use Rattle.virtio_queue.specs.Looks.{Follows, Given, Step, Tree, and_takes, gives, keeps, takes, row, word}
 use Rattle.virtio_queue.specs.Packed.{slot_after, slots_out}
-use Rattle.virtio_queue.specs.PackedPopping.{Taken, chain_behind, chain_known, chain_made, chain_taken, last_behind, listing, popping, rows_behind, with_known}
+use Rattle.virtio_queue.specs.PackedPopping.{Taken, chain_after, chain_known, chain_made, chain_taken, last_after, listing, popping, rows_after, with_known}
 use Rattle.virtio_queue.specs.PackedRing.{is_available, is_last, packed_of, segment_of}
 use Rattle.virtio_queue.specs.Rings.{and_then}
 use Rattle.virtio_queue.specs.declared.descriptor.Descriptor.{Descriptor}
@@ -92,36 +92,36 @@ module _ {S : Type 0} (look : S → (p : Step) → Result (Given p) QueueError �
 
   module _ (table len : ℕ) (front : List Segment) (index : ℕ) where
     abbrev kept : Descriptor → Tree (List Segment)
-    kept d = keeps (rows_behind table (len - (index + 1)) (front ++ segment_of (packed_of d) ∷ []) (index + 1))
+    kept d = keeps (rows_after table (len - (index + 1)) (front ++ segment_of (packed_of d) ∷ []) (index + 1))
 
-    next_row : index < len → rows_behind table (len - index) front index ≡ takes (row table index) kept
-    unfolding rows_behind
+    next_row : index < len → rows_after table (len - index) front index ≡ takes (row table index) kept
+    unfolding rows_after
     next_row h = let more : len - index ≡ suc (len - (index + 1)) = omega arith in rw more refl
 
     pub rows_refused : (s new : S) (e : QueueError) → index < len → look s (row table index) (Err e) new
-        → Follows look (rows_behind table (len - index) front index) s (Err e) new
+        → Follows look (rows_after table (len - index) front index) s (Err e) new
     rows_refused s new e h looked = rw (next_row h) (Err e, new, looked, (refl, refl))
 
     pub rows_full : (s new : S) (d : Descriptor) → index < len → look s (row table index) (Ok d) new
-        → Follows look (rows_behind table (len - index) front index) s (Err errors.Memory) new
+        → Follows look (rows_after table (len - index) front index) s (Err errors.Memory) new
     rows_full s new d h looked = rw (next_row h) (Ok d, new, looked, inr (refl, refl))
 
     pub rows_next : (s new : S) (d : Descriptor) (p : PackedDescriptor) (after : List Segment)
         (result : Result (List Segment) QueueError) (end : S) → index < len → look s (row table index) (Ok d) new
         → p ≡ packed_of d → after ≡ front ++ segment_of p ∷ []
-        → Follows look (rows_behind table (len - (index + 1)) after (index + 1)) new result end
-        → Follows look (rows_behind table (len - index) front index) s result end
+        → Follows look (rows_after table (len - (index + 1)) after (index + 1)) new result end
+        → Follows look (rows_after table (len - index) front index) s result end
     rows_next s new d p after result end h looked is so rest = rw (next_row h) (
       Ok d,
       new,
       looked,
-      inl (subst (λ ss. Follows look (rows_behind table (len - (index + 1)) ss (index + 1))
+      inl (subst (λ ss. Follows look (rows_after table (len - (index + 1)) ss (index + 1))
           new result end) (so ∙ ap (λ p. front ++ segment_of p ∷ []) is) rest),
     )
 
     pub rows_done : (s : S) → len ≤ index
-        → Follows look (rows_behind table (len - index) front index) s (Ok front) s
-    unfolding rows_behind
+        → Follows look (rows_after table (len - index) front index) s (Ok front) s
+    unfolding rows_after
     rows_done s h = let none : len - index ≡ 0 = omega arith in rw none (refl, refl)
 
   -- a chain of the descriptors that were taken
@@ -129,15 +129,15 @@ module _ {S : Type 0} (look : S → (p : Step) → Result (Given p) QueueError �
     abbrev ends : List Segment → Tree (PackedBuffer × List Segment)
     ends ss = gives (chain_made t ss)
 
-    pub last_refused : (e : QueueError) → Follows look (last_behind t.segments t.last) s (Err e) new
+    pub last_refused : (e : QueueError) → Follows look (last_after t.segments t.last) s (Err e) new
         → Follows look (chain_taken t) s (Err e) new
-    last_refused e h = then_fails look (last_behind t.segments t.last) ends s new e h
+    last_refused e h = then_fails look (last_after t.segments t.last) ends s new e h
 
     pub last_taken : (ss : List Segment) (fault : Option ChainFault)
-        → Follows look (last_behind t.segments t.last) s (Ok ss) new → chain_fault ss ≡ fault
+        → Follows look (last_after t.segments t.last) s (Ok ss) new → chain_fault ss ≡ fault
         → Follows look (chain_taken t) s
         (and_then (if_chain ss fault) (λ ss. Ok (record { id = t.last.id; slots = t.slots }, ss))) new
-    last_taken ss fault h is = then_follows look (last_behind t.segments t.last) ends s new new ss
+    last_taken ss fault h is = then_follows look (last_after t.segments t.last) ends s new new ss
         (and_then (if_chain ss fault) (λ ss. Ok (record { id = t.last.id; slots = t.slots }, ss))) h
         (ap (λ f. and_then (if_chain ss f) (λ ss. Ok (record { id = t.last.id; slots = t.slots }, ss))) (sym is), refl)
 
@@ -161,7 +161,7 @@ module _ {S : Type 0} (look : S → (p : Step) → Result (Given p) QueueError �
       abbrev some : PackedBuffer × List Segment → Tree (Option (PackedBuffer × List Segment))
       some p = gives (Ok (Some p))
 
-      behind : chain_behind q flags ≡ and_takes (chain_known q flags) some
+      behind : chain_after q flags ≡ and_takes (chain_known q flags) some
       behind = rw available refl
 
       pops : (result : Result (Option (PackedBuffer × List Segment)) QueueError)

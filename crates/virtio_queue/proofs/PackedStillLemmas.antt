@@ -8,7 +8,7 @@ use Rattle.virtio_queue.specs.Available.{if_chain, indirect_len}
 use Rattle.virtio_queue.specs.Fields.{Answers, descriptor_at, word_at}
 use Rattle.virtio_queue.specs.Looks.{MayWantAny, Tree, and_takes, gives, if_ok, keeps, takes, word}
 use Rattle.virtio_queue.specs.Packed.{slot_after, slots_out}
-use Rattle.virtio_queue.specs.PackedPopping.{MayWantChain, Taken, chain_behind, chain_known, chain_made, chain_taken, last_behind, listing, popping, rows_behind, with_known}
+use Rattle.virtio_queue.specs.PackedPopping.{MayWantChain, Taken, chain_after, chain_known, chain_made, chain_taken, last_after, listing, popping, rows_after, with_known}
 use Rattle.virtio_queue.specs.PackedRing as held
 use Rattle.virtio_queue.specs.PackedRing.{Listed, chain_of, has_next, if_next, in_front, is_available, is_indirect, is_last, last_segments, listed, next_chain, next_listed, packed_at, packed_of, plain, popped, prefixed, rows, segment_of, segments_of}
 use Rattle.virtio_queue.specs.Rings.{and_then}
@@ -26,7 +26,7 @@ in_front_twice : (xs ys : List Segment) (r : Result (List Segment) QueueError)
 in_front_twice xs ys (Ok ss) = ap Ok (sym (append_assoc xs ys ss))
 in_front_twice xs ys (Err e) = refl
 
--- the descriptors of a chain, behind these segments of so many slots
+-- the descriptors of a chain, after these segments of so many slots
 abbrev taken : List Segment → ℕ → Listed → Taken
 taken front slots l = record {
   segments = front ++ map segment_of l.front;
@@ -94,9 +94,9 @@ module _ {B : Type 0} (m : Memory) (host : Host B) where
 
   module _ (table : ℕ) where
     by_row : (n : ℕ) (front : List Segment) (i : ℕ) → ((front : List Segment) (i : ℕ)
-        → answer m host (rows_behind table n front i) ≡ in_front front (rows (packed_at m host table) n i))
+        → answer m host (rows_after table n front i) ≡ in_front front (rows (packed_at m host table) n i))
         → (r : Result Descriptor QueueError)
-        → and_then r (λ d. answer m host (rows_behind table n (front ++ segment_of (packed_of d) ∷ []) (i + 1)))
+        → and_then r (λ d. answer m host (rows_after table n (front ++ segment_of (packed_of d) ∷ []) (i + 1)))
         ≡ in_front front (and_then (and_then r (λ d. Ok (packed_of d)))
         (λ p. in_front (segment_of p ∷ []) (rows (packed_at m host table) n (i + 1))))
     by_row n front i rest (Ok d) = rest (front ++ segment_of (packed_of d) ∷ []) (i + 1)
@@ -104,24 +104,24 @@ module _ {B : Type 0} (m : Memory) (host : Host B) where
     by_row n front i rest (Err e) = refl
 
     answer_rows : (n : ℕ) (front : List Segment) (i : ℕ)
-        → answer m host (rows_behind table n front i) ≡ in_front front (rows (packed_at m host table) n i)
-    unfolding rows_behind rows
+        → answer m host (rows_after table n front i) ≡ in_front front (rows (packed_at m host table) n i)
+    unfolding rows_after rows
     answer_rows zero front i = ap Ok (sym (append-nil front))
     answer_rows (suc n) front i = by_row n front i (answer_rows n) (descriptor_at m host table i)
 
   module _ (front : List Segment) (d : PackedDescriptor) where
-    by_len : (r : Result ℕ QueueError) → answer m host (if_ok (λ n. rows_behind d.addr n front 0) r)
+    by_len : (r : Result ℕ QueueError) → answer m host (if_ok (λ n. rows_after d.addr n front 0) r)
         ≡ in_front front (and_then r (λ n. rows (packed_at m host d.addr) n 0))
     by_len (Ok n) = answer_rows d.addr n front 0
     by_len (Err e) = refl
 
-    by_kind : (kind : Bool) → answer m host (if kind then if_ok (λ n. rows_behind d.addr n front 0) (indirect_len (plain d))
+    by_kind : (kind : Bool) → answer m host (if kind then if_ok (λ n. rows_after d.addr n front 0) (indirect_len (plain d))
         else keeps (gives (Ok (front ++ segment_of d ∷ []))))
         ≡ in_front front (if kind then held.table_segments m host d else Ok (segment_of d ∷ []))
     by_kind true = by_len (indirect_len (plain d))
     by_kind false = refl
 
-    answer_last : answer m host (last_behind front d) ≡ in_front front (last_segments m host d)
+    answer_last : answer m host (last_after front d) ≡ in_front front (last_segments m host d)
     answer_last = by_kind (is_indirect d)
 
   -- ---- the chain
@@ -130,7 +130,7 @@ module _ {B : Type 0} (m : Memory) (host : Host B) where
   answer_taken l =
       let count : 0 + (length l.front + 1) ≡ length l.front + 1 = omega arith in
       let t = taken [] 0 l in
-      answer_then m host (last_behind t.segments t.last) (λ ss. gives (chain_made t ss))
+      answer_then m host (last_after t.segments t.last) (λ ss. gives (chain_made t ss))
       ∙ ap (λ r. and_then r (chain_made t)) (answer_last t.segments t.last)
       ∙ ap (λ n. and_then (segments_of m host l) (λ ss. and_then (if_chain ss (chain_fault ss)) (λ ss.
       Ok (record { id = l.last.id; slots = n }, ss)))) count
@@ -171,13 +171,13 @@ module _ {B : Type 0} (m : Memory) (host : Host B) where
         ∙ ap (λ r. and_then r (λ p. Ok (Some p))) (answer_known q flags there)
     by_available flags there false = refl
 
-    by_flags : (r : Result ℕ QueueError) → flags_at ≡ r → and_then r (λ flags. answer m host (chain_behind q flags))
+    by_flags : (r : Result ℕ QueueError) → flags_at ≡ r → and_then r (λ flags. answer m host (chain_after q flags))
         ≡ and_then (and_then r (λ flags. Ok (is_available flags q.next_avail.wrap))) (if_next m host q)
     by_flags (Ok flags) there = by_available flags there (is_available flags q.next_avail.wrap)
     by_flags (Err e) there = refl
 
     by_ready : (ready : Bool) → answer m host
-        (if ready then takes (word q.desc_ring (16 * q.next_avail.slot + 14)) (chain_behind q)
+        (if ready then takes (word q.desc_ring (16 * q.next_avail.slot + 14)) (chain_after q)
         else gives (Err errors.QueueNotReady))
         ≡ and_then (and_then (if ready then flags_at else Err errors.QueueNotReady)
         (λ flags. Ok (is_available flags q.next_avail.wrap))) (if_next m host q)

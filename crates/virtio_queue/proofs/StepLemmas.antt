@@ -20,7 +20,7 @@ use Rattle.virtio_queue.specs.PackedEvents.{kick_flags}
 use Rattle.virtio_queue.specs.PackedRing.{has_next, is_available}
 use Rattle.virtio_queue.specs.PackedUsed as packed_used
 use Rattle.virtio_queue.specs.PackedUsed.{is_out, rest_bytes, used_flags}
-use Rattle.virtio_queue.specs.Rings.{and_then, behind, slot}
+use Rattle.virtio_queue.specs.Rings.{and_then, index_after, slot}
 use Rattle.virtio_queue.specs.Used as used
 use Rattle.virtio_queue.specs.Used.{entry_bytes, returning}
 use Rattle.virtio_queue.specs.declared.error.QueueError.{QueueError}
@@ -297,12 +297,12 @@ module _ {B : Type 0} (marks : B → ℕ → ℕ → B → Type 0) (m : Memory) 
           → used.entry_place m old q head ≡ r
       place_is r is = rw (ready, below) is
 
-      asks : MayWantPlaces q.used_ring (4 + 8 * slot q.size q.next_used) (entry_bytes head len) 2 (behind q.next_used)
+      asks : MayWantPlaces q.used_ring (4 + 8 * slot q.size q.next_used) (entry_bytes head len) 2 (index_after q.next_used)
           old → MayWantAny m old (returning q head len)
       asks w = rw (ready, below) w
 
       handed_is : (r : Result (Unit {0}) QueueError)
-          → Handed q.used_ring (4 + 8 * slot q.size q.next_used) (entry_bytes head len) 2 (behind q.next_used) old r new
+          → Handed q.used_ring (4 + 8 * slot q.size q.next_used) (entry_bytes head len) 2 (index_after q.next_used) old r new
           → used.AddsUsed marks m q head len old r new
       handed_is (Ok u) (mid, (a, at, wrote), stored) = (mid, (a, place_is (Ok a) at, wrote), stored)
       handed_is (Err e) (inl is, same) = (inl (rw (ready, below) is), same)
@@ -310,14 +310,14 @@ module _ {B : Type 0} (marks : B → ℕ → ℕ → B → Type 0) (m : Memory) 
 
     go : (ready : Bool) → q.ready ≡ ready → (past : Bool) → nat_le q.size head ≡ past
         → Did (if_ready ready (if past then gives (Err errors.InvalidDescriptorIndex)
-        else handing q.used_ring (4 + 8 * slot q.size q.next_used) (entry_bytes head len) 2 (behind q.next_used)))
+        else handing q.used_ring (4 + 8 * slot q.size q.next_used) (entry_bytes head len) 2 (index_after q.next_used)))
         old result new
         → used.AddsUsed marks m q head len old result new × (shape_of new ≡ shape_of old)
     go false is past at (r, same) = refuse errors.QueueNotReady r same (rw is refl)
     go true is true at (r, same) = refuse errors.InvalidDescriptorIndex r same (rw (is, at) refl)
     go true is false at h =
         let (given, shape) = handed q.used_ring (4 + 8 * slot q.size q.next_used) (entry_bytes head len) 2
-        (behind q.next_used) old result new h in
+        (index_after q.next_used) old result new h in
         (handed_is is at result given, shape)
 
     pub returned : Did (returning q head len) old result new
@@ -484,11 +484,11 @@ module _ {B : Type 0} (marks : B → ℕ → ℕ → B → Type 0) (m : Memory) 
       → (Contains cells cell → ⊥) → byte_at (written cells bytes blocks) cell ≡ byte_at blocks cell)
       (keep : (ws : List Window) (bytes : List ℕ) (old new : Host B) → Writes marks ws bytes old new
       → new.tables ≡ old.tables) (q : PackedState) (old new : Host B) (result : Result Bool QueueError) where
-    abbrev behind_next : ℕ
-    behind_next = 16 * q.next_avail.slot + 14
+    abbrev after_next : ℕ
+    after_next = 16 * q.next_avail.slot + 14
 
     abbrev then_load : Tree Bool
-    then_load = takes (loads q.desc_ring behind_next) (λ flags. gives (Ok (is_available flags q.next_avail.wrap)))
+    then_load = takes (loads q.desc_ring after_next) (λ flags. gives (Ok (is_available flags q.next_avail.wrap)))
 
     abbrev then_flags : Tree Bool
     then_flags = takes (stores q.device_area 2 (kick_flags q)) (λ _. then_load)
@@ -497,7 +497,7 @@ module _ {B : Type 0} (marks : B → ℕ → ℕ → B → Type 0) (m : Memory) 
     then_offset = takes (stores q.device_area 0 (to_bits q.next_avail)) (λ _. then_flags)
 
     abbrev then_next : Tree Bool
-    then_next = takes (spot Read q.desc_ring behind_next) (λ _. then_offset)
+    then_next = takes (spot Read q.desc_ring after_next) (λ _. then_offset)
 
     abbrev then_second : Tree Bool
     then_second = takes (spot Write q.device_area 2) (λ _. then_next)
@@ -521,7 +521,7 @@ module _ {B : Type 0} (marks : B → ℕ → ℕ → B → Type 0) (m : Memory) 
 
     module _ (ready : q.ready ≡ true) where
       found_next : (mid end : Host B) → Stored q.device_area 0 (to_bits q.next_avail) old mid
-          → Stored q.device_area 2 (kick_flags q) mid end → (v : ℕ) → word_at m end q.desc_ring behind_next ≡ Ok v
+          → Stored q.device_area 2 (kick_flags q) mid end → (v : ℕ) → word_at m end q.desc_ring after_next ≡ Ok v
           → PackedEnabled q old (Ok (is_available v q.next_avail.wrap)) end
       found_next mid end first second v at =
           let more : has_next m end q ≡ Ok (is_available v q.next_avail.wrap) =
@@ -536,7 +536,7 @@ module _ {B : Type 0} (marks : B → ℕ → ℕ → B → Type 0) (m : Memory) 
       wrote_both h =
           let (mid, first, more) = after_store q.device_area 0 (to_bits q.next_avail) then_flags old new result h in
           let (end, second, rest) = after_store q.device_area 2 (kick_flags q) then_load mid new result more in
-          let (v, at, last) = after_load q.desc_ring behind_next
+          let (v, at, last) = after_load q.desc_ring after_next
           (λ flags. gives (Ok (is_available flags q.next_avail.wrap))) end new result rest in
           subst (λ r. PackedEnabled q old r new) (sym last.0)
           (subst (PackedEnabled q old (Ok (is_available v q.next_avail.wrap))) (sym last.1)
@@ -549,7 +549,7 @@ module _ {B : Type 0} (marks : B → ℕ → ℕ → B → Type 0) (m : Memory) 
       flags = word_window m old q.device_area 2
 
       abbrev next : Result Window QueueError
-      next = window_at m old q.desc_ring behind_next Read
+      next = window_at m old q.desc_ring after_next Read
 
       all_lost : (e : QueueError) → result ≡ Err e → new ≡ old
           → Refuses (MayWantAny m old (takes (spot Write q.device_area 0) (λ _. then_second)))
@@ -559,7 +559,7 @@ module _ {B : Type 0} (marks : B → ℕ → ℕ → B → Type 0) (m : Memory) 
       at_next : (w v : Window) → offset ≡ Ok w → flags ≡ Ok v
           → ((x : Window) × (next ≡ Ok x) × Did then_offset old result new)
           ⊎ ((e : QueueError) × (result ≡ Err e) × (new ≡ old)
-          × Refuses (MayWant m old q.desc_ring behind_next 2 Read) next e)
+          × Refuses (MayWant m old q.desc_ring after_next 2 Read) next e)
           → PackedEnabled q old result new
       at_next w v at also (inl (x, there, more)) = wrote_both more
       at_next w v at also (inr (e, is, same, refuses)) = all_lost e is same
@@ -567,15 +567,15 @@ module _ {B : Type 0} (marks : B → ℕ → ℕ → B → Type 0) (m : Memory) 
           (λ o. and_then flags (λ f. and_then next (λ n. Ok (o, f, n)))) e w at (inl (sym at))
           (second_lost m old (spot Write q.device_area 2) (λ _. then_next) flags
           (λ f. and_then next (λ n. Ok (w, f, n))) e v also (inl (sym also))
-          (first_lost m old (spot Read q.desc_ring behind_next) (λ _. then_offset) next (λ n. Ok (w, v, n)) e
-          (MayWant m old q.desc_ring behind_next 2 Read) (λ w. inr (refl, w)) refuses)))
+          (first_lost m old (spot Read q.desc_ring after_next) (λ _. then_offset) next (λ n. Ok (w, v, n)) e
+          (MayWant m old q.desc_ring after_next 2 Read) (λ w. inr (refl, w)) refuses)))
 
       at_flags : (w : Window) → offset ≡ Ok w
           → ((v : Window) × (flags ≡ Ok v) × Did then_next old result new)
           ⊎ ((e : QueueError) × (result ≡ Err e) × (new ≡ old)
           × Refuses (MayWant m old q.device_area 2 2 Write) flags e) → PackedEnabled q old result new
       at_flags w at (inl (v, also, more)) =
-          at_next w v at also (after_spot Read q.desc_ring behind_next then_offset old new result more)
+          at_next w v at also (after_spot Read q.desc_ring after_next then_offset old new result more)
       at_flags w at (inr (e, is, same, refuses)) = all_lost e is same
           (second_lost m old (spot Write q.device_area 0) (λ _. then_second) offset
           (λ o. and_then flags (λ f. and_then next (λ n. Ok (o, f, n)))) e w at (inl (sym at))

@@ -10,7 +10,7 @@ use Rattle.virtio_queue.specs.Available.{Followed, direct, followed, followed_in
 use Rattle.virtio_queue.specs.Descriptor.{has_next, is_indirect, segment_of}
 use Rattle.virtio_queue.specs.Fields.{Answers, MayWant, descriptor_at, room_at, window_at, word_at}
 use Rattle.virtio_queue.specs.Looks.{Finds, Follows, Given, MayWantAny, Step, Tree, and_takes, bare, gives, if_ok, index_of, keeps, loads, room, row, spot, stores, takes, word, writes}
-use Rattle.virtio_queue.specs.Popping.{MayWantChain, chain_behind, chain_from, following, head_behind, head_in_slot, next_head, popping, segments_from, with_table}
+use Rattle.virtio_queue.specs.Popping.{MayWantChain, chain_after, chain_from, following, head_after, head_in_slot, next_head, popping, segments_from, with_table}
 use Rattle.virtio_queue.specs.Rings.{ahead, and_then, next_in, slot}
 use Rattle.virtio_queue.specs.declared.descriptor.Descriptor.{Descriptor}
 use Rattle.virtio_queue.specs.declared.error.QueueError.{QueueError}
@@ -195,17 +195,17 @@ module _ {B : Type 0} (m : Memory) (host : Host B) where
     answer_following zero front i = by_end front (nat_lt i len)
     answer_following (suc most) front i = by_index most front i (answer_following most) (nat_lt i len)
 
-  -- the segments of an indirect table, behind these
-  direct_behind : (front more : List Segment) (end : Option Descriptor)
+  -- the segments of an indirect table, after these
+  direct_after : (front more : List Segment) (end : Option Descriptor)
       → direct (record { segments = front ++ more; indirect = end })
       ≡ and_then (direct (record { segments = more; indirect = end })) (λ ss. Ok (front ++ ss))
-  direct_behind front more None = refl
-  direct_behind front more (Some d) = refl
+  direct_after front more None = refl
+  direct_after front more (Some d) = refl
 
-  followed_behind : (front : List Segment) (r : Result Followed QueueError)
+  followed_after : (front : List Segment) (r : Result Followed QueueError)
       → and_then (prefixed front r) direct ≡ and_then (and_then r direct) (λ ss. Ok (front ++ ss))
-  followed_behind front (Ok f) = direct_behind front f.segments f.indirect
-  followed_behind front (Err e) = refl
+  followed_after front (Ok f) = direct_after front f.segments f.indirect
+  followed_after front (Err e) = refl
 
   abbrev rest : Followed → Tree (List Segment)
   rest f = gives (direct f)
@@ -215,7 +215,7 @@ module _ {B : Type 0} (m : Memory) (host : Host B) where
       ≡ and_then (and_then r (λ n. and_then (followed_in m host d.addr n 0) direct)) (λ ss. Ok (front ++ ss))
   table_by_len front d (Ok n) = answer_then (following d.addr n n front 0) rest
       ∙ ap (λ r. and_then r direct) (answer_following d.addr n n front 0)
-      ∙ followed_behind front (followed_in m host d.addr n 0)
+      ∙ followed_after front (followed_in m host d.addr n 0)
   table_by_len front d (Err e) = refl
 
   answer_with : (front : List Segment) (end : Option Descriptor)
@@ -262,9 +262,9 @@ module _ {B : Type 0} (m : Memory) (host : Host B) where
     by_ahead false false = refl
 
     by_ready : (ready : Bool) → answer
-        (if ready then takes (word q.avail_ring 2) (head_behind q) else gives (Err errors.QueueNotReady))
+        (if ready then takes (word q.avail_ring 2) (head_after q) else gives (Err errors.QueueNotReady))
         ≡ and_then (if ready then word_at m host q.avail_ring 2 else Err errors.QueueNotReady) ring
-    by_ready true = same_then (word_at m host q.avail_ring 2) (λ idx. answer (head_behind q idx)) ring
+    by_ready true = same_then (word_at m host q.avail_ring 2) (λ idx. answer (head_after q idx)) ring
         (λ idx. by_ahead (ahead idx q.next_avail == 0) (nat_lt q.size (ahead idx q.next_avail)))
     by_ready false = refl
 
@@ -276,16 +276,16 @@ module _ {B : Type 0} (m : Memory) (host : Host B) where
     abbrev with_head : ℕ → List Segment → Tree (Option (ℕ × List Segment))
     with_head head segments = gives (Ok (Some (head, segments)))
 
-    answer_behind : (found : Option ℕ) → answer (chain_behind q found) ≡ held.chain_of m host q found
-    answer_behind None = refl
-    answer_behind (Some head) = answer_then (chain_from q head) (with_head head)
+    answer_after : (found : Option ℕ) → answer (chain_after q found) ≡ held.chain_of m host q found
+    answer_after None = refl
+    answer_after (Some head) = answer_then (chain_from q head) (with_head head)
         ∙ ap (λ r. and_then r (λ ss. Ok (Some (head, ss)))) (answer_chain q head)
 
     pub answer_popping : answer (popping q) ≡ held.popped m host q
-    answer_popping = answer_then (next_head q) (chain_behind q)
-        ∙ ap (λ r. and_then r (λ found. answer (chain_behind q found))) answer_head
-        ∙ same_then (held.next_head m host q) (λ found. answer (chain_behind q found))
-        (held.chain_of m host q) answer_behind
+    answer_popping = answer_then (next_head q) (chain_after q)
+        ∙ ap (λ r. and_then r (λ found. answer (chain_after q found))) answer_head
+        ∙ same_then (held.next_head m host q) (λ found. answer (chain_after q found))
+        (held.chain_of m host q) answer_after
 
     -- a pop by looks at it answers what it holds
     pub pops_held : (result : Result (Option (ℕ × List Segment)) QueueError)

@@ -13,7 +13,7 @@ use Rattle.virtio_queue.specs.PackedPopping as packed_popping
 use Rattle.virtio_queue.specs.PackedRing as packed_ring
 use Rattle.virtio_queue.specs.PackedUsed as packed_used
 use Rattle.virtio_queue.specs.Popping as split_popping
-use Rattle.virtio_queue.specs.Rings.{behind}
+use Rattle.virtio_queue.specs.Rings.{index_after}
 use Rattle.virtio_queue.specs.State as split
 use Rattle.virtio_queue.specs.Used as split_used
 use Rattle.virtio_queue.specs.declared.any.AnyQueue.{AnyQueue}
@@ -69,7 +69,7 @@ by_head (Err e) = Err e
 
 -- a queue whose next chain was popped
 abbrev pub past : AnyQueue → PackedBuffer → AnyQueue
-past (Split q) buffer = Split (split.with_state q (record q.state { next_avail = behind q.state.next_avail }))
+past (Split q) buffer = Split (split.with_state q (record q.state { next_avail = index_after q.state.next_avail }))
 past (Packed q) buffer =
     Packed (packed.with_next_avail q (packed.moved q.state.size q.state.next_avail buffer.slots))
 

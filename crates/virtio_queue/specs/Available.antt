@@ -8,7 +8,7 @@ use Rattle.vm_memory_guest.specs.Host.{Host}
 use Rattle.vm_memory_guest.specs.Memory.{Memory}
 use Rattle.virtio_queue.specs.Descriptor.{has_next, is_indirect, segment_of}
 use Rattle.virtio_queue.specs.Fields.{MayWant, descriptor_at, word_at}
-use Rattle.virtio_queue.specs.Rings.{and_then, behind, next_in}
+use Rattle.virtio_queue.specs.Rings.{and_then, index_after, next_in}
 use Rattle.virtio_queue.specs.declared.descriptor.Descriptor.{Descriptor}
 use Rattle.virtio_queue.specs.declared.error.QueueError.{QueueError}
 use Rattle.virtio_queue.specs.declared.error.QueueError.TheVariants as errors
@@ -71,7 +71,7 @@ module _ {B : Type 0} (m : Memory) (host : Host B) where
   -- the segments that a head leads to: direct ones, and those of the indirect table that ends them, if one does
   abbrev pub with_indirect : List Segment → Option Descriptor → Result (List Segment) QueueError
   with_indirect front None = Ok front
-  with_indirect front (Some d) = and_then (indirect_segments d) (λ behind. Ok (front ++ behind))
+  with_indirect front (Some d) = and_then (indirect_segments d) (λ later. Ok (front ++ later))
 
   abbrev pub segments_at : QueueState → ℕ → Result (List Segment) QueueError
   segments_at q head = and_then (followed_in q.desc_table q.size head) (λ f. with_indirect f.segments f.indirect)
@@ -108,6 +108,6 @@ module _ {B : Type 0} (m : Memory) (host : Host B) where
 
 -- the state that popping leaves: one entry on if a chain was popped
 abbrev pub after_pop : {X : Type 0} → QueueState → Result (Option X) QueueError → QueueState
-after_pop q (Ok (Some x)) = record q { next_avail = behind q.next_avail }
+after_pop q (Ok (Some x)) = record q { next_avail = index_after q.next_avail }
 after_pop q (Ok None) = q
 after_pop q (Err e) = q

@@ -11,7 +11,7 @@ use Rattle.vm_memory_guest.specs.Window.{Writes}
 use Rattle.vm_memory_guest.specs.declared.region.error.GuestMemoryError.{GuestMemoryError}
 use Rattle.vm_memory_guest.specs.declared.region.error.GuestMemoryError.TheVariants.{PartialBuffer}
 use Rattle.virtio_queue.specs.Fields.{pair_at, place, reached_at, told, word_at, MayWant, StoresWord}
-use Rattle.virtio_queue.specs.Rings.{WantsThen, and_then, behind, slot}
+use Rattle.virtio_queue.specs.Rings.{WantsThen, and_then, index_after, slot}
 use Rattle.virtio_queue.specs.State.{Virtqueue, is_size, new_state}
 use Rattle.virtio_queue.specs.declared.driver.DriverQueue.{DriverQueue}
 use Rattle.virtio_queue.specs.declared.driver.QueueField.{QueueField}
@@ -80,12 +80,12 @@ module _ {B : Type 0} (m : Memory) (host : Host B) where
       (idx ≡ d.next_used → ⊥) × MayWant m host d.used_ring (4 + 8 * slot d.size d.next_used) 8 permissions.Read)
 
 abbrev pub after_take : DriverQueue → Result (Option (ℕ × ℕ)) QueueError → DriverQueue
-after_take d (Ok (Some entry)) = record d { next_used = behind d.next_used }
+after_take d (Ok (Some entry)) = record d { next_used = index_after d.next_used }
 after_take d (Ok None) = d
 after_take d (Err e) = d
 
 abbrev pub after_publish : DriverQueue → Result (Unit {0}) QueueError → DriverQueue
-after_publish d (Ok _) = record d { next_avail = behind d.next_avail }
+after_publish d (Ok _) = record d { next_avail = index_after d.next_avail }
 after_publish d (Err e) = d
 
 -- how a write of all of n bytes ends that reached these
@@ -108,7 +108,7 @@ module _ {B : Type 0} (marks : B → ℕ → ℕ → B → Type 0) (m : Memory) 
   abbrev pub PublishesIn : DriverQueue → ℕ → Host B → Result (Unit {0}) QueueError → Host B → Type 0
   PublishesIn d head old answer new = (stored : Result (Unit {0}) QueueError) × (mid : Host B)
       × StoresWord marks m d.avail_ring (4 + 2 * slot d.size d.next_avail) head old stored mid
-      × MatchResult stored (λ _. StoresWord marks m d.avail_ring 2 (behind d.next_avail) mid answer new)
+      × MatchResult stored (λ _. StoresWord marks m d.avail_ring 2 (index_after d.next_avail) mid answer new)
       (λ e. (answer ≡ Err e) × (new ≡ mid))
 
   -- the same if the ring has slots

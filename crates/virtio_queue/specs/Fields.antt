@@ -42,7 +42,7 @@ place base offset n = if nat_le (base + offset + n) (2 ^ 64) then Ok (base + off
 abbrev pub reached_at : {B : Type 0} → Memory → Host B → ℕ → ℕ → Permissions → Access
 reached_at m host a n access = access_of m.regions (route m host.tables) a n access
 
--- an access of a field of n bytes that lies so far behind an address may fail to allocate: it is made through an IOMMU
+-- an access of a field of n bytes that lies so far after an address may fail to allocate: it is made through an IOMMU
 -- that is on and allows it
 abbrev pub MayWant : {B : Type 0} → Memory → Host B → ℕ → ℕ → ℕ → Permissions → Type 0
 MayWant m host base offset n access =

@@ -1,6 +1,6 @@
 -- Histories of a queue: the driver publishes heads and takes entries, and the device pops heads and returns entries.
 use Rattle.std.specs.Prelude.{ℕ, ◌+◌, ◌<◌, ◌==◌, if◌then◌else◌, List, [], ◌∷◌, ◌++◌, length, Option, Some, None, Result, Ok, Err}
-use Rattle.virtio_queue.specs.Rings.{behind, next_in, slot}
+use Rattle.virtio_queue.specs.Rings.{index_after, next_in, slot}
 use Rattle.virtio_queue.specs.declared.error.QueueError.{QueueError}
 
 -- a used entry: a head, and how many bytes the device wrote
@@ -49,14 +49,14 @@ abbrev pub after_publish : ℕ → ℕ → Story → Story
 after_publish size head s = record s {
   rings = record s.rings {
     avail = with_slot s.rings.avail (slot size s.rings.avail_idx) head;
-    avail_idx = behind s.rings.avail_idx;
+    avail_idx = index_after s.rings.avail_idx;
   };
   published = s.published ++ head ∷ [];
 }
 
 abbrev pub after_pop : Result (Option ℕ) QueueError → Story → Story
 after_pop (Ok (Some head)) s = record s {
-  rings = record s.rings { next_avail = behind s.rings.next_avail };
+  rings = record s.rings { next_avail = index_after s.rings.next_avail };
   popped = s.popped ++ head ∷ [];
 }
 after_pop (Ok None) s = s
@@ -66,7 +66,7 @@ abbrev pub after_return : ℕ → Entry → Story → Story
 after_return size entry s = record s {
   rings = record s.rings {
     used = with_slot s.rings.used (slot size s.rings.used_idx) entry;
-    used_idx = behind s.rings.used_idx;
+    used_idx = index_after s.rings.used_idx;
   };
   returned = s.returned ++ entry ∷ [];
 }
@@ -74,7 +74,7 @@ after_return size entry s = record s {
 abbrev pub after_take : Option Entry → Story → Story
 after_take None s = s
 after_take (Some entry) s = record s {
-  rings = record s.rings { next_used = behind s.rings.next_used };
+  rings = record s.rings { next_used = index_after s.rings.next_used };
   taken = s.taken ++ entry ∷ [];
 }
 

@@ -70,7 +70,7 @@ module _ (descriptor : ℕ → Result PackedDescriptor QueueError) (size : ℕ) 
 
 -- these segments, and what follows
 abbrev pub in_front : List Segment → Result (List Segment) QueueError → Result (List Segment) QueueError
-in_front front rest = and_then rest (λ behind. Ok (front ++ behind))
+in_front front rest = and_then rest (λ later. Ok (front ++ later))
 
 -- the segments of N descriptors from an index on: those of an indirect table, in which no flag but WRITE means anything
 unfoldable pub rows : (ℕ → Result PackedDescriptor QueueError) → ℕ → ℕ → Result (List Segment) QueueError

@@ -13,8 +13,8 @@ abbrev pub WantsThen : {S : Type 0} → Type 0 → Result S QueueError → (S �
 WantsThen {S} first given second = first ⊎ ((x : S) × (given ≡ Ok x) × second x)
 
 -- the index after one, and the one before it
-abbrev pub behind : ℕ → ℕ
-behind i = (i + 1) % 2 ^ 16
+abbrev pub index_after : ℕ → ℕ
+index_after i = (i + 1) % 2 ^ 16
 
 abbrev pub before : ℕ → ℕ
 before i = (i + (2 ^ 16 - 1)) % 2 ^ 16

@@ -8,7 +8,7 @@ use Rattle.vm_memory_guest.specs.Walk.{NeedsPieces}
 use Rattle.vm_memory_guest.specs.Window.{Window}
 use Rattle.virtio_queue.specs.Fields.{lies_whole, room_at, word_at, word_window, MayWant, Refuses, StoresWord, WritesBytes}
 use Rattle.virtio_queue.specs.Looks.{MayWantAny, Tree, gives, handing, if_ready}
-use Rattle.virtio_queue.specs.Rings.{and_then, behind, slot}
+use Rattle.virtio_queue.specs.Rings.{and_then, index_after, slot}
 use Rattle.virtio_queue.specs.State.{Virtqueue}
 use Rattle.virtio_queue.specs.declared.error.QueueError.{QueueError}
 use Rattle.virtio_queue.specs.declared.error.QueueError.TheVariants as errors
@@ -60,7 +60,7 @@ entry_bytes head len = to_le_bytes w32 head ++ to_le_bytes w32 len
 -- a chain is returned: the entry, and then the index that publishes it
 abbrev pub returning : QueueState → ℕ → ℕ → Tree (Unit {0})
 returning q head len = if_ready q.ready (if nat_le q.size head then gives (Err errors.InvalidDescriptorIndex)
-    else handing q.used_ring (4 + 8 * slot q.size q.next_used) (entry_bytes head len) 2 (behind q.next_used))
+    else handing q.used_ring (4 + 8 * slot q.size q.next_used) (entry_bytes head len) 2 (index_after q.next_used))
 
 module _ {B : Type 0} (marks : B → ℕ → ℕ → B → Type 0) (m : Memory) (q : QueueState) (head len : ℕ) where
   -- the entry was written, and nothing else changed
@@ -70,7 +70,7 @@ module _ {B : Type 0} (marks : B → ℕ → ℕ → B → Type 0) (m : Memory) 
 
   -- the index that publishes the entry was stored, and nothing else changed
   abbrev pub StoresIndex : Host B → Host B → Type 0
-  StoresIndex old new = StoresWord marks m q.used_ring 2 (behind q.next_used) old (Ok tt) new
+  StoresIndex old new = StoresWord marks m q.used_ring 2 (index_after q.next_used) old (Ok tt) new
 
   -- the entry was written, and then the index was stored. Or one of the two was refused, and nothing changed
   abbrev pub AddsUsed : Host B → Result (Unit {0}) QueueError → Host B → Type 0
@@ -85,7 +85,7 @@ one_more n = min (n + 1) 65536
 -- the queue after an entry was added, or was not
 abbrev pub after_used : Virtqueue → Result (Unit {0}) QueueError → Virtqueue
 after_used q (Ok _) = record {
-  state = record q.state { next_used = behind q.state.next_used };
+  state = record q.state { next_used = index_after q.state.next_used };
   added = option_map one_more q.added;
 }
 after_used q (Err e) = q

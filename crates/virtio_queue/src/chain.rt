@@ -2,7 +2,7 @@
 ghost use Rattle.std.specs.Prelude.{◌≡◌, Ok, [], Result};
 ghost use Rattle.virtio_queue.specs.Available.{indirect_len};
 ghost use Rattle.virtio_queue.specs.Looks.{Follows};
-ghost use Rattle.virtio_queue.specs.Popping.{chain_from, following, segments_from, table_behind};
+ghost use Rattle.virtio_queue.specs.Popping.{chain_from, following, segments_from, table_after};
 ghost use Rattle.virtio_queue.specs.Rings.{and_then};
 
 use crate::descriptor::Descriptor;
@@ -69,7 +69,7 @@ fn follow_indirect<L: Looks>(
     descriptor: &Descriptor,
     segments: &mut Vec<Segment>,
 ) -> Result<(), QueueError>
-    ensures { Follows L.looks (table_behind segments.old.items descriptor.now) looks.old
+    ensures { Follows L.looks (table_after segments.old.items descriptor.now) looks.old
         (and_then result (λ _. Ok segments.new.items)) looks.new }
 {
     let len = indirect_len(descriptor)?;

@@ -87,8 +87,8 @@ impl ByteValued for Descriptor {
     }
 
     #[inline]
-    fn known(&self) {
-        (self.addr, (self.len, (self.flags, self.next))).known();
+    fn recall_law(&self) {
+        (self.addr, (self.len, (self.flags, self.next))).recall_law();
     }
 
     // A pair's bytes stand for its values as those of both parts do.

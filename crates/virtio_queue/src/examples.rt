@@ -5,7 +5,7 @@ ghost use Rattle.virtio_queue.specs.Descriptor.{segment_of};
 ghost use Rattle.virtio_queue.specs.Looks.{Follows, Saw, row, saw, word};
 ghost use Rattle.virtio_queue.specs.Notification.{is_among};
 ghost use Rattle.virtio_queue.specs.Popping.{next_head, segments_from};
-ghost use Rattle.virtio_queue.specs.Rings.{before, behind, next_in};
+ghost use Rattle.virtio_queue.specs.Rings.{before, index_after, next_in};
 ghost use Rattle.virtio_queue.specs.State.{is_size};
 ghost use Rattle.virtio_queue.specs.declared.descriptor.Descriptor.{Descriptor};
 ghost use Rattle.virtio_queue.specs.declared.error.QueueError.TheVariants.{DescriptorLoop, IndirectWithNext};
@@ -18,7 +18,7 @@ ghost use Rattle.virtio_queue.specs.declared.state.QueueState.{QueueState};
 /// index, even there; nothing if the driver has published no more; and no index that is three ahead.
 pub fn rings_go_round()
     ensures sizes { (is_size 0 ≡ false) × (is_size 1 ≡ true) × (is_size 12 ≡ false) × (is_size (2 ^ 15) ≡ true) }
-    ensures indices { (behind 65535 ≡ 0) × (before 0 ≡ 65535) }
+    ensures indices { (index_after 65535 ≡ 0) × (before 0 ≡ 65535) }
     ensures next { next_in 2 1 65535 (λ i. Ok (i + 7)) ≡ Ok (Some 8) }
     ensures none { next_in 2 1 1 (λ i. Ok (i + 7)) ≡ Ok None }
     ensures ahead { next_in 2 1 65534 (λ i. Ok (i + 7)) ≡ Err InvalidAvailRingIndex }

@@ -253,7 +253,7 @@ pub(crate) fn put_value<T: ByteValued, M: GuestMemory, B: Bitmap>(
     ensures shape { shape_of host.new ≡ shape_of host.old }
 {
     accesses_are_by_bytes::<()>();
-    value.known();
+    value.recall_law();
     let addr = GuestAddress(place(base, offset, T::size() as u64)?);
     match Bytes::write_obj(mem, host, value, addr) {
         Ok(()) => Ok(()),

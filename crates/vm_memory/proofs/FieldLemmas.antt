@@ -143,7 +143,7 @@ takes-numbers ws numbers h =
 
 -- ---- from what is read to what is spelled
 
--- the one word and those behind it
+-- the one word and those after it
 word_read : {A : Type 0} (f : List ℕ → Option A) (w : List ℕ) (ws : List (List ℕ)) (x : A × List (List ℕ))
     → (f w >>= (λ v. Some (v, ws))) ≡ Some x → (f w ≡ Some x.0) × (ws ≡ x.1)
 word_read f w ws x h =

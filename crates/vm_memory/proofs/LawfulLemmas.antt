@@ -6,7 +6,7 @@ use Rattle.std.specs.Prelude.{Contains}
 use Rattle.vm_memory_base.specs.Pages.{PageSet}
 use Rattle.vm_memory_guest.specs.Collection.{each_is_region}
 use Rattle.vm_memory_guest.specs.Host.{Host}
-use Rattle.vm_memory_guest.specs.Layout.{is_exactly, behind_first, removed}
+use Rattle.vm_memory_guest.specs.Layout.{is_exactly, after_first, removed}
 use Rattle.vm_memory_guest.specs.Memory.{Memory}
 use Rattle.vm_memory_guest.specs.Region.{Region, IsRegion, IsLayout, last, layout_error}
 use Rattle.vm_memory.specs.Lawful.{IsLaidOut, IsLawful}
@@ -34,13 +34,13 @@ IsLayout-skip q r (x ∷ xs) fits h =
     let high : last r < x.start = h.1.0 in
     (omega arith, h.1.1)
 
--- without any one behind the first, and without any one
+-- without any one after the first, and without any one
 IsLayout-behind : (q : Region) (rs : List Region) (base size : ℕ) → All IsRegion rs → IsLayout (q ∷ rs)
     → OfLeft (λ xs. IsLayout (q ∷ xs)) (removed (λ r. r) rs base size)
 IsLayout-behind q [] base size each h = tt
 IsLayout-behind q (r ∷ rs) base size each h =
     elim (is_exactly base size r) as (λ b.
-    OfLeft (λ xs. IsLayout (q ∷ xs)) (cond b (Some (rs, r)) (behind_first r (removed (λ x. x) rs base size)))) [
+    OfLeft (λ xs. IsLayout (q ∷ xs)) (cond b (Some (rs, r)) (after_first r (removed (λ x. x) rs base size)))) [
       | true ↦ IsLayout-skip q r rs (All-head IsRegion r rs each) h
       | false ↦
           OfLeft-behind (λ xs. IsLayout (r ∷ xs)) (λ xs. IsLayout (q ∷ xs)) r (removed (λ x. x) rs base size)
@@ -52,7 +52,7 @@ pub IsLayout-removed : (rs : List Region) (base size : ℕ) → All IsRegion rs 
 IsLayout-removed [] base size each h = tt
 IsLayout-removed (r ∷ rs) base size each h =
     elim (is_exactly base size r) as (λ b.
-    OfLeft IsLayout (cond b (Some (rs, r)) (behind_first r (removed (λ x. x) rs base size)))) [
+    OfLeft IsLayout (cond b (Some (rs, r)) (after_first r (removed (λ x. x) rs base size)))) [
       | true ↦ IsLayout-rest r rs h
       | false ↦
           OfLeft-behind (λ xs. IsLayout (r ∷ xs)) IsLayout r (removed (λ x. x) rs base size) (λ xs rest. rest)

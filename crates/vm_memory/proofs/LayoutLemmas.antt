@@ -5,7 +5,7 @@ use Rattle.std.proofs.lemmas.List.Elements.{All-nil, All-cons, All-head, All-tai
 use Rattle.std.proofs.lemmas.Option.{slice_get-map}
 use Rattle.vm_memory_base.specs.Pages.{PageSet}
 use Rattle.vm_memory_base.specs.declared.address.GuestAddress.{GuestAddress}
-use Rattle.vm_memory_guest.specs.Layout.{inserted, is_exactly, behind_first, removed, IsFault}
+use Rattle.vm_memory_guest.specs.Layout.{inserted, is_exactly, after_first, removed, IsFault}
 use Rattle.vm_memory_guest.specs.Region.{Region, layout_error}
 use Rattle.vm_memory_guest.specs.declared.region.error.GuestRegionCollectionError.{GuestRegionCollectionError}
 use Rattle.vm_memory_guest.specs.declared.region.error.GuestRegionCollectionError.TheVariants as layout
@@ -39,7 +39,7 @@ means region None = None
 means region (Some p) = Some (map region p.0, region p.1)
 
 means-behind : {R : Type 0} (region : R → Region) (x : R) (o : Option (List R × R))
-    → behind_first (region x) (means region o) ≡ means region (behind_first x o)
+    → after_first (region x) (means region o) ≡ means region (after_first x o)
 means-behind region x None = refl
 means-behind region x (Some p) = refl
 
@@ -48,11 +48,11 @@ removed-map : {R : Type 0} (region : R → Region) (rs : List R) (base size : �
 removed-map region [] base size = refl
 removed-map region (x ∷ xs) base size =
     elim (is_exactly base size (region x)) as (λ b.
-    cond b (Some (map region xs, region x)) (behind_first (region x) (removed (λ q. q) (map region xs) base size))
-    ≡ means region (cond b (Some (xs, x)) (behind_first x (removed region xs base size)))) [
+    cond b (Some (map region xs, region x)) (after_first (region x) (removed (λ q. q) (map region xs) base size))
+    ≡ means region (cond b (Some (xs, x)) (after_first x (removed region xs base size)))) [
       | true ↦ refl
       | false ↦
-          ap (behind_first (region x)) (removed-map region xs base size)
+          ap (after_first (region x)) (removed-map region xs base size)
           ∙ means-behind region x (removed region xs base size)
     ]
 
@@ -81,7 +81,7 @@ OfLeft P (Some p) = P p.0
 
 -- and of those with one before them
 pub OfLeft-behind : (P Q : List Region → Type 0) (x : Region) (o : Option (List Region × Region))
-    → ((xs : List Region) → P xs → Q (x ∷ xs)) → OfLeft P o → OfLeft Q (behind_first x o)
+    → ((xs : List Region) → P xs → Q (x ∷ xs)) → OfLeft P o → OfLeft Q (after_first x o)
 OfLeft-behind P Q x None more left = tt
 OfLeft-behind P Q x (Some p) more left = more p.0 left
 
@@ -90,7 +90,7 @@ pub All-removed : (P : Region → Type 0) (rs : List Region) (base size : ℕ) �
 All-removed P [] base size all = tt
 All-removed P (x ∷ xs) base size all =
     elim (is_exactly base size x) as (λ b.
-    OfLeft (All P) (cond b (Some (xs, x)) (behind_first x (removed (λ q. q) xs base size)))) [
+    OfLeft (All P) (cond b (Some (xs, x)) (after_first x (removed (λ q. q) xs base size)))) [
       | true ↦ All-tail P x xs all
       | false ↦
           OfLeft-behind (All P) (All P) x (removed (λ q. q) xs base size)

@@ -7,7 +7,7 @@ use Rattle.std.proofs.lemmas.Option.{same_Some, none-some}
 use Rattle.vm_memory.specs.Words.{Each, parts_of}
 use Rattle.vm_memory.specs.Lines.{IsField, Field, word, number, Means, Parses, Spells, is_blank, command_fields, setup_fields}
 use Rattle.vm_memory.specs.Reading.{Read, number_at, page_size_at, limit_at, address_at, end_at, ◌>>=◌}
-use Rattle.vm_memory.specs.LineReading.{IsShown, setup, command, shown, line_at, line_behind, command_at, setup_at, sized_at, table_at, limit_field}
+use Rattle.vm_memory.specs.LineReading.{IsShown, setup, command, shown, line_at, line_after, command_at, setup_at, sized_at, table_at, limit_field}
 use Rattle.vm_memory.specs.declared.machine.command.Command as commands
 use Rattle.vm_memory.specs.declared.machine.command.Command.TheVariants as make
 use Rattle.vm_memory.specs.declared.machine.setup.Setup as setups
@@ -301,10 +301,10 @@ command_line line first ws behind left c h text none read end =
     let whole : command_at first ws ≡ Some (c, []) = ap (command_at first) same ∙ read ∙ ap (λ l. Some (c, l)) end in
     (text, subst (λ l. Each IsField l (command_fields c)) (sym h.words) (command-to first ws c whole))
 
--- the line that was read of the words behind the first
+-- the line that was read of the words after the first
 behind-to : (line first : List ℕ) (ws : List (List ℕ)) (made : Option (List Field)) (left : List (List ℕ)) (l : Line)
     → HasWords line first ws → IsUtf8 line → setup_at first ws ≡ Some (made, left)
-    → line_behind first made left ≡ Some (shown l) → Means line l
+    → line_after first made left ≡ Some (shown l) → Means line l
 behind-to line first ws (Some fields) left Nothing h text read e =
     let end = both_read (end_at left) _ _ e in cc (same_Some _ _ end.2)
 behind-to line first ws (Some fields) left (Setup s) h text read e =

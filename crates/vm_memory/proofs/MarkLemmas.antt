@@ -214,7 +214,7 @@ module _ {B : Type 0} (marks : B → ℕ → ℕ → B → Type 0) where
 
 -- ---- walks over pieces, one after the other
 
--- what one walk and another behind it have: the first's windows, and then the other's unless the first stops
+-- what one walk and another after it have: the first's windows, and then the other's unless the first stops
 pub record Split (left : Reach AccessFault) (ws : List Window) (next : Reach AccessFault) : Type 0 where
   pub windows : left.windows ≡ ws ++ next.windows
   pub fault : left.fault ≡ next.fault
@@ -235,7 +235,7 @@ split_end : (ws : List Window) (o : Option AccessFault) (rest : Reach AccessFaul
 split_end ws None rest e some = absurd (cc)
 split_end ws (Some f) rest e some = record { windows = sym (append-nil ws); fault = refl }
 
--- the next of pieces, and the others behind it
+-- the next of pieces, and the others after it
 pub pieces_next : (regions : List Region) (ps : List MappedRange) (i : ℕ) (d : MappedRange) → i < length ps
     → walk_of_pieces regions (drop i ps)
     ≡ followed_by (walk_of regions (get_or ps i d).base.0 (get_or ps i d).length)
@@ -287,7 +287,7 @@ module _ {all left : Reach AccessFault} {old mid : Host PageSet} {total : ℕ}
       let c = so_far.came.count in
       omega arith
 
-  -- the next piece, of which this is the walk, and the others behind it
+  -- the next piece, of which this is the walk, and the others after it
   module _ (w rest : Reach AccessFault) (is : left ≡ followed_by w rest) where
     pub went-fits : total + span w.windows ≤ span all.windows
     went-fits =

@@ -170,7 +170,7 @@ same_meaning line (Command c) (Command d) p q =
 
 -- ---- scripts run the model
 
--- behind the first command
+-- after the first command
 abbrev CommandsRun : List (List ℕ) → State → List ℕ → Stage → Type 0
 CommandsRun lines s text end =
     (meanings : List Line) × (replies : List Reply) × Each Means lines meanings × (setups_of meanings ≡ [])

@@ -179,7 +179,7 @@ reads-bytes = record { to = to; from = from }
 
 -- ---- what sources and sinks do
 
--- a letter and a colon, and what is made of the bytes behind them
+-- a letter and a colon, and what is made of the bytes after them
 step-to : (front text : List ℕ) (make : List ℕ → SourceStep) (step : SourceStep)
     → starts_with nat_eq text front ≡ true → (bytes_of (drop (length front) text) >>= (λ b. Some (make b))) ≡ Some step
     → (word : List ℕ) × (bytes : List ℕ) × (text ≡ front ++ word) × IsBytes word bytes × (make bytes ≡ step)

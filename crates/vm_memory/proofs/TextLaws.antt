@@ -18,7 +18,7 @@ use Rattle.vm_memory_base.specs.declared.iotlb.Reason.{Reason}
 use Rattle.vm_memory_base.specs.declared.iotlb.Reason.TheVariants.{MissingMapping, AccessNotAllowed, NotConfigured}
 use Rattle.vm_memory_base.specs.declared.iotlb.lookup.MappedRange.{MappedRange}
 use Rattle.vm_memory.specs.Words.{parts_of}
-use Rattle.vm_memory.specs.Texts.{CanEnd, CanFault, CanRefuse, CanTell, CanTellSetup, IsMet, text_of_setup, hexadecimal, spaced, text_of, text_of_bytes, text_of_ending, text_of_fault, text_of_kind, text_of_piece, text_of_range, text_of_ranges, text_of_reason, text_of_refusal, two_digits, behind_space}
+use Rattle.vm_memory.specs.Texts.{CanEnd, CanFault, CanRefuse, CanTell, CanTellSetup, IsMet, text_of_setup, hexadecimal, spaced, text_of, text_of_bytes, text_of_ending, text_of_fault, text_of_kind, text_of_piece, text_of_range, text_of_ranges, text_of_reason, text_of_refusal, two_digits, after_space}
 use Rattle.vm_memory.specs.declared.machine.command.Fault as faults
 use Rattle.vm_memory.specs.declared.machine.command.Fault.TheVariants as fault
 use Rattle.vm_memory.specs.declared.machine.command.Ending as endings
@@ -147,7 +147,7 @@ last [] = []
 last (a ∷ []) = a
 last (a ∷ b ∷ ws) = last (b ∷ ws)
 
--- the words before the first that is this, and those behind it
+-- the words before the first that is this, and those after it
 until : List ℕ → List (List ℕ) → List (List ℕ)
 until w [] = []
 until w (a ∷ ws) = cond (bytes_eq a w) [] (a ∷ until w ws)
@@ -285,8 +285,8 @@ spaced-words : (text : List ℕ) (texts : List (List ℕ)) → AllByRecursion (A
     → parts_of 32 (spaced (text ∷ texts)) ≡ text ∷ texts
 spaced-words text [] h = ap (parts_of 32) (append-nil text) ∙ parts-one 32 text h.0
 spaced-words text (other ∷ texts) h =
-    parts-append 32 text (other ++ flat_map behind_space texts)
-    ∙ ap (λ l. l ++ parts_of 32 (other ++ flat_map behind_space texts)) (parts-one 32 text h.0)
+    parts-append 32 text (other ++ flat_map after_space texts)
+    ∙ ap (λ l. l ++ parts_of 32 (other ++ flat_map after_space texts)) (parts-one 32 text h.0)
     ∙ ap (λ l. text ∷ l) (spaced-words other texts h.1)
 
 -- values with a text of one word, which is no dash

@@ -65,6 +65,8 @@ appends_appends (Some xs) None c x y h k = absurd h
 appends_appends (Some xs) (Some ys) None x y h k = k
 appends_appends (Some xs) (Some ys) (Some zs) x y h k = k ∙ ap (λ l. l ++ y) h ∙ append_assoc xs x y
 
+pub ruleset one_after_other = (keeps_keeps, keeps_then, appends_appends)
+
 take-add : (xs : List ℕ) (a b : ℕ) → take (a + b) xs ≡ take a xs ++ take b (drop a xs)
 take-add xs a b =
     sym (take-append-drop a (take (a + b) xs))

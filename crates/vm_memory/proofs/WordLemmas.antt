@@ -13,9 +13,9 @@ use Rattle.std.proofs.lemmas.List.Elements.{All-from_get_or}
 use Rattle.std.proofs.lemmas.List.Splits.{slice_split_none, slice_split_first}
 use Rattle.std.proofs.lemmas.Str.Pattern.{IsSplitOnceResult, split_parts, split_once_first}
 use Rattle.vm_memory.specs.Words.{parts_of}
-use Rattle.vm_memory.specs.Reading.{behind, each, is_numeral, number_in, ◌>>=◌}
+use Rattle.vm_memory.specs.Reading.{after_front, each, is_numeral, number_in, ◌>>=◌}
 
--- the first part of a text, and what is behind it
+-- the first part of a text, and what is after it
 pub parts_of-first : (c : ℕ) (text : List ℕ) (r : Option (Bor (List ℕ) × Bor (List ℕ))) → IsSplitOnceResult c text r
     → c < 128 → MatchOption r (parts_of c text ≡ text ∷ []) (λ x. parts_of c text ≡ x.0.now ∷ parts_of c x.1.now)
 parts_of-first c text None h low =
@@ -47,34 +47,36 @@ number_in-parse radix ds r h e =
     let plain = rw e at h in
     result_ok-test r _ _ _ plain (Decides-and _ _ (Decides-numeral radix ds) (Decides-ltb _ _))
 
-behind-more : {A : Type 0} (front : List A) (x : A) (o : Option (List A))
-    → behind front (o >>= (λ xs. Some (x ∷ xs))) ≡ behind (front ++ x ∷ []) o
-behind-more front x None = refl
-behind-more front x (Some xs) = ap Some (sym (append_assoc front (x ∷ []) xs))
+after_front-more : {A : Type 0} (front : List A) (x : A) (o : Option (List A))
+    → after_front front (o >>= (λ xs. Some (x ∷ xs))) ≡ after_front (front ++ x ∷ []) o
+after_front-more front x None = refl
+after_front-more front x (Some xs) = ap Some (sym (append_assoc front (x ∷ []) xs))
 
 -- one more text is read
 pub each_more : {A : Type 0} (f : List ℕ → Option A) (text : List ℕ) (texts whole : List (List ℕ))
     (front : List A) (x : A)
-    → each f whole ≡ behind front (each f (text ∷ texts)) → f text ≡ Some x
-    → each f whole ≡ behind (front ++ x ∷ []) (each f texts)
+    → each f whole ≡ after_front front (each f (text ∷ texts)) → f text ≡ Some x
+    → each f whole ≡ after_front (front ++ x ∷ []) (each f texts)
 unfolding each
 each_more f text texts whole front x h e =
-    h ∙ ap (λ o. behind front (o >>= (λ y. each f texts >>= (λ xs. Some (y ∷ xs))))) e
-    ∙ behind-more front x (each f texts)
+    h ∙ ap (λ o. after_front front (o >>= (λ y. each f texts >>= (λ xs. Some (y ∷ xs))))) e
+    ∙ after_front-more front x (each f texts)
 
 -- a text that spells nothing
 pub each_none : {A : Type 0} (f : List ℕ → Option A) (text : List ℕ) (texts whole : List (List ℕ)) (front : List A)
-    → each f whole ≡ behind front (each f (text ∷ texts)) → f text ≡ None → each f whole ≡ None
+    → each f whole ≡ after_front front (each f (text ∷ texts)) → f text ≡ None → each f whole ≡ None
 unfolding each
 each_none f text texts whole front h e =
-    h ∙ ap (λ o. behind front (o >>= (λ y. each f texts >>= (λ xs. Some (y ∷ xs))))) e
+    h ∙ ap (λ o. after_front front (o >>= (λ y. each f texts >>= (λ xs. Some (y ∷ xs))))) e
 
 -- no text is left
 pub each_all : {A : Type 0} (f : List ℕ → Option A) (left whole : List (List ℕ)) (front : List A)
-    → each f whole ≡ behind front (each f left) → left ≡ [] → each f whole ≡ Some front
+    → each f whole ≡ after_front front (each f left) → left ≡ [] → each f whole ≡ Some front
 unfolding each
-each_all f left whole front h e = h ∙ ap (λ ws. behind front (each f ws)) e ∙ ap Some (append-nil front)
+each_all f left whole front h e = h ∙ ap (λ ws. after_front front (each f ws)) e ∙ ap Some (append-nil front)
 
-pub each-start : {A : Type 0} (o : Option (List A)) → o ≡ behind [] o
+pub ruleset each_word = (each_all, each_more, each_none)
+
+pub each-start : {A : Type 0} (o : Option (List A)) → o ≡ after_front [] o
 each-start None = refl
 each-start (Some xs) = refl

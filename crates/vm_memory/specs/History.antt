@@ -48,7 +48,7 @@ AtEachState P old cs rs new run = P [] [] new
 -- a state that commands with these replies left: its layouts are layouts, at most one region of a memory has an
 -- address, and behind an IOMMU that is on each byte is reached through the mapping that was set last for its address
 -- and not invalidated or evicted since
-pub record ReachesAsTold (old : State) (cs : List Command) (rs : List Reply) (now : State) : Type 0 where
+pub record AccessesFollowTables (old : State) (cs : List Command) (rs : List Reply) (now : State) : Type 0 where
   pub lawful : IsLawful now
   pub one_region : (m : Memory) (memory a i j : ℕ) (d : Region) → slice_get now.memories memory ≡ Some m
       → i < length m.regions → j < length m.regions → has_address (slice_index_or m.regions i d) a ≡ true

@@ -9,7 +9,7 @@ pub mod History
 pub mod Inside
 pub mod Journal
 pub mod Lawful
-pub mod Lend
+pub mod WithMemory
 pub mod Machine
 pub mod Marks
 pub mod Memories

@@ -277,11 +277,11 @@ IsShown (Ok line) read = read ≡ Some (shown line)
 IsShown (Err error.Bad) read = read ≡ None
 IsShown (Err error.Memory) read = Unit {0}
 
-abbrev pub line_behind : List ℕ → Option (List Field) → List (List ℕ) → Option Shown
-line_behind first (Some fields) left = do
+abbrev pub line_after : List ℕ → Option (List Field) → List (List ℕ) → Option Shown
+line_after first (Some fields) left = do
   end ← end_at left
   Some (setup fields)
-line_behind first None left = do
+line_after first None left = do
   c ← command_at first left
   end ← end_at c.1
   Some (command c.0)
@@ -291,4 +291,4 @@ unfoldable pub line_at : List (List ℕ) → Option Shown
 line_at words = do
   first ← word_at words
   made ← setup_at first.0 first.1
-  line_behind first.0 made.0 made.1
+  line_after first.0 made.0 made.1

@@ -84,8 +84,8 @@ each f (text ∷ texts) = do
   Some (x ∷ xs)
 
 -- a list, and then what was read
-abbrev pub behind : {A : Type 0} → List A → Option (List A) → Option (List A)
-behind front read = read >>= (λ xs. Some (front ++ xs))
+abbrev pub after_front : {A : Type 0} → List A → Option (List A) → Option (List A)
+after_front front read = read >>= (λ xs. Some (front ++ xs))
 
 -- ---- bytes, and what sources and sinks do
 

@@ -32,13 +32,13 @@ abbrev pub text_of_bytes : List ℕ → List ℕ
 text_of_bytes [] = codes "-"
 text_of_bytes (b ∷ bytes) = flat_map two_digits (b ∷ bytes)
 
-abbrev pub behind_space : List ℕ → List ℕ
-behind_space text = codes " " ++ text
+abbrev pub after_space : List ℕ → List ℕ
+after_space text = codes " " ++ text
 
 -- texts with one space between any two, or a dash for none
 abbrev pub spaced : List (List ℕ) → List ℕ
 spaced [] = codes "-"
-spaced (text ∷ texts) = text ++ flat_map behind_space texts
+spaced (text ∷ texts) = text ++ flat_map after_space texts
 
 -- a range of addresses
 abbrev pub text_of_range : ℕ → ℕ → List ℕ

@@ -3,7 +3,7 @@
 ghost use Rattle.std.specs.Prelude.{◌≡◌, ℕ, List, ◌++◌, [], IsSome, IsTrue, OnOk, OnErr};
 ghost use Rattle.vm_memory_guest.specs.Collection.{regions_of};
 ghost use Rattle.vm_memory.specs.Commands.{accessed_memory, is_transfer};
-ghost use Rattle.vm_memory.specs.History.{AtEachState, ReachesAsTold};
+ghost use Rattle.vm_memory.specs.History.{AccessesFollowTables, AtEachState};
 ghost use Rattle.vm_memory.specs.Machine.{Step, Run};
 ghost use Rattle.vm_memory.specs.Parts.{HoldsRegions, HoldsTables, AreHeld, state_of};
 ghost use Rattle.vm_memory.specs.Rounds.{IsTracked, RunsDirectly, KeepsImage, bytes_of_block};
@@ -11,10 +11,10 @@ ghost use Rattle.vm_memory.specs.Rounds.{IsTracked, RunsDirectly, KeepsImage, by
 mod accesses;
 pub mod command;
 mod copies;
+pub mod device_step;
 pub mod journal;
 mod kept;
 mod layouts;
-pub mod lend;
 pub mod list;
 mod marks;
 mod memories;
@@ -280,7 +280,7 @@ pub fn run<R: GuestMemoryRegion, I: Iommu, B: ExactBitmap>(
         let after = state_of R.region I.number B.pages machine.new in
         OnOk result ((new : List Reply) × (replies.new.items ≡ replies.old.items ++ new)
         × (run : Run before commands.now new after)
-        × AtEachState (ReachesAsTold before) before commands.now new after run
+        × AtEachState (AccessesFollowTables before) before commands.now new after run
         × ((block : ℕ) → IsTracked block before.host → RunsDirectly before commands.now new after run
         → KeepsImage block (bytes_of_block block before.host) before commands.now new after run)) }
     ensures refused { OnErr result ((machine.new ≡ machine.old) × (replies.new.items ≡ replies.old.items)) }

@@ -1,4 +1,4 @@
--- Runs before an address and behind it, and the runs of a table after a change.
+-- Runs before an address and after it, and the runs of a table after a change.
 use Rattle.std.proofs.Common.{◌≡◌, ℕ, ◌+◌, ◌-◌, ◌^◌, ◌<◌, ◌≤◌, min, max, Bool, true, false, cond, ◌&&◌, ltb, eqb, List, [], ◌∷◌, ◌++◌, length, Option, Some, None, Result, Ok, Err, OnOk, OnErr, IfSome, refl, sym, ap, subst, inl, inr, ◌∙◌, arith}
 use Rattle.std.proofs.lemmas.Bool.{lt-ltb, le-ltb, eqb-true, and_parts, and_cases, cases_lt, cases_Bool, eq-eqb}
 use Rattle.std.proofs.lemmas.List.{append-nil, append_assoc}
@@ -70,7 +70,7 @@ cut_to-inside {K} same b m (r ∷ rs) h s e =
     let below : ltb r.start (r.start + r.len) ≡ true = lt-ltb r.start (r.start + r.len) (omega arith) in
     rw (from, to, below, len, rest)
 
--- runs before it and behind it go
+-- runs before it and after it go
 pub cut_to-before : {K : Type 0} (b m : ℕ) (rs : List (AddressRun K)) → EndBelow (b + 1) rs → cut_to b m rs ≡ []
 cut_to-before b m [] e = refl
 cut_to-before b m (r ∷ rs) e =
@@ -124,7 +124,7 @@ value_at-append [] ys x = refl
 value_at-append (r ∷ xs) ys x =
     rw (value_at-append xs ys x) (sym (or_cond (is_within r.start r.len x) r.value (value_at xs x) (value_at ys x)))
 
--- runs that begin behind those before them
+-- runs that begin after those before them
 pub canonical_gap : {K : Type 0} (same : K → K → Bool) (end : ℕ) (xs ys : List (AddressRun K)) → IsCanonical same xs
     → EndBelow end xs → IsCanonical same ys → StartFrom end ys → IsCanonical same (xs ++ ys)
 canonical_gap same end [] ys h e g s = g
@@ -198,7 +198,7 @@ value_at-prepended r (t ∷ rs) x =
       | inr j ↦ rw j
     ]
 
--- behind the last run of a list that is joined to those after it
+-- after the last run of a list that is joined to those after it
 canonical_joined : (xs : List (AddressRun Mapping)) (l : AddressRun Mapping) (rs : List (AddressRun Mapping))
     → IsCanonical same_mapping (xs ++ l ∷ []) → IsCanonical same_mapping (prepended l rs)
     → IsCanonical same_mapping (xs ++ prepended l rs)
@@ -236,7 +236,7 @@ prepended_before r (Some n) ys s = prepended-append r n [] ys
 within_before : (a x : ℕ) → x < a → is_within 0 a x ≡ true
 within_before a x l = is_within-in 0 a x (omega arith) (omega arith)
 
--- what lies before a range, what the range is then, and what lies behind it
+-- what lies before a range, what the range is then, and what lies after it
 says_parts : {X : Type 0} (a n x : ℕ) (old new : Option X) → a + n < 2 ^ 64 → (2 ^ 64 ≤ x → old ≡ None)
     → or_else (cond (is_within 0 a x) old None)
     (cond (is_within a n x) new (cond (is_within (a + n) (2 ^ 64 - (a + n)) x) old None))
@@ -274,7 +274,7 @@ pub record SaysThen (f : Says) (rs : List (AddressRun Mapping)) : Type 0 where
   pub canonical : IsCanonical same_mapping rs
   pub values : (x : ℕ) → value_at rs x ≡ f x
 
--- runs say nothing of what lies behind them
+-- runs say nothing of what lies after them
 none_by : (rs : List (AddressRun Mapping)) (limit x : ℕ) → EndBelow limit rs → limit ≤ x + 1 → value_at rs x ≡ None
 none_by [] limit x e l = refl
 none_by (r ∷ rs) limit x e l = rw (is_within-above r.start r.len x (omega arith)) (none_by rs limit x e.1 l)
@@ -411,7 +411,7 @@ past_none : (old : List (AddressRun Mapping)) (a n x : ℕ) (v w : Option Mappin
     → w ≡ None → cond (is_within a n x) v w ≡ None
 past_none old a n x v w fits l e = rw (is_within-above a n x (omega arith)) e
 
--- the list that is put together of what lies before a run, of what joins it and of what lies behind it
+-- the list that is put together of what lies before a run, of what joins it and of what lies after it
 module _ (rs : List (AddressRun Mapping)) (k : IsKept rs) (r : AddressRun Mapping) (some : 0 < r.len)
     (fits : r.start + r.len < 2 ^ 64)
     (before after : List (AddressRun Mapping)) (right : Option (AddressRun Mapping))
@@ -420,14 +420,14 @@ module _ (rs : List (AddressRun Mapping)) (k : IsKept rs) (r : AddressRun Mappin
     (far : StartFrom (r.start + r.len + 1) after)
     (joined : AddressRun Mapping) (behind : Option (AddressRun Mapping))
     (is : joined ∷ if_any behind ≡ prepended r (if_any right)) where
-  put_behind : joined ∷ if_any behind ++ after ≡ prepended r (if_any right ++ after)
-  put_behind = ap (λ (ys : List (AddressRun Mapping)). ys ++ after) is ∙ prepended_before r right after far
+  put_after : joined ∷ if_any behind ++ after ≡ prepended r (if_any right ++ after)
+  put_after = ap (λ (ys : List (AddressRun Mapping)). ys ++ after) is ∙ prepended_before r right after far
 
   put_left : (left : Option (AddressRun Mapping))
       → prepended_if_any left (joined ∷ []) ++ (if_any behind ++ after)
       ≡ prepended_if_any left (prepended r (if_any right ++ after))
-  put_left None = put_behind
-  put_left (Some l) = prepended-append l joined [] (if_any behind ++ after) ∙ ap (prepended l) put_behind
+  put_left None = put_after
+  put_left (Some l) = prepended-append l joined [] (if_any behind ++ after) ∙ ap (prepended l) put_after
 
   put_together : (left begun next : Option (AddressRun Mapping))
       → if_any begun ++ if_any next ≡ prepended_if_any left (joined ∷ [])

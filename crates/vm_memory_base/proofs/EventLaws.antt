@@ -3,7 +3,7 @@ use Rattle.std.proofs.Common.{◌≡◌, ℕ, zero, suc, ◌<◌, Bool, true, fa
 use Rattle.std.proofs.lemmas.Bool.{true≢false}
 use Rattle.vm_memory_base.specs.Events.{Event, Mark, Clear, sets, takes_word, after, is_left, marks_at, answers_at}
 
--- the page is answered behind this step, or it is left
+-- the page is answered after this step, or it is left
 abbrev pub Found : ℕ → Bool → List Event → ℕ → Type 0
 Found page set history j =
     ((i : ℕ) × (j < i) × (answers_at page set history i ≡ true)) ⊎ (is_left page set history ≡ true)
@@ -81,7 +81,7 @@ stayed true false true n h = absurd (true≢false (sym h))
 stayed false false taken n h = absurd (true≢false (sym h))
 stayed set true taken n h = absurd (true≢false n)
 
--- behind a step, by whether it sets the page
+-- after a step, by whether it sets the page
 back_by : (page : ℕ) (set : Bool) (e : Event) (history : List Event) (i : ℕ) (b : Bool) → sets page e ≡ b
     → Before page (after page set e) history i
     → Before page set (e ∷ history) (suc i) ⊎ Since page set (e ∷ history) (suc i)

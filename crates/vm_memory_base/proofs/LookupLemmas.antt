@@ -230,13 +230,13 @@ gap_values at end x (r ∷ rs) h =
                       let out : is_within next (end - next) x ≡ false =
                       is_within-below next (end - next) x (omega arith) in
                       let e : value_at (gaps next end rs) x ≡ None = rw out at rest in
-                      rw (w.0, there) (behind_gap at (min r.start end) x (gaps next end rs) (omega arith) ∙ e)
+                      rw (w.0, there) (after_gap at (min r.start end) x (gaps next end rs) (omega arith) ∙ e)
                   | inr i ↦
                       let past = value_at_past r rs x i in
                       let inside : is_within next (end - next) x ≡ true =
                       is_within-in next (end - next) x (omega arith) (omega arith) in
                       let e : value_at (gaps next end rs) x ≡ if_missing (value_at rs x) = rw inside at rest in
-                      rw (w.0, past) (behind_gap at (min r.start end) x (gaps next end rs) (omega arith) ∙ e)
+                      rw (w.0, past) (after_gap at (min r.start end) x (gaps next end rs) (omega arith) ∙ e)
                 ]
           ]
       | inr w ↦
@@ -248,13 +248,13 @@ gap_values at end x (r ∷ rs) h =
           let e : value_at (gaps next end rs) x ≡ None = rw out at rest in
           rw w.0 (elim w.1 [
             | inl a ↦ before_gap at (min r.start end) x (gaps next end rs) a ∙ e
-            | inr a ↦ behind_gap at (min r.start end) x (gaps next end rs) (omega arith) ∙ e
+            | inr a ↦ after_gap at (min r.start end) x (gaps next end rs) (omega arith) ∙ e
           ])
     ]
   where
-    behind_gap : (from to x : ℕ) (gs : List (AddressRun (Unit {0}))) → to ≤ x
+    after_gap : (from to x : ℕ) (gs : List (AddressRun (Unit {0}))) → to ≤ x
         → value_at (cut_onto from to tt gs) x ≡ value_at gs x
-    behind_gap from to x gs l =
+    after_gap from to x gs l =
         elim (cases_lt from to) [
           | inl m ↦ rw (lt-ltb from to m, is_within-above from (to - from) x (omega arith))
           | inr m ↦ rw (le-ltb from to m)
@@ -298,15 +298,15 @@ gaps_over at end [] l = rw (le-ltb at end l)
 gaps_over at end (r ∷ rs) l =
     rw (le-ltb at (min r.start end) (omega arith)) (gaps_over (max at (r.start + r.len)) end rs (omega arith))
 
-gaps_behind : (at end : ℕ) (rs : List (AddressRun Mapping)) → StartFrom end rs → gaps at end rs ≡ gaps at end []
-gaps_behind at end [] s = refl
-gaps_behind at end (r ∷ rs) s =
+gaps_after : (at end : ℕ) (rs : List (AddressRun Mapping)) → StartFrom end rs → gaps at end rs ≡ gaps at end []
+gaps_after at end [] s = refl
+gaps_after at end (r ∷ rs) s =
     let to : min r.start end ≡ end = omega arith in
     rw (to, gaps_over (max at (r.start + r.len)) end rs (omega arith))
 
 gaps_cut : (at end : ℕ) (rs behind : List (AddressRun Mapping)) → StartFrom end behind
     → gaps at end (rs ++ behind) ≡ gaps at end rs
-gaps_cut at end [] behind s = gaps_behind at end behind s
+gaps_cut at end [] behind s = gaps_after at end behind s
 gaps_cut at end (r ∷ rs) behind s =
     ap (cut_onto at (min r.start end) tt) (gaps_cut (max at (r.start + r.len)) end rs behind s)
 

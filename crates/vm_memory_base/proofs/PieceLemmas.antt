@@ -13,7 +13,7 @@ piece_put xs ys piece from front middle back =
     sym (take-append-drop n (drop from ys)) ∙ rw (middle, drop-drop n from ys, back) refl in
     sym (take-append-drop from ys) ∙ rw (front, rest) (sym (append_assoc (take from xs) piece (drop (from + n) xs)))
 
--- one byte more is replaced: what lies behind it stays
+-- one byte more is replaced: what lies after it stays
 pub drop-more_set : (xs ys zs : List ℕ) (from i x : ℕ) → drop (from + i) xs ≡ drop (from + i) zs
     → ys ≡ set xs (from + i) x
     → drop (from + (i + 1)) ys ≡ drop (from + (i + 1)) zs
@@ -23,7 +23,7 @@ drop-more_set xs ys zs from i x same e =
     ap (drop (from + (i + 1))) e ∙ drop-set-lt (from + (i + 1)) xs (from + i) x below
     ∙ rw next (sym (drop-drop 1 (from + i) xs) ∙ ap (drop 1) same ∙ drop-drop 1 (from + i) zs)
 
--- and itself is there, behind those that were replaced before
+-- and itself is there, after those that were replaced before
 pub take-more_set : (xs ys piece : List ℕ) (from i : ℕ) → from + i < length xs → i < length piece
     → take i (drop from xs) ≡ take i piece
     → ys ≡ set xs (from + i) (get_or piece i 0) → take (i + 1) (drop from ys) ≡ take (i + 1) piece

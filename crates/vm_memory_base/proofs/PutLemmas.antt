@@ -126,11 +126,11 @@ taken_back {K} k r rs put new s h none is e =
     e ∙ rw (a, b) (ap (λ (ys : List (AddressRun K)). runs_below k rs ++ ys) (sym none) ∙ ascending_split k rs h)
 
 -- the run that starts at the second of the addresses goes
-pub gone_behind : (first last : ℕ) (run : Option (AddressRun Mapping)) (rs put new : List (AddressRun Mapping))
+pub gone_after : (first last : ℕ) (run : Option (AddressRun Mapping)) (rs put new : List (AddressRun Mapping))
     → first < last → IfSome run (λ r. r.start ≡ first) → put ≡ runs_below first rs ++ (if_any run ++ runs_from last rs)
     → new ≡ runs_below last put ++ runs_from (last + 1) put
     → new ≡ runs_below first rs ++ (if_any run ++ runs_from (last + 1) rs)
-gone_behind first last run rs put new l s is e =
+gone_after first last run rs put new l s is e =
     let xs = runs_below first rs ++ if_any run in
     let low : StartsBelow last xs =
     StartsBelow-append last (runs_below first rs) (if_any run)

@@ -62,8 +62,8 @@ module _ {K : Type 0} (same : K → K → Bool) (limit : ℕ) (rs : List (Addres
   pub starts_limit : r.start < limit
   starts_limit = last_starts limit (runs_below r.start rs) r (subst (StartsBelow limit) is (below_starts limit rs))
 
-  pub starts_behind : StartFrom (r.start + r.len) (runs_from limit rs)
-  starts_behind = tail_starts same r (runs_from limit rs)
+  pub starts_after : StartFrom (r.start + r.len) (runs_from limit rs)
+  starts_after = tail_starts same r (runs_from limit rs)
       (canonical_suffix same (runs_below r.start rs) (r ∷ runs_from limit rs) canonical_whole)
 
   pub long : 0 < r.len
@@ -113,9 +113,9 @@ pub front_apart : {K : Type 0} (same : K → K → Bool) (limit : ℕ) (rs : Lis
 front_apart same limit rs h e =
     front_upto same limit rs h (EndBelow-weaker limit (limit + 1) (runs_below limit rs) (omega arith) e)
 
-inside_behind : {K : Type 0} (same : K → K → Bool) (at n : ℕ) (rs : List (AddressRun K)) → IsCanonical same rs
+inside_after : {K : Type 0} (same : K → K → Bool) (at n : ℕ) (rs : List (AddressRun K)) → IsCanonical same rs
     → EndBelow (at + n + 1) rs → cut_to at n (runs_from (at + 1) rs) ≡ runs_from (at + 1) rs
-inside_behind same at n rs h b =
+inside_after same at n rs h b =
     let split = sym (ascending_split (at + 1) rs (ascending_canonical same rs h)) in
     cut_to-inside same at n (runs_from (at + 1) rs)
     (canonical_suffix same (runs_below (at + 1) rs) (runs_from (at + 1) rs) (subst (IsCanonical same) split h))
@@ -128,7 +128,7 @@ pub back_apart : {K : Type 0} (same : K → K → Bool) (at n : ℕ) (rs : List 
 back_apart same at n rs h b e =
     let split = sym (ascending_split (at + 1) rs (ascending_canonical same rs h)) in
     let p = cut_to-before at n (runs_below (at + 1) rs) e in
-    let q = inside_behind same at n rs h b in
+    let q = inside_after same at n rs h b in
     sym (ap (cut_to at n) split ∙ cut_to-append at n (runs_below (at + 1) rs) (runs_from (at + 1) rs) ∙ rw (p, q))
 
 pub back_cut : {K : Type 0} (same : K → K → Bool) (at n : ℕ) (rs : List (AddressRun K)) → IsCanonical same rs
@@ -146,7 +146,7 @@ back_cut same at n rs h b r is u =
     let below : ltb at (r.start + r.len) ≡ true = lt-ltb at (r.start + r.len) u in
     let p = cut_to-before at n (runs_below r.start rs)
     (EndBelow-weaker (r.start + 1) (at + 1) (runs_below r.start rs) (omega arith) e) in
-    let q = inside_behind same at n rs h b in
+    let q = inside_after same at n rs h b in
     let last : cut_to at n (r ∷ runs_from (at + 1) rs)
     ≡ run at (r.start + r.len - at) r.value ∷ runs_from (at + 1) rs = rw (from, to, below, q) in
     sym (ap (cut_to at n) w ∙ cut_to-append at n (runs_below r.start rs) (r ∷ runs_from (at + 1) rs) ∙ rw (p, last))
@@ -267,7 +267,7 @@ pub none_stay : (low high : ℕ) (rs : List (AddressRun Mapping)) → low ≤ hi
     → runs_below low rs ≡ []
 none_stay low high rs l none = sym (below_below low high rs l) ∙ ap (runs_below low) none
 
--- the runs from an address on, where another was put behind it
+-- the runs from an address on, where another was put after it
 pub clear_kept : (first last : ℕ) (r : AddressRun Mapping) (rs put : List (AddressRun Mapping)) → AreAscending rs
     → r.start ≡ last
     → first < last → put ≡ runs_below r.start rs ++ r ∷ runs_from (r.start + 1) rs
@@ -296,7 +296,7 @@ clear_kept first last r rs put h s l is same =
     ap (runs_from k) is ∙ from_of k (runs_below k rs) (r ∷ runs_from (k + 1) rs) (below_starts k rs) t in
     a ∙ sym (subst (λ (n : ℕ). runs_from n put ≡ r ∷ runs_from (k + 1) rs) s b)
 
--- where no run below an address starts behind another
+-- where no run below an address starts after another
 pub none_from : (mid high : ℕ) (rs : List (AddressRun Mapping)) → AreAscending rs → mid ≤ high
     → StartsBelow mid (runs_below high rs) → runs_from mid rs ≡ runs_from high rs
 none_from mid high rs h m s =

@@ -4,7 +4,7 @@ use Rattle.std.proofs.lemmas.Bool.{cases_lt}
 use Rattle.std.proofs.lemmas.List.{append-nil, append_assoc, length-append}
 use Rattle.vm_memory_base.specs.Change.{if_any, prepended, prepended_if_any, start_or, EndBelow, StartFrom, AreAscending, IsKept, runs_below, runs_from, with_run, without_range}
 use Rattle.vm_memory_base.specs.Runs.{AddressRun, IsCanonical, cut_to}
-use Rattle.vm_memory_base.specs.Site.{IsFront, IsLastBelow, IsReplaced, CutsBehind, CutsInFront}
+use Rattle.vm_memory_base.specs.Site.{IsFront, IsLastBelow, IsReplaced, CutsFrom, CutsInFront}
 use Rattle.vm_memory_base.specs.Table.{Mapping, same_mapping, canonical_list}
 use Rattle.vm_memory_base.specs.declared.iotlb.site.Edge.{Edge}
 use Rattle.vm_memory_base.specs.declared.iotlb.site.Site.{Site}
@@ -159,19 +159,19 @@ pub replaced_at : (rs : List (AddressRun Mapping)) (site : Site) (run : Option (
     (new : List (AddressRun Mapping)) (low high : ℕ) → start_or site.front.run site.start ≡ low → site.end ≡ high
     → IsReplaced rs site run new
     → new ≡ runs_below low rs
-    ++ (if_any site.front.run ++ (if_any run ++ (if_any site.behind.run ++ runs_from (high + 1) rs)))
+    ++ (if_any site.front.run ++ (if_any run ++ (if_any site.back.run ++ runs_from (high + 1) rs)))
 replaced_at rs site run new low high l h e =
     subst (λ (n : ℕ). new ≡ runs_below n rs
-    ++ (if_any site.front.run ++ (if_any run ++ (if_any site.behind.run ++ runs_from (high + 1) rs)))) l
+    ++ (if_any site.front.run ++ (if_any run ++ (if_any site.back.run ++ runs_from (high + 1) rs)))) l
     (subst (λ (n : ℕ). new ≡ runs_below (start_or site.front.run site.start) rs
-    ++ (if_any site.front.run ++ (if_any run ++ (if_any site.behind.run ++ runs_from (n + 1) rs)))) h e)
+    ++ (if_any site.front.run ++ (if_any run ++ (if_any site.back.run ++ runs_from (n + 1) rs)))) h e)
 
 -- a run is put over a site, where it joins what it touches
 module _ (rs : List (AddressRun Mapping)) (k : IsKept rs) (r : AddressRun Mapping) (some : 0 < r.len)
     (fits : r.start + r.len < 2 ^ 64) (start end : ℕ) (at : start ≡ r.start) (to : end ≡ r.start + r.len)
     (front behind : Edge) (is_front : IsFront rs start front) (cut : CutsInFront rs start front)
     (apart : EndBelow start (runs_below (start_or front.run start) rs))
-    (reaches : IfSome front.run (λ l. (0 < l.len) × (l.start + l.len ≡ start))) (cut_behind : CutsBehind rs end behind)
+    (reaches : IfSome front.run (λ l. (0 < l.len) × (l.start + l.len ≡ start))) (cut_after : CutsFrom rs end behind)
     (begun next after : Option (AddressRun Mapping))
     (joins : (j : AddressRun Mapping) × (j ∷ if_any after ≡ prepended r (if_any behind.run))
     × (if_any begun ++ if_any next ≡ prepended_if_any front.run (j ∷ [])))
@@ -182,7 +182,7 @@ module _ (rs : List (AddressRun Mapping)) (k : IsKept rs) (r : AddressRun Mappin
   is_set : IsKept new × (new ≡ canonical_list (with_run r rs))
   is_set =
       run_is_set rs k r some fits (runs_below (start_or front.run r.start) rs) (runs_from (r.start + r.len + 1) rs)
-      behind.run (rw at at apart) (rw to at cut_behind) (from_starts (r.start + r.len + 1) rs) joins.0 after joins.1
+      behind.run (rw at at apart) (rw to at cut_after) (from_starts (r.start + r.len + 1) rs) joins.0 after joins.1
       front.run (rw at at cut) (rw at at reaches) begun next joins.2 new (rw (at, to) at put)
 
   pub set_over : (IsKept new × (new ≡ canonical_list (with_run r rs))) × (length new ≤ length rs + 2)
@@ -197,15 +197,15 @@ module _ (rs : List (AddressRun Mapping)) (k : IsKept rs) (r : AddressRun Mappin
 
 -- nothing is put over a site
 pub cleared_over : (rs : List (AddressRun Mapping)) → IsKept rs → (start end : ℕ) → start < end → end < 2 ^ 64
-    → (front behind : Edge) → IsFront rs start front → CutsInFront rs start front → CutsBehind rs end behind
+    → (front behind : Edge) → IsFront rs start front → CutsInFront rs start front → CutsFrom rs end behind
     → (new : List (AddressRun Mapping))
     → new ≡ runs_below (start_or front.run start) rs
     ++ (if_any front.run ++ (if_any behind.run ++ runs_from (end + 1) rs))
     → (IsKept new × (new ≡ canonical_list (without_range start (end - start) rs))) × (length new ≤ length rs + 1)
-cleared_over rs k start end some fits front behind is_front cut cut_behind new put =
+cleared_over rs k start end some fits front behind is_front cut cut_after new put =
     let to : start + (end - start) ≡ end = omega arith in
     let back : if_any behind.run ++ runs_from (end + 1) rs
-    ≡ cut_to (start + (end - start)) (2 ^ 64 - (start + (end - start))) rs = rw to cut_behind in
+    ≡ cut_to (start + (end - start)) (2 ^ 64 - (start + (end - start))) rs = rw to cut_after in
     let a = length_four (runs_below (start_or front.run start) rs) (if_any front.run) [] (if_any behind.run)
     (runs_from (end + 1) rs) new put in
     let b = front_length front.run start rs is_front.there in
@@ -218,7 +218,7 @@ cleared_over rs k start end some fits front behind is_front cut cut_behind new p
 
 -- ---- the edges of a site where a run joins them
 
--- what is left of the one behind is as it was
+-- what is left of the one after it is as it was
 pub if_left : (P : AddressRun Mapping → Type 0) (before after : Option (AddressRun Mapping))
     → IfSome after (λ r. if_any before ≡ r ∷ []) → IfSome before P → IfSome after P
 if_left P before None h p = tt

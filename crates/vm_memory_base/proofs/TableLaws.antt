@@ -143,7 +143,7 @@ pub canonical_list-kept : (table : Table) → IsCanonical same_mapping table.ran
     → All (λ r. r.start + r.len ≤ 2 ^ 64) table.ranges → canonical_list (says table) ≡ table.ranges
 canonical_list-kept table = canonical_list-value_at table.ranges
 
--- a range that is set behind another, with targets that follow, is one range with it
+-- a range that is set after another, with targets that follow, is one range with it
 pub sets_join : (iova to m n x : ℕ) (permissions : Permissions) (old : Option Mapping) → iova + m ≤ 2 ^ 64
     → says_after_all (Set iova to m permissions ∷ Set (iova + m) (step to m) n permissions ∷ []) x old
     ≡ says_after (Set iova to (m + n) permissions) x old

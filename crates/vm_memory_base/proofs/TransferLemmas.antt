@@ -2,7 +2,7 @@
 use Rattle.std.proofs.Common.{◌≡◌, ℕ, zero, suc, ◌-◌, ◌≤◌, Bool, false, min, List, [], ◌∷◌, ◌++◌, length, take, drop, Option, Result, Ok, refl, sym, ap, ◌∙◌, append-nil, arith}
 use Rattle.std.proofs.lemmas.List.{take_rest, drop_all, drop_min, length-drop, length-take-le, length-append}
 use borrow.Rule.Slice.PartMut.{put_mid}
-use Rattle.vm_memory_base.specs.Transfer.{Next, tried, giving, Reads, ReadsBehind, filled_as, is_short, FillsBy, Stop, Again, WholeOf, Answer}
+use Rattle.vm_memory_base.specs.Transfer.{Next, tried, giving, Reads, ReadsAfter, filled_as, is_short, FillsBy, Stop, Again, WholeOf, Answer}
 
 -- a buffer whose rest is replaced
 placed : (done : ℕ) (buf new : List ℕ) → put_mid done (length buf - done) buf new ≡ take done buf ++ new
@@ -23,19 +23,19 @@ length-placed done buf new within same =
 
 -- a source, a buffer that it is lent, and whether a try was interrupted
 module _ {S : Type 0} (source : S → Option (List Next)) (reads : S → List ℕ → Answer → List ℕ → S → Type 0) where
-  pub reads_behind : {old new : S} {part : List ℕ} {flag interrupted : Bool} {given answer : Answer}
+  pub reads_after : {old new : S} {part : List ℕ} {flag interrupted : Bool} {given answer : Answer}
       (done : ℕ) (buf : List ℕ)
       → Again (Reads source reads) (old, take (length buf - done) (drop done buf), flag) given (new, part, interrupted)
       → given ≡ answer
-      → ReadsBehind source reads done (old, buf, flag) answer
+      → ReadsAfter source reads done (old, buf, flag) answer
       (new, put_mid done (length buf - done) buf part, interrupted)
-  reads_behind {part = part} done buf tries is =
+  reads_after {part = part} done buf tries is =
       (part, rw is at (rw (take_rest buf done) at tries), placed done buf part)
 
   -- a buffer is filled by reads in turn
   pub fills_by : (known : S → Option ℕ) (s t : S) (start buf : List ℕ) (flag : Bool) (count : ℕ) (stop : Stop)
       (answer : Result (Unit {0}) _) → is_short (known s) (length start) ≡ false
-      → WholeOf (ReadsBehind source reads) (length start) (s, start, false) count stop (t, buf, flag)
+      → WholeOf (ReadsAfter source reads) (length start) (s, start, false) count stop (t, buf, flag)
       → answer ≡ filled_as (length start) flag count stop → FillsBy source reads known s start answer buf t
   fills_by known s t start buf flag count stop answer long whole is = rw long (count, stop, flag, whole, is)
 

@@ -24,10 +24,10 @@ pub record IsFront (rs : List (AddressRun Mapping)) (at : ℕ) (front : Edge) : 
   pub whole : front.stored ≡ true → IfSome front.run (λ l. runs_below at rs ≡ runs_below l.start rs ++ l ∷ [])
 
 -- the run after an address starts there, and a run is stored there or not
-pub record IsBehind (rs : List (AddressRun Mapping)) (at : ℕ) (behind : Edge) : Type 0 where
-  pub starts : IfSome behind.run (λ r. r.start ≡ at)
-  pub stored : behind.stored ≡ true → IfSome behind.run (λ r. runs_from at rs ≡ r ∷ runs_from (at + 1) rs)
-  pub absent : behind.stored ≡ false → runs_from at rs ≡ runs_from (at + 1) rs
+pub record IsEdgeFrom (rs : List (AddressRun Mapping)) (at : ℕ) (edge : Edge) : Type 0 where
+  pub starts : IfSome edge.run (λ r. r.start ≡ at)
+  pub stored : edge.stored ≡ true → IfSome edge.run (λ r. runs_from at rs ≡ r ∷ runs_from (at + 1) rs)
+  pub absent : edge.stored ≡ false → runs_from at rs ≡ runs_from (at + 1) rs
 
 -- what is said to be clear has no run that starts in it after its first address
 abbrev pub IsClear : List (AddressRun Mapping) → Site → Type 0
@@ -37,18 +37,18 @@ IsClear rs site = site.clear ≡ true → runs_from (site.start + 1) rs ≡ runs
 pub record IsSite (rs : List (AddressRun Mapping)) (site : Site) : Type 0 where
   pub order : site.start < site.end
   pub front : IsFront rs site.start site.front
-  pub behind : IsBehind rs site.end site.behind
+  pub back : IsEdgeFrom rs site.end site.back
   pub clear : IsClear rs site
 
 -- what runs say below an address is in front of it, and what they say from one on is after it
 abbrev pub CutsInFront : List (AddressRun Mapping) → ℕ → Edge → Type 0
 CutsInFront rs at front = runs_below (start_or front.run at) rs ++ if_any front.run ≡ cut_to 0 at rs
 
-abbrev pub CutsBehind : List (AddressRun Mapping) → ℕ → Edge → Type 0
-CutsBehind rs at behind = if_any behind.run ++ runs_from (at + 1) rs ≡ cut_to at (2 ^ 64 - at) rs
+abbrev pub CutsFrom : List (AddressRun Mapping) → ℕ → Edge → Type 0
+CutsFrom rs at edge = if_any edge.run ++ runs_from (at + 1) rs ≡ cut_to at (2 ^ 64 - at) rs
 
 -- the runs after a site got what its edges say, with a run between them or none
 abbrev pub IsReplaced : List (AddressRun Mapping) → Site → Option (AddressRun Mapping) → List (AddressRun Mapping)
     → Type 0
 IsReplaced rs site run new = new ≡ runs_below (start_or site.front.run site.start) rs
-    ++ (if_any site.front.run ++ (if_any run ++ (if_any site.behind.run ++ runs_from (site.end + 1) rs)))
+    ++ (if_any site.front.run ++ (if_any run ++ (if_any site.back.run ++ runs_from (site.end + 1) rs)))

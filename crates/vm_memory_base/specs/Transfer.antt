@@ -165,8 +165,8 @@ module _ {S : Type 0} (source : S → Option (List Next)) (reads : S → List �
       × (new.2 ≡ (old.2 || is_interrupted answer))
 
   -- tries of what follows the bytes that are done
-  abbrev pub ReadsBehind : ℕ → S × List ℕ × Bool → Answer → S × List ℕ × Bool → Type 0
-  ReadsBehind done old answer new = (part : List ℕ)
+  abbrev pub ReadsAfter : ℕ → S × List ℕ × Bool → Answer → S × List ℕ × Bool → Type 0
+  ReadsAfter done old answer new = (part : List ℕ)
       × Again Reads (old.0, drop done old.1, old.2) answer (new.0, part, new.2)
       × (new.1 ≡ take done old.1 ++ part)
 
@@ -193,8 +193,8 @@ lent_once l =
     }
 
 -- tries of what is left of the buffer
-abbrev pub lent_behind : ℕ → Lending → Made VolatileMemoryError Lending
-lent_behind done l =
+abbrev pub lent_after : ℕ → Lending → Made VolatileMemoryError Lending
+lent_after done l =
     let t = again lent_once (record l { buffer = drop done l.buffer }) in
     record { answer = t.answer; left = record t.left { buffer = take done l.buffer ++ t.left.buffer } }
 
@@ -220,7 +220,7 @@ is_short (Some left) n = nat_lt left n
 abbrev pub filled_whole : Option ℕ → List ℕ → List Next → Filled
 filled_whole known buffer source =
     let n = length buffer in
-    let m = whole_of lent_behind n (lending buffer source) in
+    let m = whole_of lent_after n (lending buffer source) in
     if is_short known n then record {
       buffer = buffer;
       answer = Err (record { touched = 0; error = IOError UnexpectedEof });
@@ -241,7 +241,7 @@ FillsBy source reads known old buffer answer new after =
     MatchBool (is_short (known old) n)
     ((answer ≡ Err (record { touched = 0; error = IOError UnexpectedEof })) × (new ≡ buffer) × (after ≡ old))
     ((count : ℕ) × (stop : Stop) × (interrupted : Bool)
-    × WholeOf (ReadsBehind source reads) n (old, buffer, false) count stop (after, new, interrupted)
+    × WholeOf (ReadsAfter source reads) n (old, buffer, false) count stop (after, new, interrupted)
     × (answer ≡ filled_as n interrupted count stop))
 
 -- if what a source does next is known: it fills a buffer

@@ -74,7 +74,7 @@ pub trait ByteValued: ByteSized + Copy {
         ensures unchanged { OnFalse result (out.new ≡ out.old) };
 
     /// Does nothing. A proof learns from it that the value is one of the type.
-    fn known(&self)
+    fn recall_law(&self)
         ensures { is_value self.now };
 
     // Values and lists of bytes stand for one another, so both round trips lead back.
@@ -88,7 +88,7 @@ pub trait ByteValued: ByteSized + Copy {
         requires fits { from + length out.old < 2 ^ 64 }
         ensures { out.new ≡ take (length out.old) (drop from (bytes self.now)) }
     {
-        self.known();
+        self.recall_law();
         if from > 0 || !self.to_slice(out) {
             copy_part(self, from, out);
         }
@@ -103,7 +103,7 @@ pub trait ByteValued: ByteSized + Copy {
         ensures { bytes self.new ≡ take from (bytes self.old) ++ «data».now
             ++ drop (from + length «data».now) (bytes self.old) }
     {
-        self.known();
+        self.recall_law();
         if from == 0 {
             if let Some(whole) = Self::from_slice(data) {
                 *self = whole;
@@ -122,7 +122,7 @@ pub trait ByteValued: ByteSized + Copy {
         ensures { Self.width < 2 ^ 64
             → OnOk result (Appends (W.contents writer.old) (W.contents writer.new) (bytes self.now)) }
     {
-        self.known();
+        self.recall_law();
         let size = Self::size();
         let mut done = 0;
         while done < size {
@@ -151,7 +151,7 @@ pub trait ByteValued: ByteSized + Copy {
             read_piece(&mut value, reader, done, count)?;
             done += count;
         }
-        value.known();
+        value.recall_law();
         Ok(value)
     }
 }
@@ -202,7 +202,7 @@ impl<T: FixedInteger> ByteValued for T {
     }
 
     #[inline]
-    fn known(&self) {
+    fn recall_law(&self) {
         self.to_bits();
     }
 

@@ -3,7 +3,7 @@ ghost use Rattle.std.specs.Prelude.{◌≡◌, Option, Some, None, IsSome};
 ghost use Rattle.vhost_user.specs.Connection.{Connection};
 ghost use Rattle.vm_memory_c.specs.Backend.{backend_owns};
 
-use crate::loose::Loose;
+use crate::raw_box::RawBox;
 use std::alloc::Global;
 use std::marker::Model;
 use std::ptr::null_mut;
@@ -34,10 +34,10 @@ impl Backend {
     }
 
     // The handle of a connection.
-    pub(crate) fn of(connection: Loose<BackendReqHandler, Global>) -> Backend
+    pub(crate) fn of(connection: RawBox<BackendReqHandler, Global>) -> Backend
         ensures { result.state ≡ Some connection.value }
     {
-        let Loose { at, alloc } = connection;
+        let RawBox { at, alloc } = connection;
         Backend {
             at: at as *mut u8,
             alloc,
@@ -45,12 +45,12 @@ impl Backend {
     }
 
     // The connection of a handle.
-    pub(crate) fn loosen(self) -> Loose<BackendReqHandler, Global>
+    pub(crate) fn into_raw_box(self) -> RawBox<BackendReqHandler, Global>
         requires { IsSome self.state }
         ensures { Some result.value ≡ self.state }
     {
         let Backend { at, alloc } = self;
-        Loose {
+        RawBox {
             at: at as *mut BackendReqHandler,
             alloc,
         }

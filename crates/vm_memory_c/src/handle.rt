@@ -3,7 +3,7 @@ ghost use Rattle.std.specs.Prelude.{◌≡◌, Option, Some, None, IsSome};
 ghost use Rattle.vm_session.specs.Retries.{WholeSession};
 ghost use Rattle.vm_memory_c.specs.Handle.{handle_owns};
 
-use crate::loose::Loose;
+use crate::raw_box::RawBox;
 use std::alloc::Global;
 use std::marker::Model;
 use std::ptr::null_mut;
@@ -36,10 +36,10 @@ impl Handle {
 
     // The handle of a session.
     #[inline(always)]
-    pub(crate) fn of(session: Loose<Session, Global>) -> Handle
+    pub(crate) fn of(session: RawBox<Session, Global>) -> Handle
         ensures { result.state ≡ Some session.value }
     {
-        let Loose { at, alloc } = session;
+        let RawBox { at, alloc } = session;
         Handle {
             at: at as *mut u8,
             alloc,
@@ -48,12 +48,12 @@ impl Handle {
 
     // The session of a handle.
     #[inline(always)]
-    pub(crate) fn loosen(self) -> Loose<Session, Global>
+    pub(crate) fn into_raw_box(self) -> RawBox<Session, Global>
         requires { IsSome self.state }
         ensures { Some result.value ≡ self.state }
     {
         let Handle { at, alloc } = self;
-        Loose {
+        RawBox {
             at: at as *mut Session,
             alloc,
         }

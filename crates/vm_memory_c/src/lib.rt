@@ -7,11 +7,11 @@ ghost use Rattle.vm_session.specs.Retries.{without_memories};
 
 mod backend;
 mod handle;
-mod loose;
+mod raw_box;
 mod vhost;
 
 use handle::Handle;
-use loose::Loose;
+use raw_box::RawBox;
 use std::alloc::Global;
 use std::mem;
 use vm_memory_guest::HostPlace;
@@ -27,7 +27,7 @@ pub extern "C" fn vmm_open(alloc: Global, session: &mut Handle) -> u32
 {
     match Box::new(alloc, Session::new(alloc)) {
         Ok(open) => {
-            *session = Handle::of(Loose::of(open));
+            *session = Handle::of(RawBox::of(open));
             0
         }
         Err(_) => 3,
@@ -50,9 +50,9 @@ pub extern "C" fn vmm_call(
     ensures misses { MissesAt session.new.state call.now answer.new miss.old miss.new }
 {
     let handle = mem::replace(session, Handle::closed(alloc));
-    let mut open = handle.loosen().into_box();
+    let mut open = handle.into_raw_box().into_box();
     open.call_telling(call, input, output, answer, miss);
-    *session = Handle::of(Loose::of(open));
+    *session = Handle::of(RawBox::of(open));
 }
 
 /// Makes a block of the bytes that lie at a place, as they are, tracked in pages of `page` bytes that are all clean.
@@ -69,9 +69,9 @@ pub extern "C" fn vmm_lend(
     ensures { LendsAt session.old.state place.bytes page answer.new session.new.state }
 {
     let handle = mem::replace(session, Handle::closed(alloc));
-    let mut open = handle.loosen().into_box();
+    let mut open = handle.into_raw_box().into_box();
     *answer = open.block_at(place, page);
-    *session = Handle::of(Loose::of(open));
+    *session = Handle::of(RawBox::of(open));
 }
 
 /// Gives a block of an open session back: it has no bytes any more, and its number stays. Those of a place are the
@@ -82,9 +82,9 @@ pub extern "C" fn vmm_give_back(alloc: Global, session: &mut Handle, block: usiz
     ensures { GivesBackAt session.old.state block result session.new.state }
 {
     let handle = mem::replace(session, Handle::closed(alloc));
-    let mut open = handle.loosen().into_box();
+    let mut open = handle.into_raw_box().into_box();
     let answer = open.give_back(block);
-    *session = Handle::of(Loose::of(open));
+    *session = Handle::of(RawBox::of(open));
     answer.code
 }
 
@@ -95,9 +95,9 @@ pub extern "C" fn vmm_forget_regions(alloc: Global, session: &mut Handle)
     ensures { session.new.state ≡ option_map without_memories session.old.state }
 {
     let handle = mem::replace(session, Handle::closed(alloc));
-    let mut open = handle.loosen().into_box();
+    let mut open = handle.into_raw_box().into_box();
     open.forget_regions();
-    *session = Handle::of(Loose::of(open));
+    *session = Handle::of(RawBox::of(open));
 }
 
 /// Closes an open session, and frees all that it has.
@@ -107,5 +107,5 @@ pub extern "C" fn vmm_close(alloc: Global, session: &mut Handle)
     ensures { session.new.state ≡ None }
 {
     let handle = mem::replace(session, Handle::closed(alloc));
-    drop(handle.loosen().into_box());
+    drop(handle.into_raw_box().into_box());
 }

@@ -8,7 +8,7 @@ ghost use Rattle.vhost_calls.specs.Values.{connection_state};
 ghost use Rattle.vm_memory_c.specs.Vhost.{OpensAt, StaysOpen};
 
 use crate::backend::Backend;
-use crate::loose::Loose;
+use crate::raw_box::RawBox;
 use std::alloc::Global;
 use std::mem;
 use vhost_calls::{
@@ -23,13 +23,13 @@ fn take(alloc: Global, connection: &mut Backend) -> Box<BackendReqHandler>
     ensures closed { connection.new.state ≡ None }
 {
     let handle = mem::replace(connection, Backend::closed(alloc));
-    handle.loosen().into_box()
+    handle.into_raw_box().into_box()
 }
 
 fn put(connection: &mut Backend, held: Box<BackendReqHandler>)
     ensures { connection.new.state ≡ Some held.value }
 {
-    *connection = Backend::of(Loose::of(held));
+    *connection = Backend::of(RawBox::of(held));
 }
 
 /// Opens a connection with nothing negotiated, and puts its handle into `connection`, which has to be closed or new.

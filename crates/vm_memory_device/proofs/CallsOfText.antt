@@ -79,7 +79,7 @@ Accessed m tables access a n unchanged effect moved =
     (ended (span (windows x.path)) (option_map error_of x.fault)) unchanged effect moved
 
 module _ (m : Memory) (tables : List Table) (access : Permissions) (before : List Entry) (most : ℕ) where
-  -- a call came so far: each access reached all, the place is behind them, and this was done of what they reached
+  -- a call came so far: each access reached all, the place is after them, and this was done of what they reached
   pub record CameTo (Did : List Reached → Type 0) (total : ℕ) (at : List Entry) : Type 0 where
     pub reached : List Reached
     pub so_far : SoFar m.regions (route m tables) access (take most before) total reached
@@ -134,8 +134,8 @@ module _ (m : Memory) (tables : List Table) (access : Permissions) (before : Lis
       at_most : length here.path ≤ n
       at_most = length-access m.regions (route m tables) a n access
 
-      place_behind : (k : ℕ) (left : List Entry) → left ≡ drop k at → left ≡ drop (total + k) before
-      place_behind k left place = place ∙ ap (drop k) c.place ∙ drop-drop k total before
+      place_after : (k : ℕ) (left : List Entry) → left ≡ drop k at → left ≡ drop (total + k) before
+      place_after k left place = place ∙ ap (drop k) c.place ∙ drop-drop k total before
 
       spans : ended (span (windows here.path)) (option_map error_of here.fault)
           ≡ ended (length here.path) (option_map error_of here.fault)
@@ -155,7 +155,7 @@ module _ (m : Memory) (tables : List Table) (access : Permissions) (before : Lis
             so_far = subst (λ k. SoFar m.regions (route m tables) access (take most before) (total + k)
                 (c.reached ++ here.path)) (sym (is ∙ len)) reached_all;
             within = omega (arith, next.fits, c.within, is, len);
-            place = place_behind count left place;
+            place = place_after count left place;
             did = did;
           }
 
@@ -170,7 +170,7 @@ module _ (m : Memory) (tables : List Table) (access : Permissions) (before : Lis
           length-append c.reached here.path ∙ ap (λ k. k + length here.path) c.so_far.count in
           ended_at Does (extent_of m tables access (take most before)) (c.reached ++ here.path) answer left (inl refl)
           is.0 (rw (is.1, count) told)
-          (place_behind (length here.path) left place ∙ ap (λ k. drop k before) (sym count)) did
+          (place_after (length here.path) left place ∙ ap (λ k. drop k before) (sym count)) did
 
       -- there was no memory for it
       wanted : (answer : Result ℕ GuestMemoryError) (left : List Entry) → IsOn m
@@ -195,7 +195,7 @@ module _ (m : Memory) (tables : List Table) (access : Permissions) (before : Lis
           )) is (told ∙ ap (λ k. ended k (Some errors.Memory)) (sym c.so_far.count))
           (place ∙ c.place ∙ ap (λ k. drop k before) (sym c.so_far.count)) did
 
-      -- the call goes on behind the next access, or ends there
+      -- the call goes on after the next access, or ends there
       pub turn : (Unchanged Effect : Type 0) (moved : Result ℕ GuestMemoryError)
           (answer : Option (Result ℕ GuestMemoryError)) (sum : ℕ) (left : List Entry)
           → Accessed m tables access a n Unchanged Effect moved → GoesOn n moved total at answer sum left

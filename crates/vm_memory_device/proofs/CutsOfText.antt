@@ -16,7 +16,7 @@ alone x = record { first = x; len = 1 }
 abbrev longer : Reached → Stretch → Stretch
 longer x s = record { first = x; len = s.len + 1 }
 
--- one byte more before some stretches leaves those behind them
+-- one byte more before some stretches leaves those after them
 lengthened-append : (x : Reached) (ss ts : List Stretch) → (ss ≡ [] → ⊥) → lengthened x (ss ++ ts)
     ≡ lengthened x ss ++ ts
 lengthened-append x [] ts some = absurd (some refl)
@@ -82,7 +82,7 @@ cut-access a (suc (suc n)) (e ∷ es) (x ∷ xs) (at, ends, more) within =
     ap (λ b. cond b (alone x ∷ text_stretches es xs) (lengthened x (text_stretches es xs))) ends
     ∙ ap (lengthened x) (cut-access (a + 1) (suc n) es xs more (omega arith))
 
--- entries behind those of the bytes do not matter
+-- entries after those of the bytes do not matter
 cut-take : (n : ℕ) (es : List Entry) (xs : List Reached) → length xs ≤ n → text_stretches (take n es) xs
     ≡ text_stretches es xs
 unfolding text_stretches
@@ -100,7 +100,7 @@ pub text_windows-none : (es : List Entry) → text_windows es [] ≡ []
 unfolding text_stretches
 text_windows-none es = refl
 
--- an access has its own windows behind those before it
+-- an access has its own windows after those before it
 pub text_windows-more : (regions : List Region) (route : Route) (access : Permissions) (most : ℕ) (es : List Entry)
     (total : ℕ) (reached ys : List Reached) (a n : ℕ) → SoFar regions route access (take most es) total reached
     → Runs a n (drop total (take most es)) → length ys ≤ n → total + n ≤ most
@@ -134,7 +134,7 @@ one_fewer : (k n : ℕ) (ys : List Reached) → (suc k ≡ suc n) ⊎ ((suc k < 
 one_fewer k n ys (inl h) = inl (omega arith)
 one_fewer k n ys (inr h) = inr (omega (arith, h.0), h.1)
 
--- the bytes of a segment are cut as by themselves, and from those of the segments behind it
+-- the bytes of a segment are cut as by themselves, and from those of the segments after it
 cut-segment : (a len : ℕ) (es : List Entry) (xs ys : List Reached)
     → (length xs ≡ len) ⊎ ((length xs < len) × (ys ≡ []))
     → text_stretches (entries_from a len ++ es) (xs ++ ys) ≡ stretches xs ++ text_stretches es ys

@@ -41,7 +41,7 @@ runs-within a (suc zero) (e ∷ es) h = omega arith
 runs-within a (suc (suc n)) (e ∷ es) (at, ends, more) =
     let rest : suc n ≤ length es = runs-within (a + 1) (suc n) es more in omega arith
 
--- behind it the next one begins
+-- after it the next one begins
 pub begins-behind : (b : Bool) (a n : ℕ) (es : List Entry) → Runs a n es → n < length es → begins_at b es n ≡ true
 unfolding Runs
 begins-behind b a n [] h more = absurd h
@@ -52,7 +52,7 @@ begins-behind b a (suc zero) (e ∷ es) (at, inr none) more =
 begins-behind b a (suc (suc n)) (e ∷ es) (at, ends, rest) more =
     begins-behind e.ends (a + 1) (suc n) es rest (omega arith)
 
--- where one begins with an entry, those behind it begin as in what is left from it on
+-- where one begins with an entry, those after it begin as in what is left from it on
 pub begins-drop : (b : Bool) (es : List Entry) (t j : ℕ) → t ≤ length es → begins_at b es t ≡ true
     → begins_at b es (t + j) ≡ begins_at true (drop t es) j
 begins-drop b es zero j within h =
@@ -98,7 +98,7 @@ same_goes None ps qs p rest f g rest_fault paths faults h = (paths ∙ h.0, faul
 same_goes (Some e) ps qs p rest f g rest_fault paths faults h = (paths ∙ h.0, faults ∙ h.1)
 
 module _ (regions : List Region) (route : Route) (access : Permissions) where
-  -- what is reached of a text is what its first access reaches, and what is reached behind it where that is all of it
+  -- what is reached of a text is what its first access reaches, and what is reached after it where that is all of it
   abbrev pub GoesBy : Access → ℕ → List Entry → Type 0
   GoesBy x n es = MatchOption x.fault
       ((text_path regions route access true es ≡ x.path ++ text_path regions route access true (drop n es))
@@ -212,7 +212,7 @@ module _ (regions : List Region) (route : Route) (access : Permissions) where
             ∙ ap (λ x. Some (refusal route x (access_len (e ∷ es)))) at ∙ ap (λ k. Some (refusal route a k)) len,
       )
 
-  -- all of the front of a text is reached, an access begins behind it, and what is reached of the text is this and
+  -- all of the front of a text is reached, an access begins after it, and what is reached of the text is this and
   -- what is reached of the rest
   pub record SoFar (es : List Entry) (total : ℕ) (reached : List Reached) : Type 0 where
     pub count : length reached ≡ total

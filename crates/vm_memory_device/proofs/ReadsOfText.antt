@@ -21,7 +21,7 @@ use Rattle.vm_memory_device.specs.ChainText.{GoesOn, IsNext}
 use Rattle.vm_memory_device.specs.Reach.{reached_by}
 use Rattle.vm_memory_device.proofs.CallsOfText.{Accessed, CameTo, turn}
 
--- the front of a buffer is filled, and what lies behind it is put back
+-- the front of a buffer is filled, and what lies after it is put back
 filled_front : (blocks : List (List ℕ)) (cs : List Cell) (n : ℕ) (rest : List ℕ) → length cs ≤ n → n ≤ length rest
     → filled_buffer blocks cs (take n rest) ++ drop n rest ≡ filled_buffer blocks cs rest
 filled_front blocks cs n rest short fits =
@@ -30,7 +30,7 @@ filled_front blocks cs n rest short fits =
     ∙ ap (λ bs. bytes_at blocks cs ++ bs) (sym (drop-append-le (length cs) (take n rest) (drop n rest) within)
     ∙ ap (drop (length cs)) (take-append-drop n rest))
 
--- a part of a buffer is filled behind what is filled before
+-- a part of a buffer is filled after what is filled before
 filled_part : (blocks : List (List ℕ)) (xs ys : List Reached) (buffer now new : List ℕ) (total n : ℕ)
     → now ≡ filled_buffer blocks (path_cells xs) buffer → length xs ≡ total → length ys ≤ n → n ≤ length now - total
     → new ≡ filled_buffer blocks (path_cells ys) (take (total + n - total) (drop total now))
@@ -54,7 +54,7 @@ abbrev pub Filled : {B : Type 0} → Host B → List ℕ → List ℕ → List R
 Filled host buffer now xs = now ≡ filled_buffer host.blocks (path_cells xs) buffer
 
 module _ {B : Type 0} (m : Memory) (host : Host B) (before : List Entry) (buffer : List ℕ) where
-  -- a read goes on behind the next access, or ends there
+  -- a read goes on after the next access, or ends there
   pub read_turn : (each : All IsRegion m.regions) (now : List ℕ) {total : ℕ} {at : List Entry}
       (c : CameTo m host.tables permissions.Read before (length buffer) (Filled host buffer now) total at)
       → length now ≡ length buffer → (a n : ℕ) → IsNext a n (length now - total) at

@@ -8,7 +8,7 @@ use Rattle.std.proofs.Math.Seq.{drop-length, drop-cons}
 use Rattle.std.proofs.lemmas.List.Elements.{filter-append, All-push, All-head, All-tail}
 use Rattle.std.proofs.lemmas.List.Folds.{list_any-append}
 use Rattle.std.proofs.lemmas.List.Sums.{sum_by-append, sum_by-cons}
-use Rattle.vm_memory_device.specs.Chain.{Entry, access_len, entries_from, text, total_len, readable, writable, fault_behind, fault_after, chain_fault}
+use Rattle.vm_memory_device.specs.Chain.{Entry, access_len, entries_from, text, total_len, readable, writable, fault_past, fault_after, chain_fault}
 use Rattle.vm_memory_device.specs.ChainText.{Divides, Fits, IsNext, IsPlace, Runs, entries}
 use Rattle.vm_memory_device.specs.declared.chain.Segment.{Segment}
 use Rattle.vm_memory_device.specs.declared.chain.ChainFault.{ChainFault}
@@ -44,7 +44,7 @@ length-entries a rest ss =
 same_entries : (a b n m : ℕ) (es : List Entry) → a ≡ b → n ≡ m → entries_from a n ++ es ≡ entries_from b m ++ es
 same_entries a b n m es p q = cc
 
--- the entries of a segment behind the first of them
+-- the entries of a segment after the first of them
 pub drop-entries_from : (a n k : ℕ) (es : List Entry) → k ≤ n
     → drop k (entries_from a n ++ es) ≡ entries_from (a + k) (n - k) ++ es
 unfolding entries_from
@@ -117,7 +117,7 @@ some_next a rest room ss h some =
     least : (x y : ℕ) → (min x y ≡ x) ⊎ (min x y ≡ y)
     least x y = elim (cases_lt x y) [ inl h ↦ inl (omega arith) | inr h ↦ inr (omega arith) ]
 
--- a place goes on inside its segment, and behind it
+-- a place goes on inside its segment, and after it
 pub place_inside : (a rest count : ℕ) (ss : List Segment) → IsPlace a rest ss → count < rest
     → IsPlace (a + count) (rest - count) ss
 place_inside a rest count ss h inside =
@@ -137,15 +137,15 @@ pub within_place : (a rest count : ℕ) (ss : List Segment) (es : List Entry) �
     → entries a rest ss ≡ es → count ≤ access_len es → count ≤ rest
 within_place a rest count ss es h is within = omega (arith, ap access_len is, access_len-place a rest ss h)
 
-pub fit_behind : (ss behind : List Segment) (s : Segment) → ss ≡ s ∷ behind → All Fits ss → All Fits behind
-fit_behind ss behind s is h = All-tail Fits s behind (subst (λ rs. All Fits rs) is h)
+pub fit_after : (ss behind : List Segment) (s : Segment) → ss ≡ s ∷ behind → All Fits ss → All Fits behind
+fit_after ss behind s is h = All-tail Fits s behind (subst (λ rs. All Fits rs) is h)
 
--- where segments begin with one that has a byte, a place is there, and else behind it
+-- where segments begin with one that has a byte, a place is there, and else after it
 pub place_first : (ss behind : List Segment) (s : Segment) → ss ≡ s ∷ behind → All Fits ss → 0 < s.len
     → IsPlace s.addr.0 s.len behind
 place_first ss behind s is fit some = record {
   ends = All-head Fits s behind (subst (λ rs. All Fits rs) is fit);
-  fit = fit_behind ss behind s is fit;
+  fit = fit_after ss behind s is fit;
   next = λ none. absurd (omega arith);
 }
 
@@ -160,7 +160,7 @@ pub record Divided (before : List Segment) (count readable_len total : ℕ) (wri
   pub fit : All Fits before
   pub within : count ≤ length before
   pub front : take count before ≡ readable before
-  pub behind : drop count before ≡ writable before
+  pub back : drop count before ≡ writable before
   pub read : readable_len ≡ total_len (readable before)
   pub sum : total ≡ total_len before
   pub seen : writes ≡ list_any (λ (b : Segment). b.writable) before
@@ -206,7 +206,7 @@ divided_none = record {
   fit = λ k d h. absurd (omega arith);
   within = omega arith;
   front = refl;
-  behind = refl;
+  back = refl;
   read = refl;
   sum = refl;
   seen = refl;
@@ -223,7 +223,7 @@ divided_writable before count readable_len total sum writes s h w fits is = reco
   front = take-append-le count before (s ∷ []) h.within ∙ h.front ∙ sym (append-nil (readable before))
       ∙ ap (λ rs. readable before ++ rs) (sym (readable-writable s w)) ∙ sym (filter-append (λ (r : Segment). not
       r.writable) before (s ∷ []));
-  behind = drop-append-le count before (s ∷ []) h.within ∙ ap (λ rs. rs ++ s ∷ []) h.behind
+  back = drop-append-le count before (s ∷ []) h.within ∙ ap (λ rs. rs ++ s ∷ []) h.back
       ∙ ap (λ rs. writable before ++ rs) (sym (writable-writable s w)) ∙ sym (filter-append (λ (r : Segment).
       r.writable) before (s ∷ []));
   read = h.read ∙ ap total_len (sym (append-nil (readable before))
@@ -234,7 +234,7 @@ divided_writable before count readable_len total sum writes s h w fits is = reco
   unseen = λ e. absurd (cc);
 }
 
--- a readable one more stands behind readable ones alone
+-- a readable one more stands after readable ones alone
 pub divided_readable : (before : List Segment) (count readable_len total sum : ℕ) (writes : Bool) (s : Segment)
     → Divided before count readable_len total writes → s.writable ≡ false → writes ≡ false → Fits s
     → sum ≡ total + s.len
@@ -252,8 +252,8 @@ divided_readable before count readable_len total sum writes s h w none fits is =
       fit = All-push Fits before s h.fit fits;
       within = omega arith;
       front = take_all (count + 1) (before ++ s ∷ []) (omega arith) ∙ more;
-      behind = ap (λ n. drop n (before ++ s ∷ [])) (ap (λ n. n + 1) all ∙ sym long) ∙ drop-length (before ++ s ∷ [])
-          ∙ sym (drop-length before) ∙ ap (λ n. drop n before) (sym all) ∙ h.behind ∙ sym (append-nil (writable before))
+      back = ap (λ n. drop n (before ++ s ∷ [])) (ap (λ n. n + 1) all ∙ sym long) ∙ drop-length (before ++ s ∷ [])
+          ∙ sym (drop-length before) ∙ ap (λ n. drop n before) (sym all) ∙ h.back ∙ sym (append-nil (writable before))
           ∙ ap (λ rs. writable before ++ rs) (sym (writable-readable s w))
           ∙ sym (filter-append (λ (r : Segment). r.writable) before (s ∷ []));
       read = whole ∙ ap total_len more;
@@ -268,7 +268,7 @@ pub divides_all : (ss : List Segment) (count readable_len total : ℕ) (writes :
 divides_all ss count readable_len total writes h =
     let both : total_len (readable ss) + total_len (writable ss) ≡ total_len ss =
     sym (total_len-append (readable ss) (writable ss))
-    ∙ ap total_len (ap (λ rs. rs ++ writable ss) (sym h.front) ∙ ap (λ rs. take count ss ++ rs) (sym h.behind)
+    ∙ ap total_len (ap (λ rs. rs ++ writable ss) (sym h.front) ∙ ap (λ rs. take count ss ++ rs) (sym h.back)
     ∙ take-append-drop count ss) in
     let read = h.read in
     let sum = h.sum in
@@ -276,13 +276,13 @@ divides_all ss count readable_len total writes h =
       fit = h.fit;
       within = h.within;
       front = h.front;
-      behind = h.behind;
+      back = h.back;
       read = h.read;
       written = omega arith;
     }
 
 -- a readable segment has no fault only where no writable one came before
-pub unseen_before : (writes : Bool) (total : ℕ) (s : Segment) → fault_behind writes total s ≡ None → s.writable ≡ false
+pub unseen_before : (writes : Bool) (total : ℕ) (s : Segment) → fault_past writes total s ≡ None → s.writable ≡ false
     → writes ≡ false
 unseen_before false total s h w = refl
 unseen_before true total s h w = go (nat_le (2 ^ 64) (s.addr.0 + s.len)) s.writable (nat_le (2 ^ 32) (total + s.len))
@@ -295,31 +295,31 @@ unseen_before true total s h w = go (nat_le (2 ^ 64) (s.addr.0 + s.len)) s.writa
     go false true long e h = e
     go false false long e h = absurd (cc)
 
--- the fault of segments is that of those behind the tested ones
+-- the fault of segments is that of those after the tested ones
 pub fault_next : (ss : List Segment) (i : ℕ) (d : Segment) (count readable_len total : ℕ) (writes : Bool)
     → i < length ss
     → Divided (take i ss) count readable_len total writes
     → fault_after (take i ss) (drop i ss)
-    ≡ option_or (fault_behind writes total (get_or ss i d)) (fault_after (take (i + 1) ss) (drop (i + 1) ss))
+    ≡ option_or (fault_past writes total (get_or ss i d)) (fault_after (take (i + 1) ss) (drop (i + 1) ss))
 unfolding fault_after
 fault_next ss i d count readable_len total writes h before =
     let s = get_or ss i d in
     let one : suc i ≡ i + 1 = omega arith in
     ap (fault_after (take i ss)) (drop-cons ss i d h)
-    ∙ ap (λ w. option_or (fault_behind w (total_len (take i ss)) s) (fault_after (take i ss ++ s ∷ []) (drop (suc i)
+    ∙ ap (λ w. option_or (fault_past w (total_len (take i ss)) s) (fault_after (take i ss ++ s ∷ []) (drop (suc i)
     ss)))
     (sym before.seen)
-    ∙ ap (λ n. option_or (fault_behind writes n s) (fault_after (take i ss ++ s ∷ []) (drop (suc i) ss))) (sym
+    ∙ ap (λ n. option_or (fault_past writes n s) (fault_after (take i ss ++ s ∷ []) (drop (suc i) ss))) (sym
     before.sum)
-    ∙ ap (λ b. option_or (fault_behind writes total s) (fault_after b (drop (suc i) ss))) (sym (take_more ss i d h))
-    ∙ ap (λ n. option_or (fault_behind writes total s) (fault_after (take (i + 1) ss) (drop n ss))) one
+    ∙ ap (λ b. option_or (fault_past writes total s) (fault_after b (drop (suc i) ss))) (sym (take_more ss i d h))
+    ∙ ap (λ n. option_or (fault_past writes total s) (fault_after (take (i + 1) ss) (drop n ss))) one
 
 -- a segment that has a fault is the first that has one
 pub fault_found : (ss : List Segment) (i : ℕ) (d : Segment) (count readable_len total : ℕ) (writes : Bool) (fault :
     ChainFault)
     → i < length ss → Divided (take i ss) count readable_len total writes
     → chain_fault ss ≡ fault_after (take i ss) (drop i ss)
-    → fault_behind writes total (get_or ss i d) ≡ Some fault → chain_fault ss ≡ Some fault
+    → fault_past writes total (get_or ss i d) ≡ Some fault → chain_fault ss ≡ Some fault
 fault_found ss i d count readable_len total writes fault h before so_far here =
     so_far ∙ fault_next ss i d count readable_len total writes h before
     ∙ ap (λ f. option_or f (fault_after (take (i + 1) ss) (drop (i + 1) ss))) here
@@ -327,7 +327,7 @@ fault_found ss i d count readable_len total writes fault h before so_far here =
 -- one that has none is passed
 pub fault_passed : (ss : List Segment) (i : ℕ) (d : Segment) (count readable_len total : ℕ) (writes : Bool)
     → i < length ss → Divided (take i ss) count readable_len total writes
-    → chain_fault ss ≡ fault_after (take i ss) (drop i ss) → fault_behind writes total (get_or ss i d) ≡ None
+    → chain_fault ss ≡ fault_after (take i ss) (drop i ss) → fault_past writes total (get_or ss i d) ≡ None
     → chain_fault ss ≡ fault_after (take (i + 1) ss) (drop (i + 1) ss)
 fault_passed ss i d count readable_len total writes h before so_far here =
     so_far ∙ fault_next ss i d count readable_len total writes h before
@@ -357,7 +357,7 @@ divided_next_writable ss i d count readable_len total sum writes h before w fits
 
 pub divided_next_readable : (ss : List Segment) (i : ℕ) (d : Segment) (count readable_len total sum : ℕ) (writes : Bool)
     → i < length ss → Divided (take i ss) count readable_len total writes → (get_or ss i d).writable ≡ false
-    → fault_behind writes total (get_or ss i d) ≡ None → Fits (get_or ss i d) → sum ≡ total + (get_or ss i d).len
+    → fault_past writes total (get_or ss i d) ≡ None → Fits (get_or ss i d) → sum ≡ total + (get_or ss i d).len
     → Divided (take (i + 1) ss) (count + 1) sum sum writes
 divided_next_readable ss i d count readable_len total sum writes h before w none fits is =
     subst (λ b. Divided b (count + 1) sum sum writes) (sym (take_more ss i d h))
@@ -370,11 +370,11 @@ pub len_front : (ss : List Segment) (count readable_len writable_len : ℕ) → 
 len_front ss count readable_len writable_len h =
     h.read ∙ sym (length-text (readable ss)) ∙ ap (λ rs. length (text rs)) (sym h.front)
 
-pub len_behind : (ss : List Segment) (count readable_len writable_len : ℕ) → Divides ss count readable_len writable_len
+pub len_after : (ss : List Segment) (count readable_len writable_len : ℕ) → Divides ss count readable_len writable_len
     → writable_len ≡ length (text (take (length ss - count) (drop count ss)))
-len_behind ss count readable_len writable_len h =
+len_after ss count readable_len writable_len h =
     h.written ∙ sym (length-text (writable ss))
-    ∙ ap (λ rs. length (text rs)) (sym h.behind ∙ sym (take_all (length ss - count) (drop count ss) (omega (
+    ∙ ap (λ rs. length (text rs)) (sym h.back ∙ sym (take_all (length ss - count) (drop count ss) (omega (
       arith,
       length-drop count ss,
     ))))

@@ -159,7 +159,7 @@ module _ (laws : CallLaws) where
               (last_says (a + i) (events_of calls t) call (says t (a + i)) is) h.1,
         )
 
--- through a range that was set, a byte is what lies as far behind the range's target
+-- through a range that was set, a byte is what lies as far after the range's target
 pub through_a_set_range : ((iova to x : ℕ) (perm : Permissions) → iova < 2 ^ 64 → iova ≤ x
     → target x (record { difference = difference iova to; permissions = perm }) ≡ step to (x - iova))
     → (regions : List Region) (address iova to len : ℕ) (perm access : Permissions) (x : Reached) → address < 2 ^ 64

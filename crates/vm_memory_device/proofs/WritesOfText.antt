@@ -36,7 +36,7 @@ windows_of_none = record {
   fit = All-nil (λ (w : Window). w.bitmap.base + w.size ≤ 2 ^ 64);
 }
 
--- windows of two paths, one behind the other
+-- windows of two paths, one after the other
 windows_of-append : (xs ys : List Reached) (ws vs : List Window) → AreWindowsOf xs ws → AreWindowsOf ys vs
     → AreWindowsOf (xs ++ ys) (ws ++ vs)
 windows_of-append xs ys ws vs front behind = record {
@@ -63,7 +63,7 @@ module _ {B : Type 0} (marks : B → ℕ → ℕ → B → Type 0) (before : Lis
       → WritesText marks m before buffer old answer left new
   writes_text m answer left new (x, moves, (are, wrote)) = (x, moves, are, wrote)
 
-  -- a part of the buffer goes behind what was written before
+  -- a part of the buffer goes after what was written before
   wrote_part : (now new : Host B) (xs ys : List Reached) (total n : ℕ) → Wrote now xs → length xs ≡ total
       → AreWindowsOf ys (windows ys) → text_windows before (xs ++ ys) ≡ text_windows before xs ++ windows ys
       → length ys ≤ n → total + n ≤ length buffer
@@ -89,7 +89,7 @@ module _ {B : Type 0} (marks : B → ℕ → ℕ → B → Type 0) (before : Lis
       (Writes-take marks (ws ++ windows ys) (take (total + n) buffer) old new joined)) in
       subst (λ vs. AreWindowsOf (xs ++ ys) vs × Writes marks vs buffer old new) (sym cut) (both, whole)
 
-  -- a write goes on behind the next access, or ends there
+  -- a write goes on after the next access, or ends there
   pub write_turn : (m : Memory) (each : All IsRegion m.regions) (now : Host B) {total : ℕ} {at : List Entry}
       (c : CameTo m old.tables permissions.Write before (length buffer) (Wrote now) total at)
       → (a n : ℕ) → IsNext a n (length buffer - total) at

@@ -34,8 +34,8 @@ abbrev pub total_len : List Segment → ℕ
 total_len segments = sum_by (λ s. s.len) segments
 
 -- why a segment cannot follow others, one of which is writable or not, and which have this number of bytes
-abbrev pub fault_behind : Bool → ℕ → Segment → Option ChainFault
-fault_behind writes total s = if nat_le (2 ^ 64) (s.addr.0 + s.len) then Some Range
+abbrev pub fault_past : Bool → ℕ → Segment → Option ChainFault
+fault_past writes total s = if nat_le (2 ^ 64) (s.addr.0 + s.len) then Some Range
     else if writes && not s.writable then Some Order
     else if nat_le (2 ^ 32) (total + s.len) then Some TooLong
     else None
@@ -44,7 +44,7 @@ fault_behind writes total s = if nat_le (2 ^ 64) (s.addr.0 + s.len) then Some Ra
 unfoldable pub fault_after : List Segment → List Segment → Option ChainFault
 fault_after before [] = None
 fault_after before (s ∷ ss) = option_or
-    (fault_behind (list_any (λ b. b.writable) before) (total_len before) s)
+    (fault_past (list_any (λ b. b.writable) before) (total_len before) s)
     (fault_after (before ++ s ∷ []) ss)
 
 -- why segments are not a chain

@@ -11,7 +11,7 @@ Fits s = s.addr.0 + s.len < 2 ^ 64
 
 -- the entries from a on of what is left of a segment, then those of the segments that follow
 abbrev pub entries : ℕ → ℕ → List Segment → List Entry
-entries a rest behind = entries_from a rest ++ text behind
+entries a rest later = entries_from a rest ++ text later
 
 -- the first access of a text takes n entries, from address a on
 unfoldable pub Runs : ℕ → ℕ → List Entry → Type 0
@@ -22,10 +22,10 @@ Runs a (suc (suc n)) (e ∷ es) = (e.address ≡ a) × (e.ends ≡ false) × Run
 
 -- a position in segments: the address of the next byte, the number of bytes that are left of its segment, and the
 -- segments that follow. If no byte is left of the segment, none is left at all
-pub record IsPlace (a rest : ℕ) (behind : List Segment) : Type 0 where
+pub record IsPlace (a rest : ℕ) (later : List Segment) : Type 0 where
   pub ends : a + rest < 2 ^ 64
-  pub fit : All Fits behind
-  pub next : rest ≡ 0 → behind ≡ []
+  pub fit : All Fits later
+  pub next : rest ≡ 0 → later ≡ []
 
 -- the next access of at most this number of bytes of a text is to move n of them, from address a on
 pub record IsNext (a n room : ℕ) (es : List Entry) : Type 0 where
@@ -48,6 +48,6 @@ pub record Divides (segments : List Segment) (count readable_len writable_len : 
   pub fit : All Fits segments
   pub within : count ≤ length segments
   pub front : take count segments ≡ readable segments
-  pub behind : drop count segments ≡ writable segments
+  pub back : drop count segments ≡ writable segments
   pub read : readable_len ≡ total_len (readable segments)
   pub written : writable_len ≡ total_len (writable segments)

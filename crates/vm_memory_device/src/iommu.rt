@@ -290,7 +290,7 @@ impl<M: GuestMemoryBackend, I: Iommu> GuestMemory for IommuMemory<M, I> {
         count: usize,
         access: Permissions,
     ) -> GuestMemoryResult<IommuMemorySliceIterator<'_, M>> {
-        self.backend.known();
+        self.backend.recall_law();
         if !self.use_iommu {
             return GuestMemory::get_slices(&self.backend, host, addr, count, access);
         }

@@ -35,12 +35,12 @@ impl<R: GuestMemoryRegion, I: Iommu> MachineMemory<R, I> {
     }
 
     /// Does nothing: its regions are a layout.
-    pub fn known(&self)
+    pub fn recall_law(&self)
         ensures { IsLayout (memory_meant R.region I.number self.now).regions }
     {
         match self {
-            MachineMemory::Plain(layout) => layout.known(),
-            MachineMemory::Translated(memory) => memory.get_backend().known(),
+            MachineMemory::Plain(layout) => layout.recall_law(),
+            MachineMemory::Translated(memory) => memory.get_backend().recall_law(),
         }
     }
 }

@@ -393,7 +393,7 @@ gave-error walk next e gives = (ends_in walk (Err e) e (items_of next) gives ref
 pub gave-none : (walk : Reach AccessFault) → items_of walk ≡ [] → walk.windows ≡ []
 gave-none walk gives = (ends_whole walk gives).windows
 
--- the windows that come first are told without the error behind them
+-- the windows that come first are told without the error after them
 pub windows_before-more : (walk next : Reach AccessFault) (w : Window) → items_of walk ≡ Ok w ∷ items_of next
     → Ok (w ∷ next.windows) ≡ windows_before walk.windows walk.fault
 windows_before-more walk next w gives = rw (gave-window walk next w gives) (before next.windows walk.fault)

@@ -27,7 +27,7 @@ values-more {V} value_of width (suc k) bytes =
     (values-more value_of width k (drop width bytes)
     ∙ ap (λ (s : List ℕ). values_of value_of width k (drop width bytes) ++ value_of (take width s) ∷ []) behind)
 
--- and it is put behind those that were
+-- and it is put after those that were
 pub values-put : {V : Type 0} (value_of : List ℕ → V) (width k : ℕ) (bytes : List ℕ) (xs : List V) (v : V)
     → k < length xs → take k xs ≡ values_of value_of width k bytes → v ≡ value_of (take width (drop (k * width) bytes))
     → take (k + 1) (set xs k v) ≡ values_of value_of width (k + 1) bytes

@@ -176,7 +176,7 @@ upto_stays : (w : Window) (count : ℕ) (old new : Host PageSet) → Dirtier old
 upto_stays w count old new d was at within =
     stays_dirty old new d w.bitmap.id (w.bitmap.base + at) (was at within)
 
--- bytes of a window, and those of its part behind them
+-- bytes of a window, and those of its part after them
 joined : (w : Window) (done len count : ℕ) (old new : Host PageSet) → Dirtier old new → DirtyUpto w done old
     → DirtyUpto (part w done len) count new → DirtyUpto w (done + count) new
 joined w done len count old new d was now at within = elim (cases_lt at done) [

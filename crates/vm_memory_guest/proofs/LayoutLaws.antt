@@ -8,7 +8,7 @@ use Rattle.std.proofs.lemmas.List.Elements.{All-tail}
 use Rattle.std.proofs.lemmas.Nat.{pow-add}
 use Rattle.std.proofs.lemmas.Option.{none-some, same_Some}
 use Rattle.std.specs.List.{All, insert, remove}
-use Rattle.vm_memory_guest.specs.Layout.{inserted, is_exactly, behind_first, removed, digits_within, binary_digits}
+use Rattle.vm_memory_guest.specs.Layout.{inserted, is_exactly, after_first, removed, digits_within, binary_digits}
 use Rattle.vm_memory_guest.specs.Region.{Region, IsRegion, IsLayout}
 use Rattle.vm_memory_guest.proofs.RegionLaws.{layout-ascends}
 
@@ -81,7 +81,7 @@ removed-taken [] base size p h = absurd (none-some p h)
 removed-taken (x ∷ rs) base size p h = by_test (is_exactly base size x) (removed-taken rs base size) refl h
   where
     behind : (o : Option (List Region × Region)) → ((q : List Region × Region) → o ≡ Some q → IsTaken rs base size q)
-        → behind_first x o ≡ Some p → IsTaken (x ∷ rs) base size p
+        → after_first x o ≡ Some p → IsTaken (x ∷ rs) base size p
     behind None rest k = absurd (none-some p k)
     behind (Some q) rest k =
         let t = rest q refl in
@@ -91,7 +91,7 @@ removed-taken (x ∷ rs) base size p h = by_test (is_exactly base size x) (remov
     by_test : (b : Bool)
         → ((q : List Region × Region) → removed (λ r. r) rs base size ≡ Some q → IsTaken rs base size q)
         → is_exactly base size x ≡ b
-        → cond b (Some (rs, x)) (behind_first x (removed (λ r. r) rs base size)) ≡ Some p
+        → cond b (Some (rs, x)) (after_first x (removed (λ r. r) rs base size)) ≡ Some p
         → IsTaken (x ∷ rs) base size p
     by_test true rest t k =
         let is = is_exactly-from base size x t in
@@ -104,14 +104,14 @@ removed-no_other [] base size k r h at start len = none-some r at
 removed-no_other (x ∷ rs) base size k r h at start len =
     by_test (is_exactly base size x) (λ j e m. removed-no_other rs base size j r e m start len) refl h k at
   where
-    behind : (o : Option (List Region × Region)) → behind_first x o ≡ None → o ≡ None
+    behind : (o : Option (List Region × Region)) → after_first x o ≡ None → o ≡ None
     behind None e = refl
     behind (Some q) e = absurd (none-some (x ∷ q.0, q.1) (sym e))
 
     by_test : (b : Bool)
         → ((j : ℕ) → removed (λ r. r) rs base size ≡ None → slice_get rs j ≡ Some r → ⊥)
         → is_exactly base size x ≡ b
-        → cond b (Some (rs, x)) (behind_first x (removed (λ r. r) rs base size)) ≡ None
+        → cond b (Some (rs, x)) (after_first x (removed (λ r. r) rs base size)) ≡ None
         → (k : ℕ) → slice_get (x ∷ rs) k ≡ Some r → ⊥
     by_test true rest t e k at = none-some (rs, x) (sym e)
     by_test false rest f e zero at =

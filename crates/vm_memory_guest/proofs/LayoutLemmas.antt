@@ -11,13 +11,13 @@ use Rattle.std.specs.declared.sync.Arc.{Arc}
 use Rattle.vm_memory_guest.specs.Collection.{IsIndexed}
 use Rattle.vm_memory_guest.proofs.RegionLaws.{length-starts, start-at, apart}
 use Rattle.std.specs.List.{All, insert, remove}
-use Rattle.vm_memory_guest.specs.Layout.{inserted, is_exactly, behind_first, removed, digits_within, binary_digits, IsFault}
+use Rattle.vm_memory_guest.specs.Layout.{inserted, is_exactly, after_first, removed, digits_within, binary_digits, IsFault}
 use Rattle.vm_memory_guest.specs.Region.{Region, IsRegion, IsLayout, last, layout_error, fault_of}
 use Rattle.vm_memory_guest.specs.declared.region.error.GuestRegionCollectionError.{GuestRegionCollectionError}
 use Rattle.vm_memory_guest.specs.declared.region.error.GuestRegionCollectionError.TheVariants as layout
 
 module _ {X : Type 0} (region : X → Region) where
-  -- behind the last region that starts no higher, and before the first that starts above, is the place
+  -- after the last region that starts no higher, and before the first that starts above, is the place
   pub inserted-at : (xs : List X) (n : ℕ) (new : X) → n ≤ length xs
       → ((k : ℕ) → k < n → (region (get_or xs k new)).start ≤ (region new).start)
       → ((k : ℕ) → n ≤ k → k < length xs → (region new).start < (region (get_or xs k new)).start)
@@ -44,7 +44,7 @@ module _ {X : Type 0} (region : X → Region) where
   removed-at (x ∷ xs) base size zero d l before at = rw at refl
   removed-at (x ∷ xs) base size (suc i) d l before at =
       let first : is_exactly base size (region x) ≡ false = before 0 (omega arith) in
-      rw first (ap (behind_first x)
+      rw first (ap (after_first x)
       (removed-at xs base size i d (omega arith) (λ k m. before (suc k) (omega arith)) at))
 
   pub removed-none : (xs : List X) (base size : ℕ)
@@ -54,7 +54,7 @@ module _ {X : Type 0} (region : X → Region) where
   removed-none (x ∷ xs) base size h =
       let first : is_exactly base size (region x) ≡ false = h 0 x (omega arith) in
       let rest = removed-none xs base size (λ k d m. h (suc k) d (omega arith)) in
-      rw first (ap (behind_first x) rest)
+      rw first (ap (after_first x) rest)
 
 -- an edit of a list, and of what its elements mean
 pub map-insert : {X Y : Type 0} (f : X → Y) (xs : List X) (i : ℕ) (x : X)

@@ -35,7 +35,7 @@ written_same (c ∷ cs) blocks =
     ∙ set-get_or blocks c.block [] in
     ap (λ (now : List (List ℕ)). written cs (bytes_at blocks cs) now) same ∙ written_same cs blocks
 
--- a byte that is written is none of those behind it
+-- a byte that is written is none of those after it
 bytes_at-behind : (b o k n x : ℕ) (blocks : List (List ℕ)) → o < k
     → bytes_at (with_byte blocks (record { block = b; offset = o }) x) (cells_from b k n)
     ≡ bytes_at blocks (cells_from b k n)
@@ -63,7 +63,7 @@ record Covers (b o n count : ℕ) (cell : Cell) : Type 0 where
   within : at < n
   covered : at < count
 
--- bytes that come to the front of cells change no byte behind them, and none beside the cells
+-- bytes that come to the front of cells change no byte after them, and none beside the cells
 written_front : (b o n : ℕ) (xs : List ℕ) (blocks : List (List ℕ)) (cell : Cell)
     → (byte_at (written (cells_from b o n) (over_front xs (bytes_at blocks (cells_from b o n))) blocks) cell
     ≡ byte_at blocks cell) ⊎ Covers b o n (length xs) cell

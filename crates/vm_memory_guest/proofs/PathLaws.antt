@@ -56,7 +56,7 @@ path-ends m i (suc n) = go (path-ends m (i + 1) n) (m i) refl
     go ih (Reaches x) e = reached (first_fault m (i + 1) n) (path m (i + 1) n) ih
     go ih (Stops fault) e = (omega arith, ap m (add-zero i) ∙ e)
 
--- a byte before others begins a stretch of its own, or lengthens the one behind it
+-- a byte before others begins a stretch of its own, or lengthens the one after it
 record Split (x y : Reached) (ys : List Reached) : Type 0 where
   len : ℕ
   rest : List Stretch
@@ -175,7 +175,7 @@ span-windows (x ∷ y ∷ ys) =
     let s = split x y ys in
     let behind : span (map window_of (stretch y s.len ∷ s.rest)) ≡ suc (length ys) =
     ap (λ (ss : List Stretch). span (map window_of ss)) (sym s.behind) ∙ span-windows (y ∷ ys) in
-    let first_behind : span (map window_of (stretch y s.len ∷ s.rest)) ≡ s.len + span (map window_of s.rest) =
+    let first_after : span (map window_of (stretch y s.len ∷ s.rest)) ≡ s.len + span (map window_of s.rest) =
     sum_by-cons size (window_of (stretch y s.len)) (map window_of s.rest) in
     elim s.how [
       | inl h ↦

@@ -82,7 +82,7 @@ lengthened-first x (s ∷ ss) = go (is_cut x s.first)
     go true = (1, s ∷ ss, refl)
     go false = (s.len + 1, ss, refl)
 
--- a path begins behind a cut
+-- a path begins after a cut
 abbrev pub IsCutFrom : Reached → List Reached → Type 0
 IsCutFrom x [] = Unit {0}
 IsCutFrom x (y ∷ ys) = is_cut x y ≡ true
@@ -149,7 +149,7 @@ is_within-bounds start len x h =
 pub is_within-from : (start len x : ℕ) → start ≤ x → x < start + len → is_within start len x ≡ true
 is_within-from start len x low high = and_from _ _ (le-leb start x low) (lt-ltb x (start + len) high)
 
--- the region that is found is the first one, or it is found behind it
+-- the region that is found is the first one, or it is found after it
 pub containing_region-cases : (x : Region) (xs : List Region) (a : ℕ) (r : Region)
     → containing_region (x ∷ xs) a ≡ Some r → ((is_within x.start x.len a ≡ true) × (x ≡ r))
     ⊎ ((is_within x.start x.len a ≡ false) × (containing_region xs a ≡ Some r))
@@ -206,7 +206,7 @@ containing_region-same (x ∷ xs) a b q r e f s =
       ]
     ]
 
--- in a layout a region ends before any that stands behind it
+-- in a layout a region ends before any that stands after it
 layout_apart : (x : Region) (xs : List Region) (a : ℕ) (r : Region) → IsLayout (x ∷ xs)
     → containing_region xs a ≡ Some r → x.start + x.len ≤ r.start
 layout_apart x [] a r h e = absurd (none-some r e)
@@ -314,11 +314,11 @@ walk-bare regions a n r below e none h =
     (direct-bare regions a 0 r (ap (containing_region regions) (step-none a below) ∙ e) none)
 
 module _ (regions : List Region) (a : ℕ) (r : Region) (first : Cell) (is_region : IsRegion r) where
-  -- behind the last byte of a region there is a cut, or the path ends
-  cut_behind : (j n : ℕ) (x : Reached) → x.region ≡ r → x.mapping ≡ None → (n ≡ 0) ⊎ (a + j ≡ r.start + r.len)
+  -- after the last byte of a region there is a cut, or the path ends
+  cut_after : (j n : ℕ) (x : Reached) → x.region ≡ r → x.mapping ≡ None → (n ≡ 0) ⊎ (a + j ≡ r.start + r.len)
       → IsCutFrom x (path (meets regions Direct a) j n)
-  cut_behind j zero x here none ends = subst (IsCutFrom x) (sym (path-none (meets regions Direct a) j)) tt
-  cut_behind j (suc n) x here none ends = elim ends [
+  cut_after j zero x here none ends = subst (IsCutFrom x) (sym (path-none (meets regions Direct a) j)) tt
+  cut_after j (suc n) x here none ends = elim ends [
     | inl e ↦ absurd (omega arith)
     | inr e ↦ from_home e (containing_region regions (step a j)) refl
   ]
@@ -377,7 +377,7 @@ module _ (regions : List Region) (a : ℕ) (r : Region) (first : Cell) (is_regio
         let m = meets regions Direct a in
         let x = λ (j : ℕ). reached_in r first (a + j) in
         let behind : IsCutFrom (x (0 + k)) (path m (0 + suc k) n) =
-        cut_behind (0 + suc k) n (x (0 + k)) refl refl (elim ends [ inl e ↦ inl e | inr e ↦ inr (omega arith) ]) in
+        cut_after (0 + suc k) n (x (0 + k)) refl refl (elim ends [ inl e ↦ inl e | inr e ↦ inr (omega arith) ]) in
         let joined : is_cut (x 0) (x 0) ≡ false = ap (λ (b : Bool). not (b && true)) (same_region-itself r) in
         let run = stretches-past m x 0 k n (λ d h. byte_at (0 + d) (omega arith)) (λ d h. joined) behind in
         run ∙ ap₂ (λ (p : ℕ) (w : Access). stretch (reached_in r first p) (suc k) ∷ stretches w.path)

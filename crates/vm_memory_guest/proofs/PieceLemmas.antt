@@ -379,7 +379,7 @@ module _ (regions : List Region) (f : Says) (space : ℕ) where
         (bare-path regions (target a m) 0 k))
         ∙ windows-led (Some m) space a (stretches (path (meets regions Direct (target a m)) 0 k)))
 
-    -- behind a run there is a cut, or the access ends
+    -- after a run there is a cut, or the access ends
     cut-behind : (a n : ℕ) (r : AddressRun Mapping) (rs : List (AddressRun Mapping)) → Differs r rs → IsChain f a n rs
         → (x : ℕ) (y : Reached)
         → IsCutFrom (led (Some r.value) space x y) (path (meets regions (Through f space) a) 0 n)
@@ -419,7 +419,7 @@ module _ (regions : List Region) (f : Says) (space : ℕ) where
     unfolding path first_fault stretches marking_on
     nothing a = refl
 
-    -- the bytes of one run, and then those behind it
+    -- the bytes of one run, and then those after it
     module _ (a k n : ℕ) (m : Mapping) (said : AreMapped f a k m) (rest : Reach AccessFault)
         (behind : through regions f space (a + k) n ≡ marking_all space (a + k) rest)
         (cut : (x : ℕ) (y : Reached)

@@ -65,7 +65,7 @@ left-ends walk p none =
     (unless_stopped ws walk.fault (walk_of_pieces p.regions p.pieces))) end.windows
     ∙ ended-fault p.space p.iova (walk_of_pieces p.regions p.pieces) walk.fault end.fault
 
--- and no piece is left behind it
+-- and no piece is left after it
 pub left-none : (walk : Reach AccessFault) (p : PiecesLeft) → items_of walk ≡ []
     → walk_of_pieces p.regions p.pieces ≡ record { windows = []; fault = None } → items_of (left_of walk (Some p)) ≡ []
 left-none walk p none last = ap items_of (left-ends walk p none ∙ ap (marking p.space p.iova) last)

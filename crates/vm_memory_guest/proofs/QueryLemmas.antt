@@ -68,7 +68,7 @@ whole-access regions route a n access =
     let reached = access_of regions route a n access in
     whole-ends reached.fault (length reached.path) n (access-ends regions route a n access)
 
--- the regions from the n-th on: the n-th, and those behind it
+-- the regions from the n-th on: the n-th, and those after it
 pub drop-some : {X : Type 0} (xs : List X) (n : ℕ) (x : X) → Some x ≡ slice_get xs n
     → drop n xs ≡ x ∷ drop (n + 1) xs
 drop-some xs n x at = behind xs n x at ∙ ap (λ m. x ∷ drop m xs) (sym (add-one n))

@@ -104,7 +104,7 @@ module _ {B : Type 0} (made : ℕ → B → Type 0) (ranges : RangeList) (old : 
         × (FoundNoMemory k e ⊎ ((k < length ranges)
         × (refused_at (slice_get ranges k) (range_regions (length old.blocks) ranges) ≡ Some e)))
 
-    -- an error of the next range, before its block was made, or behind it for want of memory
+    -- an error of the next range, before its block was made, or after it for want of memory
     pub refused_at_next : (e : FromRangesError)
         → ((new ≡ host) × (e ≡ range_refusal r.0 r.1))
         ⊎ ((e ≡ Collection layout.Memory) × (range_error r.0 r.1 ≡ None)

@@ -31,7 +31,7 @@ module _ {R F : Type 0} (region : R → Region) (rs : List R)
               (total, (n, (record { 0 = o }, (shown, tt)))) given g) rest offset called;
         }
 
-    -- the access ends with its answer, or goes on behind what was handled
+    -- the access ends with its answer, or goes on after what was handled
     pub ends-here : (answer : Result ℕ GuestMemoryError) → after_call count total a given ≡ Ends answer
         → Access f total a answer g
     ends-here answer then = Last shown.now given (sym found) made then

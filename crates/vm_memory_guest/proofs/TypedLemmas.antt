@@ -77,7 +77,7 @@ sound-written cells bytes old new is bitmaps spaces tables shape sound =
       sized = rw same sound.sized;
     }
 
--- the window is marked behind the write of its bytes
+-- the window is marked after the write of its bytes
 pub Writes-put : {B : Type 0} (marks : B → ℕ → ℕ → B → Type 0) (w : Window) (bytes : List ℕ) (old put new : Host B)
     (k : ℕ) → k ≡ w.size
     → put ≡ record old { blocks = written (cells_of w) (take k bytes) old.blocks } → MarksWindow marks w put new

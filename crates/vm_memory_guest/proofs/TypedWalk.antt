@@ -52,7 +52,7 @@ module _ (memory : Memory) (tables : List Table) (a n : ℕ) (access : Permissio
         inr (told_is, subst (λ (v : Result Window GuestMemoryError). Effect (given v)) (sym is) done)
   ]
 
--- a value is written so far: the bytes behind those that are written come next
+-- a value is written so far: the bytes after those that are written come next
 pub wrote_next : {B : Type 0}
     (marks : B → ℕ → ℕ → B → Type 0) {start left next : Reach AccessFault} {w : Window} {bytes : List ℕ}
     {old mid : Host B} {total : ℕ} → Wrote marks start left bytes old mid total → Gave left next w → (new : Host B)
@@ -64,7 +64,7 @@ wrote_next marks {start} {left} {next} {w} {bytes} {old} {mid} {total} wrote giv
     (subst (λ (k : ℕ). Writes marks (w ∷ []) (take k (drop total bytes)) mid new) long
     (Writes-take marks (w ∷ []) (drop total bytes) mid new writes))
 
--- a value is read so far: the next window's bytes come behind those that are read
+-- a value is read so far: the next window's bytes come after those that are read
 pub filled_next : {start left next : Reach AccessFault} {w : Window} {blocks : List
     (List ℕ)} {old mid : List ℕ} {total : ℕ} → Filled start left blocks old mid total → Gave left next w
     → (new bytes : List ℕ) (len : ℕ) → len ≡ w.size → length bytes ≡ w.size → bytes ≡ bytes_at blocks (cells_of w)

@@ -34,7 +34,7 @@ walk-ends regions a n below hole more = rw (walk-none regions a) (walk-hole regi
 
 module _ (regions : List Region) (a n : ℕ) (r : Region) (layout : IsLayout regions)
     (found : containing_region regions a ≡ Some r) (is_region : IsRegion r) (more : 0 < n) (below : a < 2 ^ 64) where
-  -- the window that a region gives of what of the access lies in it comes first, and the walk goes on behind it
+  -- the window that a region gives of what of the access lies in it comes first, and the walk goes on after it
   pub walk-gives : (start len : ℕ) (w : Window) → start ≡ a - r.start → len ≡ min (r.len - start) n → (o : Option Cell)
       → r.place ≡ o → slice_from o r.len start len ≡ Ok w
       → direct_items regions a n ≡ Ok w ∷ direct_items regions (step a len) (n - len)

@@ -166,13 +166,13 @@ pub take-filled : (blocks : List (List ℕ)) (cs : List Cell) (buffer : List ℕ
 take-filled blocks cs buffer =
     take_at (bytes_at blocks cs) (drop (length cs) buffer) (length cs) (length-bytes_at blocks cs)
 
--- what lies behind the front is as it was
+-- what lies after the front is as it was
 pub drop-filled : (blocks : List (List ℕ)) (cs : List Cell) (buffer : List ℕ)
     → drop (length cs) (filled_buffer blocks cs buffer) ≡ drop (length cs) buffer
 drop-filled blocks cs buffer =
     drop_at (bytes_at blocks cs) (drop (length cs) buffer) (length cs) (length-bytes_at blocks cs)
 
--- a buffer is filled by some cells, and what lies behind them by more
+-- a buffer is filled by some cells, and what lies after them by more
 pub filled-append : (blocks : List (List ℕ)) (xs ys : List Cell) (buffer : List ℕ)
     → filled_buffer blocks (xs ++ ys) buffer ≡ take (length xs) (filled_buffer blocks xs buffer)
     ++ filled_buffer blocks ys (drop (length xs) buffer)

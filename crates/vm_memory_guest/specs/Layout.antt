@@ -19,15 +19,15 @@ abbrev pub is_exactly : ℕ → ℕ → Region → Bool
 is_exactly base size r = r.start == base && r.len == size
 
 -- one region was taken out after another: the others, and it
-abbrev pub behind_first : {R : Type 0} → R → Option (List R × R) → Option (List R × R)
-behind_first r None = None
-behind_first r (Some p) = Some (r ∷ p.0, p.1)
+abbrev pub after_first : {R : Type 0} → R → Option (List R × R) → Option (List R × R)
+after_first r None = None
+after_first r (Some p) = Some (r ∷ p.0, p.1)
 
 -- the other regions and the one with just these addresses, if there is one
 abbrev pub removed : {R : Type 0} → (R → Region) → List R → ℕ → ℕ → Option (List R × R)
 removed region [] base size = None
 removed region (r ∷ rs) base size =
-    if is_exactly base size (region r) then Some (rs, r) else behind_first r (removed region rs base size)
+    if is_exactly base size (region r) then Some (rs, r) else after_first r (removed region rs base size)
 
 -- the number of binary digits of n, none of 0, counted up to k of them
 abbrev pub digits_within : ℕ → ℕ → ℕ

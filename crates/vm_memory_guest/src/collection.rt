@@ -303,7 +303,7 @@ impl<R: GuestMemoryRegion> GuestMemoryBackend for GuestRegionCollection<R> {
         addr: GuestAddress,
         hint: usize,
     ) -> (Option<(&R, MemoryRegionAddress)>, usize) {
-        self.known();
+        self.recall_law();
         if let Some(region) = GuestRegionCollection::region_at(self, hint) {
             if let Some(offset) = region.to_region_addr(addr) {
                 return (Some((region, offset)), hint);
@@ -339,7 +339,10 @@ fn first_above(starts: &[u64], addr: u64) -> (usize, u64, usize)
         let only = starts[0];
         return if addr < only { (0, 0, 1) } else { (1, only, 1) };
     }
-    while size > 0 {
+    if size == 0 {
+        return (0, 0, 0);
+    }
+    while size > 1 {
         let half = size / 2;
         let after = next + (size - half);
         let probe = starts[after - 1];
@@ -349,6 +352,12 @@ fn first_above(starts: &[u64], addr: u64) -> (usize, u64, usize)
         probes += 1;
         size = half;
     }
+    // One start is left.
+    let probe = starts[next];
+    let is_above = addr < probe;
+    next = if is_above { next } else { next + 1 };
+    start = if is_above { start } else { probe };
+    probes += 1;
     (next, start, probes)
 }
 

@@ -19,7 +19,7 @@ pub mod stop_on_error;
 mod transfer;
 
 use self::backend::{GuestMemoryBackend, GuestMemoryBackendSliceIterator};
-use self::pieces::{PiecesBehind, next_of_pieces};
+use self::pieces::{LaterPieces, next_of_pieces};
 use self::stop_on_error::{GuestMemorySliceIterator, ends_well};
 use crate::host::{HostMemory, Named, SpaceId};
 use crate::region::error::{GuestMemoryError, GuestMemoryResult};
@@ -34,8 +34,8 @@ use vm_memory_base::{
 #[derive(Drop)]
 pub struct IommuMemorySliceIterator<'a, M: GuestMemoryBackend> {
     walk: GuestMemoryBackendSliceIterator<'a, M>,
-    // Where addresses are translated: what comes behind the piece of the walk.
-    behind: Option<PiecesBehind<'a, M>>,
+    // If addresses are translated: what comes after the piece of the walk.
+    later: Option<LaterPieces<'a, M>>,
 }
 
 impl<'a, M: GuestMemoryBackend> Model for IommuMemorySliceIterator<'a, M> {
@@ -46,7 +46,7 @@ impl<'a, M: GuestMemoryBackend> Model for IommuMemorySliceIterator<'a, M> {
 
     ghost use Rattle.vm_memory_guest.specs.Pieces.{left_of};
 
-    ghost view = { λ it. left_of it.walk it.behind };
+    ghost view = { λ it. left_of it.walk it.later };
 }
 
 impl<'a, M: GuestMemoryBackend> IommuMemorySliceIterator<'a, M> {
@@ -62,16 +62,16 @@ impl<'a, M: GuestMemoryBackend> IommuMemorySliceIterator<'a, M> {
         ensures { let regions = map M.R.region (M.regions backend.now) in
             result ≡ marking space.0 iova.0 (walk_of_pieces regions pieces) }
     {
-        let mut behind = PiecesBehind::new(backend, pieces, iova, space);
-        if let Some(walk) = behind.next_walk() {
+        let mut later = LaterPieces::new(backend, pieces, iova, space);
+        if let Some(walk) = later.next_walk() {
             return IommuMemorySliceIterator {
                 walk,
-                behind: Some(behind),
+                later: Some(later),
             };
         }
         IommuMemorySliceIterator {
             walk: GuestMemoryBackend::get_slices(backend, iova, 0),
-            behind: None,
+            later: None,
         }
     }
 
@@ -121,9 +121,9 @@ impl<'a, M: GuestMemoryBackend> Iterator for IommuMemorySliceIterator<'a, M> {
 
     #[inline(always)]
     fn next(&mut self) -> Option<GuestMemoryResult<VolatileSlice>> {
-        match &mut self.behind {
+        match &mut self.later {
             None => self.walk.next(),
-            Some(behind) => next_of_pieces(&mut self.walk, behind),
+            Some(later) => next_of_pieces(&mut self.walk, later),
         }
     }
 }
@@ -240,10 +240,10 @@ impl<M: GuestMemoryBackend> GuestMemory for M {
         count: usize,
         _access: Permissions,
     ) -> GuestMemoryResult<IommuMemorySliceIterator<'_, M>> {
-        self.known();
+        self.recall_law();
         Ok(IommuMemorySliceIterator {
             walk: GuestMemoryBackend::get_slices(self, addr, count),
-            behind: None,
+            later: None,
         })
     }
 

@@ -207,7 +207,7 @@ impl<B> HostMemory<B> {
 
     /// Does nothing: each block is shorter than 2^63 bytes.
     #[inline]
-    pub fn known(&self)
+    pub fn recall_law(&self)
         ensures { (block : ℕ) → length (block_at self.now.blocks block) < 2 ^ 63 }
     {
         let _shape = self.shape();

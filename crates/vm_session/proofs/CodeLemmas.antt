@@ -3,7 +3,7 @@ use Rattle.std.proofs.Common.{◌≡◌, Bool, false, IsTrue, List, ℕ, Option,
 use Rattle.std.proofs.lemmas.Bool.{false≢true}
 use Rattle.std.proofs.lemmas.Option.{slice_get_past, slice_get_read}
 use Rattle.vm_memory.specs.State.{State}
-use Rattle.vm_session.specs.DeviceSteps.{Still, marks_pages}
+use Rattle.vm_session.specs.MemorySteps.{Still, marks_pages}
 use Rattle.vm_session.specs.Kinds.{is_access, is_message, is_queue, is_work, kinds, marks, sets_up}
 use Rattle.vm_session.specs.QueueCodes.{no_such}
 use Rattle.vm_session.specs.Queues.{OnBoth, Refuses, WorksOn}

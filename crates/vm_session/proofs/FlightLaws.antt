@@ -12,7 +12,7 @@ use Rattle.vm_memory_device.specs.declared.chain.Segment.{Segment}
 use Rattle.virtio_queue.specs.declared.error.QueueError.{QueueError}
 use Rattle.virtio_queue.specs.declared.error.QueueError.TheVariants.{InvalidDescriptorIndex}
 use Rattle.virtio_queue.specs.declared.packed.state.PackedBuffer.{PackedBuffer}
-use Rattle.vm_session.specs.DeviceSteps.{DeviceStep, Races, Returned, Steps, Still, adds_used, marks_pages}
+use Rattle.vm_session.specs.MemorySteps.{MemoryStep, Races, Returned, Steps, Still, adds_used, marks_pages}
 use Rattle.vm_session.specs.Kinds.{is_queue, is_work, kinds}
 use Rattle.vm_session.specs.QueueCodes.{answer_of_done, answer_of_queue, in_flight, no_such, not_in_flight, too_many}
 use Rattle.vm_session.specs.Codes.{bad_call, coded, no_memory}
@@ -135,7 +135,7 @@ module _ (call : Call) (head : ℕ) (chain : List Segment) where
   returned_keeps q (Err e) a q' told is ends = same_keeps q q' head chain is
 
   module _ {B : Type 0} (marks : B → ℕ → ℕ → B → Type 0) (m : Memory)
-      (step : Host B → (s : DeviceStep) → Returned s → Host B → Type 0) where
+      (step : Host B → (s : MemoryStep) → Returned s → Host B → Type 0) where
     returns_keeps : (q : DeviceQueue) (old : Host B) (a : Answer) (q' : DeviceQueue) (new : Host B)
         → Returns step q call.third call.value old a q' new
         → ((call.third == head) ≡ true → a.code ≡ 0 → ⊥) → Keeps q head chain q'

@@ -1,4 +1,4 @@
--- A message that is work on a host, as a step on its state.
+-- A message that is a step on a host, as one on its state.
 use Rattle.std.proofs.Common.{◌≡◌, ℕ, List, slice_get, Option, Some, None, option_map, MatchOption, Result, Ok, Err, sym, ap, subst}
 use Rattle.std.proofs.lemmas.Option.{slice_get-map}
 use Rattle.vm_memory_base.specs.Pages.{PageSet}
@@ -10,7 +10,7 @@ use Rattle.vm_memory_guest.specs.Memory.{Memory}
 use Rattle.vm_memory_guest.specs.Region.{Region}
 use Rattle.vm_memory_device.specs.Memories.{memory_meant}
 use Rattle.vm_memory_device.specs.declared.machine_memory.MachineMemory.{MachineMemory}
-use Rattle.vm_memory.specs.Lend.{Lends, LendsIf}
+use Rattle.vm_memory.specs.WithMemory.{StepsOn, StepsOnIf}
 use Rattle.vm_memory.specs.Parts.{Parts, state_of}
 use Rattle.vm_memory.specs.declared.machine.refusal.Refusal as machine_refusals
 use Rattle.vm_memory.specs.declared.machine.refusal.Refusal.TheVariants as machine_refusal
@@ -23,7 +23,7 @@ use Rattle.vhost_message.specs.declared.regions.MemoryRegion.{MemoryRegion}
 use Rattle.vm_session.specs.Messages.{IsApplied, answer_of_applied}
 use Rattle.vm_session.specs.QueueCodes.{no_such}
 use Rattle.vm_session.specs.declared.call.Answer.{Answer}
-use Rattle.vm_session.specs.declared.messages.MessageWork.{MessageWork}
+use Rattle.vm_session.specs.declared.messages.MessageStep.{MessageStep}
 
 -- ---- what a message makes of a host's tables says nothing of its bitmaps
 
@@ -64,23 +64,23 @@ module _ {B : Type 0} (pages : B → PageSet) where
   applies_seen number regions m (Err refusal.Memory) calls old new h = (h.0, (h.1.0, ap seen h.1.1))
   applies_seen number regions m (Err refusal.NoTable) calls old new h = (h.0, (h.1.0, ap seen h.1.1))
 
--- ---- the work that a machine was given
+-- ---- the step that a machine was given
 
 module _ {R I B : Type 0} (region : R → Region) (number : I → ℕ) (pages : B → PageSet) where
-  -- what the work does, as a machine is told
-  abbrev pub MessageDoes : MessageWork → Memory → Host B → MessageWork → Host B → Type 0
+  -- what the step does, as a machine is told
+  abbrev pub MessageDoes : MessageStep → Memory → Host B → MessageStep → Host B → Type 0
   MessageDoes w m host w' host' = (r : Result (Unit {0}) Refusal) × (calls : List TableEvent)
       × Applies w.device.table.0 w.device.memory w.message r calls host host'
       × (w'.answer
       ≡ answer_of_applied (evicted_for (call_of w.device.memory w.message) (slice_get host.tables w.device.table.0)) r)
 
-  module _ (old new : Parts R I B) (w w' : MessageWork) where
+  module _ (old new : Parts R I B) (w w' : MessageStep) where
     abbrev Done : Option Memory → Answer → Type 0
     Done o a = MatchOption o ((a ≡ no_such) × (state_of region number pages new ≡ state_of region number pages old))
         (λ m. IsApplied w.device.table.0 w.device.memory w.message (state_of region number pages old) a
         (state_of region number pages new))
 
-    done : (o : Option (MachineMemory R I)) (u : Unit {0}) → LendsIf region number MessageDoes o old w (Ok u) w' new
+    done : (o : Option (MachineMemory R I)) (u : Unit {0}) → StepsOnIf region number MessageDoes o old w (Ok u) w' new
         → Done (option_map (memory_meant region number) o) w'.answer
     done None u h = absurd (cc)
     done (Some m) u h = (
@@ -93,12 +93,12 @@ module _ {R I B : Type 0} (region : R → Region) (number : I → ℕ) (pages : 
     )
 
     refused : (o : Option (MachineMemory R I)) (e : machine_refusals.Refusal)
-        → LendsIf region number MessageDoes o old w (Err e) w' new → (a : Answer)
+        → StepsOnIf region number MessageDoes o old w (Err e) w' new → (a : Answer)
         → (e ≡ machine_refusal.NoSuch → a ≡ no_such) → Done (option_map (memory_meant region number) o) a
     refused (Some m) e h a told = absurd (cc)
     refused None e h a told = (told (cc), ap (state_of region number pages) h.2)
 
-    pub message_done : (memory : ℕ) (u : Unit {0}) → Lends region number MessageDoes old memory w (Ok u) w' new
+    pub message_done : (memory : ℕ) (u : Unit {0}) → StepsOn region number MessageDoes old memory w (Ok u) w' new
         → Done (slice_get (state_of region number pages old).memories memory) w'.answer
     message_done memory u h =
         subst (λ (o : Option Memory). Done o w'.answer)
@@ -106,7 +106,7 @@ module _ {R I B : Type 0} (region : R → Region) (number : I → ℕ) (pages : 
         (done (slice_get old.memories memory) u h)
 
     pub message_refused : (memory : ℕ) (e : machine_refusals.Refusal)
-        → Lends region number MessageDoes old memory w (Err e) w' new → (a : Answer)
+        → StepsOn region number MessageDoes old memory w (Err e) w' new → (a : Answer)
         → (e ≡ machine_refusal.NoSuch → a ≡ no_such)
         → Done (slice_get (state_of region number pages old).memories memory) a
     message_refused memory e h a told =

@@ -29,11 +29,11 @@ use Rattle.virtio_queue.specs.declared.state.QueueState.{QueueState}
 use Rattle.virtio_blk.specs.Steps.{Finishes, Told, gapless, status_fault}
 use Rattle.virtio_blk.specs.Texts.{WritesAt}
 use Rattle.virtio_blk.specs.declared.request.Request.{Request}
-use Rattle.virtio_blk.specs.declared.request.Terms.{Terms}
+use Rattle.virtio_blk.specs.declared.request.DeviceLimits.{DeviceLimits}
 use Rattle.vm_session.specs.Codes.{bad_call}
-use Rattle.vm_session.specs.DeviceSteps.{DeviceStep, Returned, Still, adds_used, begins, disables, enables, finishes, marks_pages, needs, pops, reads_avail, reads_used}
+use Rattle.vm_session.specs.MemorySteps.{MemoryStep, Returned, Still, adds_used, begins, disables, enables, finishes, marks_pages, needs, pops, reads_avail, reads_used}
 use Rattle.vm_session.specs.QueueCodes.{answer_of_begun, answer_of_bytes, answer_of_done, answer_of_length, not_in_flight}
-use Rattle.vm_session.specs.Queues.{BeginsRequest, Completes, CompletesIf, FinishesIf, FinishesRequest, Returns, ReturnsIf, TellsAvail, TellsUsed, Works, WritesChain, after_returned, terms_of, unfinished}
+use Rattle.vm_session.specs.Queues.{BeginsRequest, Completes, CompletesIf, FinishesIf, FinishesRequest, Returns, ReturnsIf, TellsAvail, TellsUsed, Works, WritesChain, after_returned, device_limits, unfinished}
 use Rattle.vm_session.specs.SessionState.{DeviceQueue, buffer_of, chain_of}
 use Rattle.vm_session.specs.declared.call.Answer.{Answer}
 use Rattle.vm_session.specs.declared.call.Call.{Call}
@@ -262,7 +262,7 @@ module _ {B : Type 0} (marks : B → ℕ → ℕ → B → Type 0) (pages : B �
         )
 
     -- so is each step of a device
-    step_seen : (s : DeviceStep) (old : Host B) (r : Returned s) (new : Host B) → Still marks m old s r new
+    step_seen : (s : MemoryStep) (old : Host B) (r : Returned s) (new : Host B) → Still marks m old s r new
         → Still marks_pages m (seen old) s r (seen new)
     step_seen (pops q) old r new h = (any_pops q old r h.0, ap seen h.1)
     step_seen (adds_used q buffer len) old r new h = any_adds q buffer len old r new h
@@ -271,7 +271,7 @@ module _ {B : Type 0} (marks : B → ℕ → ℕ → B → Type 0) (pages : B �
     step_seen (disables q) old r new h = any_disables q old r new h
     step_seen (reads_avail q) old r new h = (h.0, ap seen h.1)
     step_seen (reads_used q) old r new h = (h.0, ap seen h.1)
-    step_seen (begins terms chain) old r new h = (h.0, ap seen h.1)
+    step_seen (begins limits chain) old r new h = (h.0, ap seen h.1)
     step_seen (finishes chain status moved) old r new h =
         finishes_seen (text (writable chain)) status moved old r new h
 
@@ -364,20 +364,20 @@ module _ {B : Type 0} (marks : B → ℕ → ℕ → B → Type 0) (pages : B �
         at true h = request_seen q call.third call.value call.length old a new h
         at false h = (h.0, ap seen h.1)
 
-    begins_seen : (q : DeviceQueue) (head : ℕ) (o : Option Terms) (old : Host B) (a : Answer) (new : Host B)
+    begins_seen : (q : DeviceQueue) (head : ℕ) (o : Option DeviceLimits) (old : Host B) (a : Answer) (new : Host B)
         → BeginsRequest (Still marks m) q head o old a new
         → BeginsRequest (Still marks_pages m) q head o (seen old) a (seen new)
     begins_seen q head None old a new h = (h.0, ap seen h.1)
-    begins_seen q head (Some terms) old a new h = at (chain_of q head) h
+    begins_seen q head (Some limits) old a new h = at (chain_of q head) h
       where
         at : (o : Option (List Segment)) → MatchOption o ((a ≡ not_in_flight) × (new ≡ old)) (λ chain.
-            (r : Result Request GuestMemoryError) × Still marks m old (begins terms chain) r new
+            (r : Result Request GuestMemoryError) × Still marks m old (begins limits chain) r new
             × (a ≡ answer_of_begun r))
             → MatchOption o ((a ≡ not_in_flight) × (seen new ≡ seen old)) (λ chain.
             (r : Result Request GuestMemoryError)
-            × Still marks_pages m (seen old) (begins terms chain) r (seen new) × (a ≡ answer_of_begun r))
+            × Still marks_pages m (seen old) (begins limits chain) r (seen new) × (a ≡ answer_of_begun r))
         at None h = (h.0, ap seen h.1)
-        at (Some chain) h = (h.0, step_seen (begins terms chain) old h.0 new h.1, h.2)
+        at (Some chain) h = (h.0, step_seen (begins limits chain) old h.0 new h.1, h.2)
 
     -- so is each call on a queue and a memory
     pub work_seen : (k : Kind) (call : Call) (input : List ℕ) (q : DeviceQueue) (old : Host B) (out : List ℕ)
@@ -403,6 +403,6 @@ module _ {B : Type 0} (marks : B → ℕ → ℕ → B → Type 0) (pages : B �
     work_seen kind.DisableNotification call input q old out a q' new out' h =
         ((h.0.0, step_seen (disables q.queue) old h.0.0 new h.0.1, h.0.2), h.1, h.2)
     work_seen kind.BeginRequest call input q old out a q' new out' h =
-        (begins_seen q call.third (terms_of call) old a new h.0, h.1, h.2)
+        (begins_seen q call.third (device_limits call) old a new h.0, h.1, h.2)
     work_seen kind.FinishRequest call input q old out a q' new out' h = (finish_if call q old a new h.0, h.1, h.2)
     work_seen k call input q old out a q' new out' h = absurd h

@@ -8,7 +8,7 @@ use Rattle.virtio_queue.specs.declared.any.AnyQueue.{AnyQueue}
 use Rattle.virtio_queue.specs.declared.any.AnyQueue.TheVariants.{Split, Packed}
 use Rattle.virtio_queue.specs.declared.error.QueueError.{QueueError}
 use Rattle.virtio_queue.specs.declared.packed.state.PackedBuffer.{PackedBuffer}
-use Rattle.vm_session.specs.DeviceSteps.{DeviceStep, Returned, adds_used}
+use Rattle.vm_session.specs.MemorySteps.{MemoryStep, Returned, adds_used}
 use Rattle.vm_session.specs.QueueCodes.{answer_of_done, not_in_flight}
 use Rattle.vm_session.specs.Queues.{Returns, after_returned}
 use Rattle.vm_session.specs.SessionState.{DeviceQueue, buffer_of, chain_of}
@@ -38,7 +38,7 @@ not_used (Split q) buffer e = refl
 not_used (Packed q) buffer e = refl
 
 -- a chain that is in flight was returned, or that was refused
-pub returned : {H : Type 0} (step : H → (s : DeviceStep) → Returned s → H → Type 0) (q : DeviceQueue) (head len : ℕ)
+pub returned : {H : Type 0} (step : H → (s : MemoryStep) → Returned s → H → Type 0) (q : DeviceQueue) (head len : ℕ)
     (old : H) (a : Answer) (q' : DeviceQueue) (new : H) (r : Result (Unit {0}) QueueError)
     → is_some (chain_of q head) ≡ true → step old (adds_used q.queue (buffer_of q head) len) r new → a ≡ answer_of_done r
     → q' ≡ after_returned q head r → Returns step q head len old a q' new

@@ -8,10 +8,10 @@ use Rattle.vm_memory.specs.declared.machine.setup.Setup as setups
 use Rattle.vm_memory.specs.declared.machine.setup.Setup.TheVariants as setup
 use Rattle.vhost_message.specs.declared.iotlb.IotlbMessage.{IotlbMessage}
 use Rattle.vhost_message.specs.declared.regions.MemoryRegion.{MemoryRegion}
-use Rattle.vm_session.specs.DeviceSteps.{Still, marks_pages}
+use Rattle.vm_session.specs.MemorySteps.{Still, marks_pages}
 use Rattle.vm_session.specs.Kinds.{is_access, is_message, is_table, is_work, kinds}
 use Rattle.vm_session.specs.Messages.{is_announced, regions_in}
-use Rattle.vm_session.specs.Retries.{Clears, IsServed, Readies, WholeSession, bound_of, forgotten, heard, is_due, is_sent, limit_made, limits_after, message_at, missed, noted, noted_miss}
+use Rattle.vm_session.specs.Retries.{Clears, IsServed, Readies, WholeSession, after_call, after_message_if, after_missed_call, bound_of, forgotten, is_sent, limit_made, limits_after, message_at, missed, must_empty_table}
 use Rattle.vm_session.specs.Requests.{IsSetup}
 use Rattle.vm_session.specs.Run.{IsToldAs}
 use Rattle.vm_session.specs.Session.{Answers, AnswersIf, IsSetUp}
@@ -50,7 +50,7 @@ readies_same retry regions p old ready none h =
 pub readies_queues : (retry : Option Retry) (regions : List MemoryRegion) (p : Option (ℕ × IotlbMessage))
     (old ready : SessionState) → Readies retry regions p old ready → ready.queues ≡ old.queues
 readies_queues retry regions None old ready h = ap (λ (s : SessionState). s.queues) h
-readies_queues retry regions (Some p) old ready h = at (is_due retry p.0 && is_announced regions p.1) h
+readies_queues retry regions (Some p) old ready h = at (must_empty_table retry p.0 && is_announced regions p.1) h
   where
     at : (b : Bool) → MatchBool b (Clears p.0 old ready) (ready ≡ old) → ready.queues ≡ old.queues
     at true h = h.2
@@ -81,7 +81,7 @@ module _ (old new : WholeSession) (call : Call) (input out : List ℕ) (a : Answ
         answers,
         limits ∙ sym (ap (λ (x : Option Kind). limits_after x call a old.limits) is
             ∙ keeps_limits o call a old.limits table),
-        retry ∙ sym (ap (λ (p : Option (ℕ × IotlbMessage)). heard old.retry p a) none),
+        retry ∙ sym (ap (λ (p : Option (ℕ × IotlbMessage)). after_message_if old.retry p a) none),
       )
 
 access_sends : (k : Kind) → IsTrue (is_access k) → is_message k ≡ false
@@ -120,7 +120,7 @@ module _ (old new : WholeSession) (ready : SessionState) (call : Call) (input ou
   pub message_served : slice_get kinds call.kind ≡ Some kind.IotlbMessage
       → Readies old.retry (regions_in (drop 32 input)) (message_at old.parts.machine call input) old.parts ready
       → Answers ready call input out a out' new.parts → new.limits ≡ old.limits
-      → new.retry ≡ heard old.retry (message_at old.parts.machine call input) a
+      → new.retry ≡ after_message_if old.retry (message_at old.parts.machine call input) a
       → IsServed old call input out a out' new
   message_served is may answers limits retry = (
     ready,
@@ -155,7 +155,7 @@ module _ (old new : WholeSession) (call : Call) (input out : List ℕ) (a : Answ
         answers,
         limits ∙ sym (ap (λ (x : Option Kind). limits_after x call a old.limits) is
             ∙ limits_if k call a old.limits h),
-        retry ∙ sym (ap (λ (p : Option (ℕ × IotlbMessage)). heard old.retry p a) none),
+        retry ∙ sym (ap (λ (p : Option (ℕ × IotlbMessage)). after_message_if old.retry p a) none),
       )
 
   -- one that is refused makes none
@@ -188,7 +188,7 @@ table_made k t call s now h = absurd (false≢true t)
 
 -- a call is answered as its parts answered it, or in place of a miss that the table is too small
 pub told_as : (s : WholeSession) (call : Call) (len : ℕ) (told a : Answer) (retry : Option Retry)
-    → (a, retry) ≡ noted s call len told → IsToldAs told a
+    → (a, retry) ≡ after_call s call len told → IsToldAs told a
 told_as s call len told a retry e = at (told.code == 42) refl e
   where
     missed_as : (b : Bool) (r : Retry) → told.code ≡ 42
@@ -197,7 +197,7 @@ told_as s call len told a retry e = at (told.code == 42) refl e
     missed_as true r is e = inr (is, ap (λ (p : Answer × Option Retry). p.0) e)
     missed_as false r is e = inl (ap (λ (p : Answer × Option Retry). p.0) e)
 
-    bound_as : (o : Option (ℕ × ℕ)) → told.code ≡ 42 → (a, retry) ≡ noted_miss s.retry call len told o
+    bound_as : (o : Option (ℕ × ℕ)) → told.code ≡ 42 → (a, retry) ≡ after_missed_call s.retry call len told o
         → IsToldAs told a
     bound_as None is e = inl (ap (λ (p : Answer × Option Retry). p.0) e)
     bound_as (Some bound) is e =
@@ -205,7 +205,7 @@ told_as s call len told a retry e = at (told.code == 42) refl e
 
     at : (b : Bool) → (told.code == 42) ≡ b
         → ◌≡◌ {A = Answer × Option Retry} (a, retry)
-        (cond b (noted_miss s.retry call len told (bound_of s call)) (told, forgotten s.retry call len))
+        (cond b (after_missed_call s.retry call len told (bound_of s call)) (told, forgotten s.retry call len))
         → IsToldAs told a
     at true is e = bound_as (bound_of s call) (grind (arith, nat_tests, is)) e
     at false is e = inl (ap (λ (p : Answer × Option Retry). p.0) e)

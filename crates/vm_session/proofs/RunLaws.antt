@@ -6,7 +6,7 @@ use Rattle.vm_memory.specs.State.{State}
 use Rattle.vm_memory.specs.declared.machine.command.Command as commands
 use Rattle.vm_memory.specs.declared.machine.command.Reply.{Reply}
 use Rattle.vm_session.proofs.RetryLemmas.{no_message, readies_none, readies_queues, readies_same, told_as}
-use Rattle.vm_session.specs.DeviceSteps.{Races, Steps, Still, marks_pages}
+use Rattle.vm_session.specs.MemorySteps.{Races, Steps, Still, marks_pages}
 use Rattle.vm_session.specs.Kinds.{is_command, is_message, is_queue, is_work, kinds, marks, sets_up, takes_list}
 use Rattle.vm_session.specs.Messages.{regions_in}
 use Rattle.vm_session.specs.Requests.{command_at}

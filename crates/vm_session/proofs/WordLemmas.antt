@@ -3,7 +3,7 @@ use Rattle.std.proofs.Common.{suc, arith, ◌≡◌, ◌∙◌, ◌+◌, ◌*◌
 use Rattle.std.proofs.Math.Seq.{take-append_seam, drop-append-add}
 use Rattle.std.proofs.lemmas.List.{drop-drop, take_more, flat_map_more}
 
--- bytes that are put behind a front
+-- bytes that are put after a front
 put_seam : (front rest bytes : List ℕ) (n : ℕ)
     → take (length front) (front ++ rest) ++ (bytes ++ drop (length front + n) (front ++ rest))
     ≡ (front ++ bytes) ++ drop n rest
@@ -12,10 +12,10 @@ put_seam front rest bytes n =
     ∙ ap (λ l. front ++ (bytes ++ l)) (drop-append-add front rest n)
     ∙ sym (append_assoc front bytes (drop n rest))
 
-pub put_behind : (front old bytes : List ℕ) (at n : ℕ) → length front ≡ at
+pub put_after : (front old bytes : List ℕ) (at n : ℕ) → length front ≡ at
     → take at (front ++ drop at old) ++ (bytes ++ drop (at + n) (front ++ drop at old))
     ≡ (front ++ bytes) ++ drop (at + n) old
-put_behind front old bytes at n is_at =
+put_after front old bytes at n is_at =
     subst (λ k. take k (front ++ drop at old) ++ (bytes ++ drop (k + n) (front ++ drop at old))
     ≡ (front ++ bytes) ++ drop (at + n) old) is_at
     (put_seam front (drop at old) bytes n ∙ ap (λ l. (front ++ bytes) ++ l) (drop-drop n at old))
@@ -36,12 +36,12 @@ module _ {X : Type 0} (f : X → List ℕ) (n : ℕ) (all : (x : X) → length (
       ++ (f x ++ drop (at + n) (flat_map f (take i xs) ++ drop at old))
       ≡ flat_map f (take (i + 1) xs) ++ drop (at + n) old
   item_put xs old i at x within is_at is_x =
-      put_behind (flat_map f (take i xs)) old (f x) at n
+      put_after (flat_map f (take i xs)) old (f x) at n
       (items_length (take i xs) ∙ ap (λ k. k * n) (length-take-le i xs (omega arith)) ∙ sym is_at)
       ∙ ap (λ l. l ++ drop (at + n) old) (flat_map_more f [] (take i xs) x
       ∙ ap (flat_map f) (ap (λ y. take i xs ++ y ∷ []) is_x ∙ sym (take_more xs i x within)))
 
--- two numbers that are put one behind the other
+-- two numbers that are put one after the other
 pub two_put : (old a b : List ℕ) (at next end : ℕ) → length a ≡ 8 → next ≡ at + 8 → end ≡ next + 8 → next ≤ length old
     → take next (take at old ++ (a ++ drop next old))
     ++ (b ++ drop end (take at old ++ (a ++ drop next old)))
@@ -49,7 +49,7 @@ pub two_put : (old a b : List ℕ) (at next end : ℕ) → length a ≡ 8 → ne
 two_put old a b at next end len is_next is_end within =
     rw is_end (
     ap (λ o. take next o ++ (b ++ drop (next + 8) o)) (sym (append_assoc (take at old) a (drop next old)))
-    ∙ put_behind (take at old ++ a) old b next 8
+    ∙ put_after (take at old ++ a) old b next 8
     (length-append (take at old) a ∙ ap (λ k. length (take at old) + k) len
     ∙ ap (λ k. k + 8) (length-take-le at old (omega arith)) ∙ sym is_next)
     ∙ ap (λ l. l ++ drop (next + 8) old) (append_assoc (take at old) a b)

@@ -1,7 +1,7 @@
 pub mod Answers
 pub mod Codes
 pub mod Commands
-pub mod DeviceSteps
+pub mod MemorySteps
 pub mod Kinds
 pub mod Lists
 pub mod Messages

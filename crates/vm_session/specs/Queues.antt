@@ -20,12 +20,12 @@ use Rattle.virtio_queue.specs.declared.packed.state.PackedBuffer.{PackedBuffer}
 use Rattle.virtio_queue.specs.declared.packed.state.PackedState.{PackedState}
 use Rattle.virtio_queue.specs.declared.state.QueueState.{QueueState}
 use Rattle.virtio_blk.specs.declared.request.Request.{Request}
-use Rattle.virtio_blk.specs.declared.request.Terms.{Terms}
+use Rattle.virtio_blk.specs.declared.request.DeviceLimits.{DeviceLimits}
 use Rattle.vm_memory.specs.State.{State}
 use Rattle.vm_memory.specs.declared.machine.command.Fault.TheVariants as fault
 use Rattle.vm_session.specs.Answers.{answer_of_fault, number_of_truth, valued}
 use Rattle.vm_session.specs.Codes.{bad_call, coded, no_memory, short_of}
-use Rattle.vm_session.specs.DeviceSteps.{DeviceStep, Returned, Steps, Still, adds_used, begins, disables, enables, finishes, marks_pages, needs, pops, reads_avail, reads_used}
+use Rattle.vm_session.specs.MemorySteps.{MemoryStep, Returned, Steps, Still, adds_used, begins, disables, enables, finishes, marks_pages, needs, pops, reads_avail, reads_used}
 use Rattle.vm_session.specs.Kinds.{limit_at, part_at, read_only_at, switch_at}
 use Rattle.vm_session.specs.QueueCodes.{answer_of_begun, answer_of_bytes, answer_of_done, answer_of_length, answer_of_number, answer_of_queue, answer_of_truth, in_flight, no_chain, no_such, not_in_flight, popped_as, too_many}
 use Rattle.vm_session.specs.SessionState.{DeviceQueue, SessionState, buffer_of, chain_of, descriptors_in}
@@ -229,7 +229,7 @@ after_returned q head (Err e) = q
 
 -- a call on a queue takes one step on guest memory, of which this is known, and what it answers and leaves is made of what
 -- that returned
-module _ {H : Type 0} (step : H → (s : DeviceStep) → Returned s → H → Type 0) where
+module _ {H : Type 0} (step : H → (s : MemoryStep) → Returned s → H → Type 0) where
   abbrev pub Pops : DeviceQueue → H → Answer → DeviceQueue → H → Type 0
   Pops old host a new host' = (r : Result (Option (PackedBuffer × List Segment)) QueueError)
       × step host (pops old.queue) r host' × ((a, new) ≡ after_popped old r)
@@ -250,11 +250,11 @@ module _ {H : Type 0} (step : H → (s : DeviceStep) → Returned s → H → Ty
   TellsUsed (Packed q) host a host' = (a ≡ bad_call) × (host' ≡ host)
 
   -- what a chain in flight asks a block device for
-  abbrev pub BeginsRequest : DeviceQueue → ℕ → Option Terms → H → Answer → H → Type 0
+  abbrev pub BeginsRequest : DeviceQueue → ℕ → Option DeviceLimits → H → Answer → H → Type 0
   BeginsRequest q head None host a host' = (a ≡ bad_call) × (host' ≡ host)
-  BeginsRequest q head (Some terms) host a host' =
+  BeginsRequest q head (Some limits) host a host' =
       MatchOption (chain_of q head) ((a ≡ not_in_flight) × (host' ≡ host)) (λ chain.
-      (r : Result Request GuestMemoryError) × step host (begins terms chain) r host' × (a ≡ answer_of_begun r))
+      (r : Result Request GuestMemoryError) × step host (begins limits chain) r host' × (a ≡ answer_of_begun r))
 
   -- the request of a chain in flight is finished, with a status, if N bytes were written before
   abbrev pub FinishesRequest : DeviceQueue → ℕ → ℕ → ℕ → H → Answer → H → Type 0
@@ -298,9 +298,9 @@ module _ {B : Type 0} (m : Memory) (host : Host B) where
   TellsValid q a = (r : Result Bool QueueError)
       × AnswersAs (MayWantValid m host q.queue) (valid m host q.queue) r × (a ≡ answer_of_truth r)
 
--- what a request is held against
-abbrev pub terms_of : Call → Option Terms
-terms_of call = option_map (λ read_only. record {
+-- what a request is checked against
+abbrev pub device_limits : Call → Option DeviceLimits
+device_limits call = option_map (λ read_only. record {
   sectors = call.target;
   read_only = read_only;
   acked = call.value;
@@ -329,7 +329,7 @@ abbrev pub unfinished : ℕ → Answer → Answer
 unfinished n a = if a.code == 0 then answer_of_fault (fault.PartialBuffer n a.count) else a
 
 module _ {B : Type 0} (marks : B → ℕ → ℕ → B → Type 0) (m : Memory)
-    (step : Host B → (s : DeviceStep) → Returned s → Host B → Type 0) where
+    (step : Host B → (s : MemoryStep) → Returned s → Host B → Type 0) where
   -- bytes go to a chain in flight, which is returned if it took them all
   abbrev pub Completes : Call → List ℕ → DeviceQueue → Host B → Answer → DeviceQueue → Host B → Type 0
   Completes call bytes q old a q' new = (told : Answer) × (mid : Host B)
@@ -365,7 +365,7 @@ module _ {B : Type 0} (marks : B → ℕ → ℕ → B → Type 0) (m : Memory)
   Works kind.DisableNotification call input q host out a q' host' out' =
       AsksNotToNotify step q host a host' × (q' ≡ q) × (out' ≡ out)
   Works kind.BeginRequest call input q host out a q' host' out' =
-      BeginsRequest step q call.third (terms_of call) host a host' × (q' ≡ q) × (out' ≡ out)
+      BeginsRequest step q call.third (device_limits call) host a host' × (q' ≡ q) × (out' ≡ out)
   Works kind.FinishRequest call input q host out a q' host' out' =
       FinishesIf step call q host a host' × (q' ≡ q) × (out' ≡ out)
   Works kind.CompleteChain call input q host out a q' host' out' =

@@ -12,7 +12,7 @@ use Rattle.vm_memory.specs.declared.machine.command.Reply.{Reply}
 use Rattle.vhost_message.specs.declared.iotlb.IotlbMessage.{IotlbMessage}
 use Rattle.vhost_message.specs.declared.iotlb.IotlbMessage.TheVariants as message
 use Rattle.vhost_message.specs.declared.regions.MemoryRegion.{MemoryRegion}
-use Rattle.vm_session.specs.DeviceSteps.{Still, Steps, marks_pages}
+use Rattle.vm_session.specs.MemorySteps.{Still, Steps, marks_pages}
 use Rattle.vm_session.specs.Kinds.{is_message, is_table, kinds}
 use Rattle.vm_session.specs.Messages.{is_announced, message_of, regions_in}
 use Rattle.vm_session.specs.Misses.{memory_of}
@@ -111,9 +111,9 @@ abbrev pub after_miss : Answer → Retry → Answer × Option Retry
 after_miss a r = if r.left == 0 then (record a { code = 53 }, None) else (a, Some r)
 
 -- a table without a limit has room for every call
-abbrev pub noted_miss : Option Retry → Call → ℕ → Answer → Option (ℕ × ℕ) → Answer × Option Retry
-noted_miss retry call len a None = (a, retry)
-noted_miss retry call len a (Some bound) = after_miss a (missed retry call len bound.0 bound.1)
+abbrev pub after_missed_call : Option Retry → Call → ℕ → Answer → Option (ℕ × ℕ) → Answer × Option Retry
+after_missed_call retry call len a None = (a, retry)
+after_missed_call retry call len a (Some bound) = after_miss a (missed retry call len bound.0 bound.1)
 
 -- a call that misses nothing is remembered no more, and others are
 abbrev pub forgotten : Option Retry → Call → ℕ → Option Retry
@@ -121,8 +121,8 @@ forgotten None call len = None
 forgotten (Some r) call len = if is_of r call len then None else Some r
 
 -- what is answered to a call to which its parts answered this, and what is remembered then
-abbrev pub noted : WholeSession → Call → ℕ → Answer → Answer × Option Retry
-noted s call len a = if a.code == 42 then noted_miss s.retry call len a (bound_of s call)
+abbrev pub after_call : WholeSession → Call → ℕ → Answer → Answer × Option Retry
+after_call s call len a = if a.code == 42 then after_missed_call s.retry call len a (bound_of s call)
     else (a, forgotten s.retry call len)
 
 -- ---- messages
@@ -144,9 +144,9 @@ is_again stage.Again = true
 is_again stage.Alone = false
 
 -- this is the table of a call that missed again
-abbrev pub is_due : Option Retry → ℕ → Bool
-is_due None table = false
-is_due (Some r) table = r.table == table && is_again r.stage
+abbrev pub must_empty_table : Option Retry → ℕ → Bool
+must_empty_table None table = false
+must_empty_table (Some r) table = r.table == table && is_again r.stage
 
 -- all addresses of a table are unmapped
 abbrev pub Clears : ℕ → SessionState → SessionState → Type 0
@@ -157,7 +157,7 @@ Clears table old new = (r : Reply) × Step old.machine (command.InvalidateAll ta
 abbrev pub Readies : Option Retry → List MemoryRegion → Option (ℕ × IotlbMessage) → SessionState → SessionState → Type 0
 Readies retry regions None old new = new ≡ old
 Readies retry regions (Some p) old new =
-    MatchBool (is_due retry p.0 && is_announced regions p.1) (Clears p.0 old new) (new ≡ old)
+    MatchBool (must_empty_table retry p.0 && is_announced regions p.1) (Clears p.0 old new) (new ≡ old)
 
 abbrev pub emptied : Stage → Stage
 emptied stage.Missed = stage.Missed
@@ -169,19 +169,19 @@ abbrev pub after_update : Retry → Answer → Retry
 after_update r a = if a.code == 0 then record r { stage = emptied r.stage; is_updated = true } else r
 
 -- an INVALIDATE of its table has a call forgotten
-abbrev pub after_message : Retry → IotlbMessage → Answer → Option Retry
-after_message r (message.Update iova size user permissions) a = Some (after_update r a)
-after_message r (message.Invalidate iova size) a = None
-after_message r (message.Miss iova access) a = Some r
-after_message r (message.AccessFail iova access) a = Some r
+abbrev pub after_own_message : Retry → IotlbMessage → Answer → Option Retry
+after_own_message r (message.Update iova size user permissions) a = Some (after_update r a)
+after_own_message r (message.Invalidate iova size) a = None
+after_own_message r (message.Miss iova access) a = Some r
+after_own_message r (message.AccessFail iova access) a = Some r
 
-abbrev pub heard_by : Option Retry → ℕ → IotlbMessage → Answer → Option Retry
-heard_by None table m a = None
-heard_by (Some r) table m a = if r.table == table then after_message r m a else Some r
+abbrev pub after_message : Option Retry → ℕ → IotlbMessage → Answer → Option Retry
+after_message None table m a = None
+after_message (Some r) table m a = if r.table == table then after_own_message r m a else Some r
 
-abbrev pub heard : Option Retry → Option (ℕ × IotlbMessage) → Answer → Option Retry
-heard retry None a = retry
-heard retry (Some p) a = heard_by retry p.0 p.1 a
+abbrev pub after_message_if : Option Retry → Option (ℕ × IotlbMessage) → Answer → Option Retry
+after_message_if retry None a = retry
+after_message_if retry (Some p) a = after_message retry p.0 p.1 a
 
 -- ---- calls
 
@@ -192,13 +192,13 @@ module _ (steps : Steps) where
       × Readies old.retry (regions_in (drop 32 input)) (message_at old.parts.machine call input) old.parts ready
       × AnswersBy steps ready call input out a out' new.parts
       × (new.limits ≡ limits_after (slice_get kinds call.kind) call a old.limits)
-      × (new.retry ≡ heard old.retry (message_at old.parts.machine call input) a)
+      × (new.retry ≡ after_message_if old.retry (message_at old.parts.machine call input) a)
 
   -- what a session answers to a call with an input and an output, and leaves of the output
   abbrev pub AnswersCallBy : WholeSession → Call → List ℕ → List ℕ → Answer → List ℕ → WholeSession → Type 0
   AnswersCallBy old call input out a out' new = (told : Answer) × (served : WholeSession)
       × IsServedBy old call input out told out' served
-      × ((a, new.retry) ≡ noted served call (length input) told) × (new ≡ record served { retry = new.retry })
+      × ((a, new.retry) ≡ after_call served call (length input) told) × (new ≡ record served { retry = new.retry })
 
 -- the same, if nobody else writes memory meanwhile
 abbrev pub IsServed : WholeSession → Call → List ℕ → List ℕ → Answer → List ℕ → WholeSession → Type 0

@@ -12,7 +12,7 @@ use Rattle.vm_memory.specs.declared.machine.setup.Setup as setups
 use Rattle.vm_memory.specs.declared.machine.setup.SetupReply.{SetupReply}
 use Rattle.vm_session.specs.Answers.{answer_of, answer_of_given_back, answer_of_setup}
 use Rattle.vm_session.specs.Codes.{bad_call, no_memory, short_of}
-use Rattle.vm_session.specs.DeviceSteps.{GuestWrites, Races, Still, Steps, marks_pages}
+use Rattle.vm_session.specs.MemorySteps.{GuestWrites, Races, Still, Steps, marks_pages}
 use Rattle.vm_session.specs.Kinds.{is_command, is_message, is_queue, is_work, kinds, takes_list}
 use Rattle.vm_session.specs.Messages.{AnswersMessage, regions_in}
 use Rattle.vm_session.specs.Queues.{AnswersQueue, OnBothBy}

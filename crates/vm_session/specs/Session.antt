@@ -19,7 +19,7 @@ use Rattle.vm_session.specs.Answers.{answer_of, answer_of_given_back, answer_of_
 use Rattle.vm_session.specs.Codes.{bad_call, no_memory, short_of}
 use Rattle.vm_session.specs.Kinds.{is_message, is_queue, is_work, kinds, marks, sets_up, takes_list}
 use Rattle.vm_session.specs.Messages.{AnswersMessage}
-use Rattle.vm_session.specs.DeviceSteps.{Still, Steps, marks_pages}
+use Rattle.vm_session.specs.MemorySteps.{Still, Steps, marks_pages}
 use Rattle.vm_session.specs.Queues.{AnswersQueue, OnBothBy}
 use Rattle.vm_session.specs.Requests.{IsSetup, address, command_at, is_without_size}
 use Rattle.vm_session.specs.SessionState.{SessionState}

@@ -2,11 +2,11 @@
 ghost use Rattle.std.specs.Prelude.{◌≡◌, []};
 ghost use Rattle.vm_memory_guest.specs.Host.{Holds, Shape, shape_of};
 ghost use Rattle.virtio_queue.specs.Any.{after_asked, after_pop, after_used};
-ghost use Rattle.vm_session.specs.DeviceSteps.{ByLooks, DeviceStep, Returned, Still, adds_used, begins, disables};
-ghost use Rattle.vm_session.specs.DeviceSteps.{enables, finishes, needs, pops, reads_avail, reads_used};
+ghost use Rattle.vm_session.specs.MemorySteps.{ByLooks, MemoryStep, Returned, Still, adds_used, begins, disables};
+ghost use Rattle.vm_session.specs.MemorySteps.{enables, finishes, needs, pops, reads_avail, reads_used};
 
 use std::alloc::Global;
-use virtio_blk::{Fetches, Puts, Request, Terms, begin, begin_from, finish, finish_from};
+use virtio_blk::{DeviceLimits, Fetches, Puts, Request, begin, begin_from, finish, finish_from};
 use virtio_queue::{AnyQueue, Looks, PackedBuffer, Queue, QueueError, Stores};
 use vm_memory_base::Bitmap;
 use vm_memory_device::{Chain, Segment};
@@ -18,7 +18,7 @@ use vm_memory_guest::{GuestMemory, GuestMemoryResult, HostMemory};
 // memory than what its steps returned, and the fact that they were taken.
 pub(crate) trait DeviceMemory<H> {
     // A step: what lay in memory before it, what it returned, and what lies there after it.
-    ghost steps: { Self → H → (s : DeviceStep) → Returned s → H → Type 0 };
+    ghost steps: { Self → H → (s : MemoryStep) → Returned s → H → Type 0 };
 
     // Such memory is there.
     ghost held: { Self → H → Type 0 };
@@ -76,9 +76,9 @@ pub(crate) trait DeviceMemory<H> {
         ensures step { steps self.now host.old (reads_used queue.now) result host.new }
         ensures shape { shape self.now host.new ≡ shape self.now host.old };
 
-    fn begin(&self, host: &mut H, terms: Terms, chain: &Chain) -> GuestMemoryResult<Request>
+    fn begin(&self, host: &mut H, limits: DeviceLimits, chain: &Chain) -> GuestMemoryResult<Request>
         requires { held self.now host.old }
-        ensures step { steps self.now host.old (begins terms chain.now) result host.new }
+        ensures step { steps self.now host.old (begins limits chain.now) result host.new }
         ensures shape { shape self.now host.new ≡ shape self.now host.old };
 
     fn finish(
@@ -169,10 +169,10 @@ impl<M: GuestMemory, B: Bitmap> DeviceMemory<HostMemory<B>> for Lent<'_, M> {
     fn begin(
         &self,
         host: &mut HostMemory<B>,
-        terms: Terms,
+        limits: DeviceLimits,
         chain: &Chain,
     ) -> GuestMemoryResult<Request> {
-        begin(terms, self.mem, host, chain)
+        begin(limits, self.mem, host, chain)
     }
 
     #[inline(always)]
@@ -241,8 +241,13 @@ impl<L: Looks + Fetches + Puts, S: Stores<L>> DeviceMemory<L> for Looked<'_, S> 
         queue.used_idx_from(guest)
     }
 
-    fn begin(&self, guest: &mut L, terms: Terms, chain: &Chain) -> GuestMemoryResult<Request> {
-        begin_from(terms, guest, chain)
+    fn begin(
+        &self,
+        guest: &mut L,
+        limits: DeviceLimits,
+        chain: &Chain,
+    ) -> GuestMemoryResult<Request> {
+        begin_from(limits, guest, chain)
     }
 
     fn finish(

@@ -20,7 +20,7 @@ use crate::code;
 use std::alloc::{AllocError, Global};
 use vhost_iotlb::{DeviceTable, Refusal};
 use vhost_message::{IotlbMessage, Malformed, MemoryRegion, MemoryRegions, PAYLOAD_LEN};
-use vm_memory::{Machine, ScriptMachine, Work};
+use vm_memory::{DeviceStep, Machine, ScriptMachine};
 use vm_memory_base::{Bitmap, ExactBitmap, GuestAddress};
 use vm_memory_device::Iommu;
 use vm_memory_guest::{GuestMemory, GuestMemoryRegion, HostMemory, TlbId};
@@ -134,22 +134,22 @@ pub(crate) fn is_announced(message: &IotlbMessage, input: &[u8]) -> bool
     }
 }
 
-// A message to a table, as work on the host that has it. Its answer is put into `answer`.
+// A message to a table, as a step on the host that has it. Its answer is put into `answer`.
 #[derive(Drop)]
-struct MessageWork {
+struct MessageStep {
     device: DeviceTable,
     message: IotlbMessage,
     answer: Answer,
 }
 
-impl<B: Bitmap> Work<B> for MessageWork {
+impl<B: Bitmap> DeviceStep<B> for MessageStep {
     ghost does = { λ w m host after host'. (r : Result (Unit {0}) refusals.Refusal) × (calls : List TableEvent)
         × Applies w.device.table.0 w.device.memory w.message r calls host host'
         × (after.answer
         ≡ answer_of_applied
         (evicted_for (call_of w.device.memory w.message) (slice_get host.tables w.device.table.0)) r) };
 
-    fn work<M: GuestMemory>(&mut self, _mem: &M, host: &mut HostMemory<B>) {
+    fn step<M: GuestMemory>(&mut self, _mem: &M, host: &mut HostMemory<B>) {
         self.answer = applied(self.device.apply_counted(host, &self.message));
     }
 }
@@ -166,13 +166,13 @@ fn apply_to<R: GuestMemoryRegion, I: Iommu, B: ExactBitmap>(
         MatchOption (slice_get before.memories memory) ((result ≡ no_such) × (after ≡ before))
         (λ m. IsApplied device.table.0 device.memory message before result after) }
 {
-    let mut work = MessageWork {
+    let mut step = MessageStep {
         device,
         message,
         answer: Answer::of_code(code::DONE),
     };
-    match machine.lend(memory, &mut work) {
-        Ok(()) => work.answer,
+    match machine.with_memory(memory, &mut step) {
+        Ok(()) => step.answer,
         Err(refusal) => refused(refusal),
     }
 }

@@ -32,13 +32,13 @@ use vm_memory_guest::HostPlace;
 
 /// A machine, with what is made for it at any time, and queues.
 #[derive(Drop)]
-pub(crate) struct SessionParts {
+pub(crate) struct MachineAndQueues {
     alloc: Global,
     machine: ScriptMachine,
     queues: Vec<SessionQueue>,
 }
 
-impl Model for SessionParts {
+impl Model for MachineAndQueues {
     ghost use Rattle.vm_memory.specs.ScriptMachine.{state_made};
     ghost use Rattle.vm_session.specs.SessionState.{SessionState};
 
@@ -47,12 +47,12 @@ impl Model for SessionParts {
     ghost view = { λ s. record { machine = state_made s.machine; queues = s.queues.items } };
 }
 
-impl SessionParts {
+impl MachineAndQueues {
     // Those of a session that made nothing. It allocates nothing.
-    pub(crate) fn new(alloc: Global) -> SessionParts
+    pub(crate) fn new(alloc: Global) -> MachineAndQueues
         ensures { result ≡ no_session }
     {
-        SessionParts {
+        MachineAndQueues {
             alloc,
             machine: ScriptMachine::empty(alloc),
             queues: Vec::new(alloc),

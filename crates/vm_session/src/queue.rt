@@ -22,7 +22,7 @@ use crate::queue_answer::{
 use crate::spare::SpareLists;
 use std::alloc::{AllocError, Global};
 use std::marker::Model;
-use virtio_blk::Terms;
+use virtio_blk::DeviceLimits;
 use virtio_queue::{AnyQueue, PackedBuffer, PackedQueue, Queue, QueueError};
 use vm_memory_base::Bitmap;
 use vm_memory_device::Chain;
@@ -481,14 +481,14 @@ impl SessionQueue {
         mem: &D,
         host: &mut H,
         head: usize,
-        terms: Terms,
+        limits: DeviceLimits,
     ) -> Answer
         requires { D.held mem.now host.old }
-        ensures begins { BeginsRequest (D.steps mem.now) self.now head (Some terms) host.old result host.new }
+        ensures begins { BeginsRequest (D.steps mem.now) self.now head (Some limits) host.old result host.new }
         ensures shape { D.shape mem.now host.new ≡ D.shape mem.now host.old }
     {
         match self.chain(head) {
-            Some(chain) => begun(mem.begin(host, terms, chain)),
+            Some(chain) => begun(mem.begin(host, limits, chain)),
             None => Answer::of_code(code::NOT_IN_FLIGHT),
         }
     }

@@ -1,9 +1,9 @@
-//! The calls on a queue and a memory that a device makes for each request. Each is work of its own, with no more than
+//! The calls on a queue and a memory that a device makes for each request. Each is a step of its own, with no more than
 //! it needs, and puts its answer into `answer`, so that it is not copied.
 ghost use Rattle.std.specs.Prelude.{◌≡◌, List, ℕ};
 ghost use Rattle.vm_memory_guest.specs.Host.{shape_of, Holds};
 ghost use Rattle.vm_memory.specs.Parts.{state_of};
-ghost use Rattle.vm_session.specs.DeviceSteps.{Still};
+ghost use Rattle.vm_session.specs.MemorySteps.{Still};
 ghost use Rattle.vm_session.specs.Queues.{CompletesIf, NeedsNotification, Pops, ReadsInto, ReturnsIf, WorksOn};
 ghost use Rattle.vm_session.specs.Queues.{WritesChain, unfinished};
 
@@ -13,26 +13,26 @@ use crate::code;
 use crate::device_memory::{DeviceMemory, Lent};
 use crate::queue::SessionQueue;
 use std::alloc::Global;
-use vm_memory::{Fault, Machine, Work};
+use vm_memory::{DeviceStep, Fault, Machine};
 use vm_memory_base::{Bitmap, ExactBitmap};
 use vm_memory_device::Iommu;
 use vm_memory_guest::{GuestMemory, GuestMemoryRegion, HostMemory};
 
 // A pop.
 #[derive(Drop)]
-struct PopWork<'a> {
+struct PopStep<'a> {
     alloc: Global,
     queue: &'a mut SessionQueue,
     answer: &'a mut Answer,
 }
 
-impl<B: Bitmap> Work<B> for PopWork<'_> {
+impl<B: Bitmap> DeviceStep<B> for PopStep<'_> {
     ghost does = { λ w m host after host'. (after.queue.ghost_name ≡ w.queue.ghost_name)
         × (after.answer.ghost_name ≡ w.answer.ghost_name)
         × Pops (Still B.marks m) w.queue.now host after.answer.now after.queue.now host' };
 
     #[inline(always)]
-    fn work<M: GuestMemory>(&mut self, mem: &M, host: &mut HostMemory<B>) {
+    fn step<M: GuestMemory>(&mut self, mem: &M, host: &mut HostMemory<B>) {
         self.queue.pop(self.alloc, &Lent { mem }, host, self.answer);
     }
 }
@@ -50,14 +50,14 @@ pub(crate) fn pop<R: GuestMemoryRegion, I: Iommu, B: ExactBitmap>(
         (state_of R.region I.number B.pages machine.old) queue.old out answer.new
         (state_of R.region I.number B.pages machine.new) queue.new out }
 {
-    let mut work = PopWork {
+    let mut step = PopStep {
         alloc,
         queue,
         answer,
     };
-    match machine.lend(call.second, &mut work) {
+    match machine.with_memory(call.second, &mut step) {
         Ok(()) => (),
-        Err(_) => refuse(code::NO_SUCH, work.answer),
+        Err(_) => refuse(code::NO_SUCH, step.answer),
     }
 }
 
@@ -84,20 +84,20 @@ fn read_into<M: GuestMemory, B: Bitmap>(
 
 // A read of a chain.
 #[derive(Drop)]
-struct ReadWork<'a> {
+struct ReadStep<'a> {
     call: &'a Call,
     queue: &'a SessionQueue,
     output: &'a mut [u8],
     answer: &'a mut Answer,
 }
 
-impl<B: Bitmap> Work<B> for ReadWork<'_> {
+impl<B: Bitmap> DeviceStep<B> for ReadStep<'_> {
     ghost does = { λ w m host after host'. (after.output.ghost_name ≡ w.output.ghost_name)
         × (after.answer.ghost_name ≡ w.answer.ghost_name)
         × ReadsInto m w.call.now w.queue.now host w.output.now after.answer.now after.output.now × (host' ≡ host) };
 
     #[inline(always)]
-    fn work<M: GuestMemory>(&mut self, mem: &M, host: &mut HostMemory<B>) {
+    fn step<M: GuestMemory>(&mut self, mem: &M, host: &mut HostMemory<B>) {
         read_into(self.queue, mem, host, self.call, self.output, self.answer);
     }
 }
@@ -115,34 +115,34 @@ pub(crate) fn read_chain<R: GuestMemoryRegion, I: Iommu, B: ExactBitmap>(
         (state_of R.region I.number B.pages machine.old) queue.now output.old answer.new
         (state_of R.region I.number B.pages machine.new) queue.now output.new }
 {
-    let mut work = ReadWork {
+    let mut step = ReadStep {
         call,
         queue,
         output,
         answer,
     };
-    match machine.lend(call.second, &mut work) {
+    match machine.with_memory(call.second, &mut step) {
         Ok(()) => (),
-        Err(_) => refuse(code::NO_SUCH, work.answer),
+        Err(_) => refuse(code::NO_SUCH, step.answer),
     }
 }
 
 // A write to a chain.
 #[derive(Drop)]
-struct WriteWork<'a> {
+struct WriteStep<'a> {
     call: &'a Call,
     queue: &'a SessionQueue,
     input: &'a [u8],
     answer: &'a mut Answer,
 }
 
-impl<B: Bitmap> Work<B> for WriteWork<'_> {
+impl<B: Bitmap> DeviceStep<B> for WriteStep<'_> {
     ghost does = { λ w m host after host'. (after.answer.ghost_name ≡ w.answer.ghost_name)
         × WritesChain B.marks m w.queue.now w.call.now.third w.call.now.address w.input.now host after.answer.now
         host' };
 
     #[inline(always)]
-    fn work<M: GuestMemory>(&mut self, mem: &M, host: &mut HostMemory<B>) {
+    fn step<M: GuestMemory>(&mut self, mem: &M, host: &mut HostMemory<B>) {
         let Call { third, address, .. } = *self.call;
         self.queue.write(mem, host, third, address as usize, self.input, self.answer);
     }
@@ -161,15 +161,15 @@ pub(crate) fn write_chain<R: GuestMemoryRegion, I: Iommu, B: ExactBitmap>(
         (state_of R.region I.number B.pages machine.old) queue.now out answer.new
         (state_of R.region I.number B.pages machine.new) queue.now out }
 {
-    let mut work = WriteWork {
+    let mut step = WriteStep {
         call,
         queue,
         input,
         answer,
     };
-    match machine.lend(call.second, &mut work) {
+    match machine.with_memory(call.second, &mut step) {
         Ok(()) => (),
-        Err(_) => refuse(code::NO_SUCH, work.answer),
+        Err(_) => refuse(code::NO_SUCH, step.answer),
     }
 }
 
@@ -194,19 +194,19 @@ fn return_if<H, D: DeviceMemory<H>>(
 
 // A return of a chain.
 #[derive(Drop)]
-struct UsedWork<'a> {
+struct UsedStep<'a> {
     call: &'a Call,
     queue: &'a mut SessionQueue,
     answer: &'a mut Answer,
 }
 
-impl<B: Bitmap> Work<B> for UsedWork<'_> {
+impl<B: Bitmap> DeviceStep<B> for UsedStep<'_> {
     ghost does = { λ w m host after host'. (after.queue.ghost_name ≡ w.queue.ghost_name)
         × (after.answer.ghost_name ≡ w.answer.ghost_name)
         × ReturnsIf (Still B.marks m) w.call.now w.queue.now host after.answer.now after.queue.now host' };
 
     #[inline(always)]
-    fn work<M: GuestMemory>(&mut self, mem: &M, host: &mut HostMemory<B>) {
+    fn step<M: GuestMemory>(&mut self, mem: &M, host: &mut HostMemory<B>) {
         return_if(self.queue, &Lent { mem }, host, self.call, self.answer);
     }
 }
@@ -223,14 +223,14 @@ pub(crate) fn add_used<R: GuestMemoryRegion, I: Iommu, B: ExactBitmap>(
         (state_of R.region I.number B.pages machine.old) queue.old out answer.new
         (state_of R.region I.number B.pages machine.new) queue.new out }
 {
-    let mut work = UsedWork {
+    let mut step = UsedStep {
         call,
         queue,
         answer,
     };
-    match machine.lend(call.second, &mut work) {
+    match machine.with_memory(call.second, &mut step) {
         Ok(()) => (),
-        Err(_) => refuse(code::NO_SUCH, work.answer),
+        Err(_) => refuse(code::NO_SUCH, step.answer),
     }
 }
 
@@ -277,21 +277,21 @@ fn complete_if<M: GuestMemory, B: Bitmap>(
 
 // A write to a chain that is returned then.
 #[derive(Drop)]
-struct CompleteWork<'a> {
+struct CompleteStep<'a> {
     call: &'a Call,
     queue: &'a mut SessionQueue,
     input: &'a [u8],
     answer: &'a mut Answer,
 }
 
-impl<B: Bitmap> Work<B> for CompleteWork<'_> {
+impl<B: Bitmap> DeviceStep<B> for CompleteStep<'_> {
     ghost does = { λ w m host after host'. (after.queue.ghost_name ≡ w.queue.ghost_name)
         × (after.answer.ghost_name ≡ w.answer.ghost_name)
         × CompletesIf B.marks m (Still B.marks m) w.call.now w.input.now w.queue.now host after.answer.now
         after.queue.now host' };
 
     #[inline(always)]
-    fn work<M: GuestMemory>(&mut self, mem: &M, host: &mut HostMemory<B>) {
+    fn step<M: GuestMemory>(&mut self, mem: &M, host: &mut HostMemory<B>) {
         complete_if(self.queue, mem, host, self.call, self.input, self.answer);
     }
 }
@@ -309,32 +309,32 @@ pub(crate) fn complete_chain<R: GuestMemoryRegion, I: Iommu, B: ExactBitmap>(
         (state_of R.region I.number B.pages machine.old) queue.old out answer.new
         (state_of R.region I.number B.pages machine.new) queue.new out }
 {
-    let mut work = CompleteWork {
+    let mut step = CompleteStep {
         call,
         queue,
         input,
         answer,
     };
-    match machine.lend(call.second, &mut work) {
+    match machine.with_memory(call.second, &mut step) {
         Ok(()) => (),
-        Err(_) => refuse(code::NO_SUCH, work.answer),
+        Err(_) => refuse(code::NO_SUCH, step.answer),
     }
 }
 
 // A look whether the driver has to be notified.
 #[derive(Drop)]
-struct NotifyWork<'a> {
+struct NotifyStep<'a> {
     queue: &'a mut SessionQueue,
     answer: &'a mut Answer,
 }
 
-impl<B: Bitmap> Work<B> for NotifyWork<'_> {
+impl<B: Bitmap> DeviceStep<B> for NotifyStep<'_> {
     ghost does = { λ w m host after host'. (after.queue.ghost_name ≡ w.queue.ghost_name)
         × (after.answer.ghost_name ≡ w.answer.ghost_name)
         × NeedsNotification (Still B.marks m) w.queue.now host after.answer.now after.queue.now host' };
 
     #[inline(always)]
-    fn work<M: GuestMemory>(&mut self, mem: &M, host: &mut HostMemory<B>) {
+    fn step<M: GuestMemory>(&mut self, mem: &M, host: &mut HostMemory<B>) {
         self.queue
             .needs_notification(&Lent { mem }, host, self.answer);
     }
@@ -352,9 +352,9 @@ pub(crate) fn needs_notification<R: GuestMemoryRegion, I: Iommu, B: ExactBitmap>
         (state_of R.region I.number B.pages machine.old) queue.old out answer.new
         (state_of R.region I.number B.pages machine.new) queue.new out }
 {
-    let mut work = NotifyWork { queue, answer };
-    match machine.lend(call.second, &mut work) {
+    let mut step = NotifyStep { queue, answer };
+    match machine.with_memory(call.second, &mut step) {
         Ok(()) => (),
-        Err(_) => refuse(code::NO_SUCH, work.answer),
+        Err(_) => refuse(code::NO_SUCH, step.answer),
     }
 }

@@ -1,7 +1,7 @@
 //! The call that misses a mapping of a table with a limit, and is made again after the mapping came.
 ghost use Rattle.std.specs.Prelude.{◌≡◌};
-ghost use Rattle.vm_session.specs.Retries.{after_update, first_miss, forgotten, heard_by, is_due, is_of, missed};
-ghost use Rattle.vm_session.specs.Retries.{missed_again, same_call};
+ghost use Rattle.vm_session.specs.Retries.{after_message, after_update, first_miss, forgotten, is_of, missed};
+ghost use Rattle.vm_session.specs.Retries.{missed_again, must_empty_table, same_call};
 
 use crate::call::{Answer, Call};
 use crate::code;
@@ -137,8 +137,8 @@ pub(crate) fn forgotten(retry: Option<Retry>, call: &Call, input_len: usize) -> 
 }
 
 /// Whether this is the table of a call that missed again.
-pub(crate) fn is_due(retry: Option<Retry>, table: usize) -> bool
-    ensures { result ≡ is_due retry table }
+pub(crate) fn must_empty_table(retry: Option<Retry>, table: usize) -> bool
+    ensures { result ≡ must_empty_table retry table }
 {
     match retry {
         Some(retry) => retry.table == table && matches!(retry.stage, Stage::Again),
@@ -147,13 +147,13 @@ pub(crate) fn is_due(retry: Option<Retry>, table: usize) -> bool
 }
 
 /// What is remembered after a message to a table, which was answered so.
-pub(crate) fn heard_by(
+pub(crate) fn after_message(
     retry: Option<Retry>,
     table: usize,
     message: &IotlbMessage,
     answer: &Answer,
 ) -> Option<Retry>
-    ensures { result ≡ heard_by retry table message.now answer.now }
+    ensures { result ≡ after_message retry table message.now answer.now }
 {
     let retry = retry?;
     if retry.table != table {

@@ -5,13 +5,13 @@ ghost use Rattle.vm_session.specs.declared.call.Kind.TheVariants as kind;
 ghost use Rattle.vm_session.specs.Messages.{regions_in};
 ghost use Rattle.vm_session.specs.Misses.{MissesIf};
 ghost use Rattle.vm_session.specs.Retries.{AnswersCall, AnswersGivenBack, AnswersLent, IsServed, Readies, bound_of};
-ghost use Rattle.vm_session.specs.Retries.{new_session, noted, without_memories};
+ghost use Rattle.vm_session.specs.Retries.{after_call, new_session, without_memories};
 
 use crate::call::{Answer, Call, Kind, Miss, access_kind, kind_of, work_kind};
 use crate::code;
 use crate::messages::is_announced;
-use crate::parts::SessionParts;
-use crate::retry::{Retry, forgotten, heard_by, is_due, missed};
+use crate::parts::MachineAndQueues;
+use crate::retry::{Retry, after_message, forgotten, missed, must_empty_table};
 use crate::setup::{limit_made, no_room};
 use std::alloc::Global;
 use std::marker::Model;
@@ -23,7 +23,7 @@ use vm_memory_guest::HostPlace;
 /// Its calls are a run of the model: docs/BINDINGS.md, "What is proved".
 #[derive(Drop)]
 pub struct Session {
-    parts: SessionParts,
+    parts: MachineAndQueues,
     // The limit of each table, if it has one: no table tells it.
     limits: Vec<Option<usize>>,
     retry: Option<Retry>,
@@ -43,7 +43,7 @@ impl Session {
         ensures { result ≡ new_session }
     {
         Session {
-            parts: SessionParts::new(alloc),
+            parts: MachineAndQueues::new(alloc),
             limits: Vec::new(alloc),
             retry: None,
         }
@@ -195,7 +195,7 @@ impl Session {
         };
         self.ready(table, &message, input);
         self.parts.call_any(call, input, output, answer);
-        self.retry = heard_by(self.retry, table, &message, answer);
+        self.retry = after_message(self.retry, table, &message, answer);
     }
 
     // Empties the table of a call that missed again before it takes an UPDATE.
@@ -205,7 +205,7 @@ impl Session {
             self.old.parts self.new.parts }
         ensures rest { self.new ≡ record self.old { parts = self.new.parts } }
     {
-        if is_due(self.retry, table) && is_announced(message, input) {
+        if must_empty_table(self.retry, table) && is_announced(message, input) {
             self.parts.clear(table);
         }
     }
@@ -213,7 +213,7 @@ impl Session {
     // Notes whether a call missed a mapping, and refuses one for which its table has no room.
     #[inline(never)]
     fn note(&mut self, call: &Call, input_len: usize, answer: &mut Answer)
-        ensures answer { (answer.new, self.new.retry) ≡ noted self.old call.now input_len answer.old }
+        ensures answer { (answer.new, self.new.retry) ≡ after_call self.old call.now input_len answer.old }
         ensures rest { self.new ≡ record self.old { retry = self.new.retry } }
     {
         if answer.code != code::IOMMU_MISSING {
@@ -246,7 +246,7 @@ impl Session {
     // Notes it, and tells what the call missed.
     #[inline(never)]
     fn note_telling(&mut self, call: &Call, input_len: usize, answer: &mut Answer, miss: &mut Miss)
-        ensures answer { (answer.new, self.new.retry) ≡ noted self.old call.now input_len answer.old }
+        ensures answer { (answer.new, self.new.retry) ≡ after_call self.old call.now input_len answer.old }
         ensures rest { self.new ≡ record self.old { retry = self.new.retry } }
         ensures misses { MissesIf self.new.parts call.now answer.new miss.old miss.new }
     {

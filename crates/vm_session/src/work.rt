@@ -3,23 +3,23 @@ ghost use Rattle.std.specs.Prelude.{◌≡◌, ◌<◌, ◌^◌, IsTrue, List, �
 ghost use Rattle.vm_memory_guest.specs.Host.{shape_of, Holds};
 ghost use Rattle.vm_session.specs.Kinds.{keeps_queue};
 ghost use Rattle.vm_memory.specs.Parts.{state_of};
-ghost use Rattle.vm_session.specs.DeviceSteps.{Still};
-ghost use Rattle.vm_session.specs.Queues.{BeginsRequest, FinishesIf, Works, WorksOn, terms_of};
+ghost use Rattle.vm_session.specs.MemorySteps.{Still};
+ghost use Rattle.vm_session.specs.Queues.{BeginsRequest, FinishesIf, Works, WorksOn, device_limits};
 
 use crate::answer::refuse;
 use crate::call::{Answer, Call, Kind, limit_of, read_only_of};
 use crate::code;
 use crate::device_memory::{DeviceMemory, Lent};
 use crate::queue::SessionQueue;
-use virtio_blk::Terms;
-use vm_memory::{Machine, Work};
+use virtio_blk::DeviceLimits;
+use vm_memory::{DeviceStep, Machine};
 use vm_memory_base::{Bitmap, ExactBitmap};
 use vm_memory_device::Iommu;
 use vm_memory_guest::{GuestMemory, GuestMemoryRegion, HostMemory};
 
-// A call of a kind, as work on a memory.
+// A call of a kind, as a step on a memory.
 #[derive(Drop)]
-struct QueueWork<'a> {
+struct QueueStep<'a> {
     kind: Kind,
     call: &'a Call,
     queue: &'a SessionQueue,
@@ -27,7 +27,7 @@ struct QueueWork<'a> {
     ghost is_one: { IsTrue (keeps_queue kind) },
 }
 
-// What a chain in flight asks for, if the call says what it is held against.
+// What a chain in flight asks for, if the call says what it is checked against.
 fn begin_if<H, D: DeviceMemory<H>>(
     queue: &SessionQueue,
     mem: &D,
@@ -35,21 +35,21 @@ fn begin_if<H, D: DeviceMemory<H>>(
     call: &Call,
 ) -> Answer
     requires { D.held mem.now host.old }
-    ensures begins { BeginsRequest (D.steps mem.now) queue.now call.now.third (terms_of call.now) host.old result
+    ensures begins { BeginsRequest (D.steps mem.now) queue.now call.now.third (device_limits call.now) host.old result
         host.new }
     ensures shape { D.shape mem.now host.new ≡ D.shape mem.now host.old }
 {
     let Some(read_only) = read_only_of(call.access) else {
         return Answer::of_code(code::BAD_CALL);
     };
-    let terms = Terms {
+    let limits = DeviceLimits {
         sectors: call.target,
         read_only,
         acked: call.value,
         seg_max: limit_of(call.length),
         size_max: limit_of(call.other_length),
     };
-    queue.begin(mem, host, call.third, terms)
+    queue.begin(mem, host, call.third, limits)
 }
 
 // Finishes the request of a chain in flight, if the status is a number of 8 bits.
@@ -69,12 +69,12 @@ fn finish_if<H, D: DeviceMemory<H>>(
     }
 }
 
-impl<B: Bitmap> Work<B> for QueueWork<'_> {
+impl<B: Bitmap> DeviceStep<B> for QueueStep<'_> {
     ghost does = { λ w m host after host'. (after.answer.ghost_name ≡ w.answer.ghost_name)
         × ((input out : List ℕ) → Works B.marks m (Still B.marks m) w.kind w.call.now input w.queue.now host out
         after.answer.now w.queue.now host' out) };
 
-    fn work<M: GuestMemory>(&mut self, mem: &M, host: &mut HostMemory<B>) {
+    fn step<M: GuestMemory>(&mut self, mem: &M, host: &mut HostMemory<B>) {
         let (call, queue) = (self.call, self.queue);
         let lent = Lent { mem };
         *self.answer = match self.kind {
@@ -104,14 +104,14 @@ pub(crate) fn work_on<R: GuestMemoryRegion, I: Iommu, B: ExactBitmap>(
         (state_of R.region I.number B.pages machine.old) queue.now out answer.new
         (state_of R.region I.number B.pages machine.new) queue.now out }
 {
-    let mut work = QueueWork {
+    let mut step = QueueStep {
         kind,
         call,
         queue,
         answer,
     };
-    match machine.lend(call.second, &mut work) {
+    match machine.with_memory(call.second, &mut step) {
         Ok(()) => (),
-        Err(_) => refuse(code::NO_SUCH, work.answer),
+        Err(_) => refuse(code::NO_SUCH, step.answer),
     }
 }

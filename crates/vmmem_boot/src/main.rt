@@ -12,7 +12,7 @@ use linux_loader::{
     PvhBootCapability, Segment, SetupHeader, initrd_address, load_cmdline, load_initrd,
 };
 use memory::{
-    BEHIND_HOLE, Host, digest_of, dirty_pages, fits, last_address, last_low_address, memory_of,
+    AFTER_HOLE, Host, digest_of, dirty_pages, fits, last_address, last_low_address, memory_of,
 };
 use std::alloc::Global;
 use std::env;
@@ -50,7 +50,7 @@ fn check_part(part: &str, start: u64, end: u64, memory: u64) -> Result<()> {
         return Ok(());
     }
     let last = last_address(memory);
-    if start < BEHIND_HOLE && BEHIND_HOLE < last {
+    if start < AFTER_HOLE && AFTER_HOLE < last {
         let last = last_low_address(memory);
         bail!("{part} takes {start:#x} to {end:#x}, and memory below 4 GiB ends after {last:#x}");
     }

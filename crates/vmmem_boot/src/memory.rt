@@ -17,10 +17,10 @@ const CHUNK: u64 = 0x1_0000;
 const HOLE: u64 = 0xc000_0000;
 
 /// Where memory past 3 GiB begins.
-pub const BEHIND_HOLE: u64 = 0x1_0000_0000;
+pub const AFTER_HOLE: u64 = 0x1_0000_0000;
 
 // How many bytes of memory lie after the hole.
-fn size_behind_hole(mib: u64) -> u64 {
+fn size_after_hole(mib: u64) -> u64 {
     mib.saturating_mul(MIB).saturating_sub(HOLE)
 }
 
@@ -31,17 +31,17 @@ pub fn last_low_address(mib: u64) -> u64 {
 
 /// The last address of all memory, of a machine with this many MiB.
 pub fn last_address(mib: u64) -> u64 {
-    match size_behind_hole(mib) {
+    match size_after_hole(mib) {
         0 => last_low_address(mib),
-        size => BEHIND_HOLE.saturating_add(size).saturating_sub(1),
+        size => AFTER_HOLE.saturating_add(size).saturating_sub(1),
     }
 }
 
 /// Whether a machine with this many MiB has memory at each address from one up to another.
 pub fn fits(mib: u64, start: u64, end: u64) -> bool {
     let low = last_low_address(mib).saturating_add(1);
-    let rest = size_behind_hole(mib);
-    end <= low || (start >= BEHIND_HOLE && end <= BEHIND_HOLE.saturating_add(rest))
+    let rest = size_after_hole(mib);
+    end <= low || (start >= AFTER_HOLE && end <= AFTER_HOLE.saturating_add(rest))
 }
 
 /// Memory of this many MiB: the first of them, the others up to the hole, and the rest after it.
@@ -50,7 +50,7 @@ pub fn memory_of(alloc: Global, host: &mut Host, mib: u64) -> Result<GuestMemory
     let all = [
         (GuestAddress(0), low.min(MIB)),
         (GuestAddress(MIB), low.saturating_sub(MIB)),
-        (GuestAddress(BEHIND_HOLE), size_behind_hole(mib)),
+        (GuestAddress(AFTER_HOLE), size_after_hole(mib)),
     ];
     let mut ranges = Vec::new(alloc);
     for (start, size) in all {

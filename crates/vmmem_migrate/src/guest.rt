@@ -18,7 +18,7 @@ const LOW: usize = 0x10_0000;
 
 const HOLE: usize = 0xc000_0000;
 
-const BEHIND_HOLE: u64 = 0x1_0000_0000;
+const AFTER_HOLE: u64 = 0x1_0000_0000;
 
 /// Where the blocks of a guest lie, and how many pages they have, which are numbered from 0 through all blocks.
 #[derive(Drop)]
@@ -36,7 +36,7 @@ struct Spot {
     len: usize,
 }
 
-// Makes a block of zeros behind the others.
+// Makes a block of zeros after the others.
 fn add_block(
     alloc: Global,
     host: &mut Host,
@@ -69,7 +69,7 @@ pub fn guest_of(alloc: Global, load: &Load) -> Result<(Host, Layout)> {
     add_block(alloc, &mut host, &mut layout, 0, low.min(LOW))?;
     let rest = low.saturating_sub(LOW);
     add_block(alloc, &mut host, &mut layout, LOW as u64, rest)?;
-    add_block(alloc, &mut host, &mut layout, BEHIND_HOLE, high)?;
+    add_block(alloc, &mut host, &mut layout, AFTER_HOLE, high)?;
     Ok((host, layout))
 }
 
@@ -114,8 +114,8 @@ fn add_two(host: &mut Host, block: BlockId, at: usize) {
 // The last page before one that is not among the zeros, or that page: of each eight the last `zeros` stay zero.
 fn written_page(page: usize, zeros: u64) -> usize {
     let last = 7usize.saturating_sub(zeros as usize);
-    let behind = (page % 8).saturating_sub(last);
-    page.saturating_sub(behind)
+    let past = (page % 8).saturating_sub(last);
+    page.saturating_sub(past)
 }
 
 // Fills a page with random bytes, of which the first is odd.

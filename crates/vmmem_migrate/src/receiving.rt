@@ -131,7 +131,8 @@ impl<'a, R: Clock + Print> ReceivingEnd<'a, R> {
         })
     }
 
-    // Tells each second what came of this round, and how much of the first is left. The clock is looked at if bytes came.
+    // Tells each second what came of this round, and how much of the first is left. The clock is looked at if bytes
+    // came.
     fn tell_progress(&mut self) -> Result<()> {
         let received = self.reader.get_ref().received();
         if !self.tells || received == self.round.seen {

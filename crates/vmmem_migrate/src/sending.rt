@@ -103,7 +103,7 @@ impl<'a, R: Clock + Print + Wait> SendingEnd<'a, R> {
     }
 
     // Sends the pages of each block. Counted writers write from the last harvest on, so that it is decided what they
-    // write before and behind it.
+    // write before and after it.
     fn send_pages(&mut self, is_last: bool) -> Result<usize> {
         let blocks = self.shared.layout.places.len();
         let mut pages = 0usize;
@@ -143,7 +143,7 @@ impl<'a, R: Clock + Print + Wait> SendingEnd<'a, R> {
         Ok(())
     }
 
-    // Sends a round, and tells how many pages are dirty behind it.
+    // Sends a round, and tells how many pages are dirty after it.
     fn send_round(&mut self, is_last: bool) -> Result<Row> {
         let start = Instant::now(self.rt)?;
         let before = self.sent();

@@ -91,7 +91,7 @@ fn count_of(lines: &str, beginning: &str) -> usize {
     count
 }
 
-// A line that is replied that a number names nothing, before or behind a line of the same kind. It takes no memory.
+// A line that is replied that a number names nothing, before or after a line of the same kind. It takes no memory.
 fn filler_of(line: &str) -> &'static str {
     match line.split(' ').next() {
         Some("block" | "space" | "table" | "region" | "translator") => "region 99 0\n",
@@ -185,7 +185,7 @@ fn looks_of(alloc: Global, before: &str, replies: &str) -> Result<String, AllocE
     Ok(looks)
 }
 
-// A script whose replies are written before a line runs, and again behind it.
+// A script whose replies are written before a line runs, and again after it.
 fn gated_script(
     alloc: Global,
     before: &str,
@@ -220,8 +220,8 @@ fn is_refused(told: &str, without: &str, place: usize) -> bool {
         without.get(..place),
         without.get(place..),
     ) {
-        (Some(before), Some(behind), Some(without_before), Some(without_behind)) => {
-            before == without_before && behind.strip_prefix(REFUSAL) == Some(without_behind)
+        (Some(before), Some(after), Some(without_before), Some(without_after)) => {
+            before == without_before && after.strip_prefix(REFUSAL) == Some(without_after)
         }
         _ => false,
     }
@@ -278,7 +278,7 @@ fn left_at(step: usize) -> usize {
     COARSE.saturating_mul(step.saturating_sub(FINE).saturating_add(4))
 }
 
-// Refuses each request of a line. False where its script cannot run with it. Small requests behind a large one are met
+// Refuses each request of a line. False where its script cannot run with it. Small requests after a large one are met
 // by going back by a little once the line is done.
 fn refuse_line(
     famine: &mut Famine,
@@ -333,7 +333,7 @@ fn wrong(line: &str, what: &str) -> Fail {
     Fail::new(format_args!("the line {line:?}: {what}"))
 }
 
-// Refuses each request of a line behind others. False where they cannot run so.
+// Refuses each request of a line after others. False where they cannot run so.
 fn expect_line(
     famine: &mut Famine,
     alloc: Global,

@@ -325,7 +325,7 @@ impl<F: Read + Write + Drop, O: Read + Write + Drop> BackEnd<F, O> {
         })
     }
 
-    // Writes to a chain, behind so many of its writable bytes.
+    // Writes to a chain, after so many of its writable bytes.
     fn tell<H: SharedHost>(
         &mut self,
         host: &mut H,

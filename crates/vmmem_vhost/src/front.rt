@@ -233,7 +233,7 @@ impl<C: Read + Write + Drop> FrontEnd<C> {
     }
 
     // Takes pages back: none of them is accessed from then on.
-    fn take_back(&mut self, page: u64, count: u64) -> anyhow::Result<()> {
+    fn unmap_or_clear(&mut self, page: u64, count: u64) -> anyhow::Result<()> {
         let invalidate = IotlbMessage::Invalidate {
             iova: iova_of(page),
             size: count.wrapping_mul(PAGE),
@@ -289,7 +289,7 @@ impl<C: Read + Write + Drop> FrontEnd<C> {
         let Some(to) = self.pages.free.pop() else {
             return Ok(());
         };
-        self.take_back(page, 1)?;
+        self.unmap_or_clear(page, 1)?;
         let from = self.frame_of(page);
         self.copy_page(rt, lock, page, to)?;
         if let Some(place) = self.pages.frames.get_mut(page as usize) {
@@ -328,10 +328,10 @@ impl<C: Read + Write + Drop> FrontEnd<C> {
         }
         match act {
             0..=3 => self.move_page(rt, lock, page),
-            4 | 5 if page != but => self.take_back(page, 1),
+            4 | 5 if page != but => self.unmap_or_clear(page, 1),
             6 => {
                 let count = 1 + self.below(PAGES - page.min(PAGES - 1));
-                self.take_back(page, count)
+                self.unmap_or_clear(page, count)
             }
             7 if self.below(8) == 0 => self.take_all_back(),
             _ => Ok(()),
@@ -537,7 +537,7 @@ impl<C: Read + Write + Drop> FrontEnd<C> {
                 (VIRTIO_BLK_S_OK, Trouble::None) => self.compare(asked, data.as_slice()),
                 (VIRTIO_BLK_S_IOERR, Trouble::Refused | Trouble::Forbidden) => {
                     self.seen.failed = self.seen.failed.saturating_add(1);
-                    self.take_back(asked.page(), 1)?;
+                    self.unmap_or_clear(asked.page(), 1)?;
                 }
                 _ => bail!("the status is {status}"),
             }
@@ -576,7 +576,7 @@ impl<C: Read + Write + Drop> FrontEnd<C> {
             1 => Trouble::Forbidden,
             _ => return Ok(Trouble::None),
         };
-        self.take_back(asked.page(), 1)?;
+        self.unmap_or_clear(asked.page(), 1)?;
         Ok(trouble)
     }
 

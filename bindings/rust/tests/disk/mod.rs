@@ -69,18 +69,18 @@ pub fn number(bytes: &[u8]) -> u64 {
 
 /// Whether a chain breaks a limit that the driver keeps: SEG_MAX counts the segments beside the one of the header and
 /// the one of the status, and SIZE_MAX the bytes of each.
-fn is_over_limit(segments: &[Segment], terms: Terms) -> bool {
+fn is_over_limit(segments: &[Segment], limits: DeviceLimits) -> bool {
     let limit = |limit: Option<u32>| limit.filter(|most| *most != 0).map_or(u64::MAX, u64::from);
     let data = segments.len().saturating_sub(2) as u64;
-    data > limit(terms.seg_max) || segments.iter().any(|segment| segment.len > limit(terms.size_max))
+    data > limit(limits.seg_max) || segments.iter().any(|segment| segment.len > limit(limits.size_max))
 }
 
 /// What a chain asks for.
-pub fn asked(image: &Image, segments: &[Segment], terms: Terms) -> Request {
+pub fn asked(image: &Image, segments: &[Segment], limits: DeviceLimits) -> Request {
     if total(segments, true) == 0 {
         return Request::Unserved;
     }
-    if is_over_limit(segments, terms) {
+    if is_over_limit(segments, limits) {
         return IOERR;
     }
     let places = addresses(segments, false, 0, 16).into_iter();
@@ -91,17 +91,17 @@ pub fn asked(image: &Image, segments: &[Segment], terms: Terms) -> Request {
     };
     let (kind, sector) = (number(&header[..4]), number(&header[8..]));
     let (given, room) = (total(segments, false) - 16, total(segments, true) - 1);
-    let [end, sectors] = [sector, terms.sectors].map(|sector| 512 * u128::from(sector));
+    let [end, sectors] = [sector, limits.sectors].map(|sector| 512 * u128::from(sector));
     let fits = |len: u64| len % 512 == 0 && end + u128::from(len) <= sectors;
     match kind as u32 {
         IN if fits(room) => Request::Read {
             sector,
             len: room as usize,
         },
-        OUT if fits(given) && !terms.read_only => Request::Write {
+        OUT if fits(given) && !limits.read_only => Request::Write {
             sector,
             len: given as usize,
-            flush: given != 0 && terms.acked & ACCEPTS_FLUSH == 0,
+            flush: given != 0 && limits.acked & ACCEPTS_FLUSH == 0,
         },
         IN | OUT => IOERR,
         FLUSH => Request::Flush,
@@ -500,15 +500,15 @@ impl<'a> Guest<'a> {
         segments: &[Segment],
         direct: usize,
         disks: &mut [Disk; 2],
-        terms: Terms,
+        limits: DeviceLimits,
     ) -> (Request, u32) {
         self.publish(segments, direct);
         let chain = self.until_done(Step::Pop, |memory, queue| queue.pop_descriptor_chain(memory));
         let chain = chain.unwrap().unwrap();
         assert_eq!(segments_of(&chain), segments);
-        let request = self.until_done(Step::Begin, |memory, _| chain.begin_request(memory, terms));
+        let request = self.until_done(Step::Begin, |memory, _| chain.begin_request(memory, limits));
         let request = request.unwrap();
-        assert_eq!(request, asked(&self.image, segments, terms));
+        assert_eq!(request, asked(&self.image, segments, limits));
         self.compare();
         let (status, moved) = self.perform(&chain, request, &mut disks[0]);
         let wanted = performed(&mut self.image, segments, request, &mut disks[1]);
@@ -570,11 +570,11 @@ pub const HEADER: u64 = 0x1000;
 pub const DATA: u64 = 0x1010;
 pub const ROOM: u64 = 0x3000;
 
-pub fn terms(sectors: u64) -> Terms {
-    Terms {
+pub fn limits_of(sectors: u64) -> DeviceLimits {
+    DeviceLimits {
         sectors,
         acked: ACCEPTS_FLUSH,
-        ..Terms::default()
+        ..DeviceLimits::default()
     }
 }
 

@@ -142,8 +142,8 @@ impl Receiver {
     ) -> Result<Receiver, Refusal>
         ensures begun { IfOk result (λ r. Begins B.made limit (R.remaining reader.old) (R.remaining reader.new) r.seen
             host.old host.new) }
-        ensures refused { IfErr result (λ error. (host.new ≡ host.old) ⊎ BreaksMaking B.made limit (R.remaining reader.old)
-            (R.remaining reader.new) error host.old host.new) }
+        ensures refused { IfErr result (λ error. (host.new ≡ host.old) ⊎ BreaksMaking B.made limit
+            (R.remaining reader.old) (R.remaining reader.new) error host.old host.new) }
     {
         let bytes = read_header(alloc, reader)?;
         let header = decode_header(alloc, limit, bytes.as_slice())?;

@@ -82,7 +82,7 @@ fn is_written(page_size: usize, bytes: &[u8], page: usize) -> bool
     !are_zero(&bytes[start..end])
 }
 
-// Whether a page is so many behind another, and has a byte that is not zero.
+// Whether a page is this many after another, and has a byte that is not zero.
 fn follows(page_size: usize, bytes: &[u8], first: usize, count: usize, page: usize) -> bool
     ensures at { result ≡ true → page ≡ first + count }
     ensures written { result ≡ true → IsWrittenPage page_size bytes.now page }
@@ -91,7 +91,7 @@ fn follows(page_size: usize, bytes: &[u8], first: usize, count: usize, page: usi
 }
 
 // How many of these pages follow a page, one after the other, and have bytes that are not zero.
-fn run_behind(page_size: usize, bytes: &[u8], first: usize, pages: &[usize]) -> usize
+fn pages_in_a_row(page_size: usize, bytes: &[u8], first: usize, pages: &[usize]) -> usize
     ensures count { result ≤ length pages.now }
     ensures run { IsRun page_size bytes.now (first + 1) (take result pages.now) }
 {
@@ -103,7 +103,7 @@ fn run_behind(page_size: usize, bytes: &[u8], first: usize, pages: &[usize]) -> 
     pages.len()
 }
 
-// Copies a page of zeros behind what waits to be sent, and nothing for a page past the end of the block.
+// Copies a page of zeros after what waits to be sent, and nothing for a page past the end of the block.
 fn copy_zero(
     batch: &mut Vec<u8>,
     number: u32,
@@ -126,7 +126,7 @@ fn copy_zero(
     frame.encode(batch)
 }
 
-// Copies the bytes of pages that follow one another behind what waits to be sent, as one frame.
+// Copies the bytes of pages that follow one another after what waits to be sent, as one frame.
 fn copy_run(
     batch: &mut Vec<u8>,
     number: u32,
@@ -154,7 +154,7 @@ fn copy_run(
     frame.encode(batch)
 }
 
-// Copies the first of these pages behind what waits to be sent, and those that follow it in one frame with it. It
+// Copies the first of these pages after what waits to be sent, and those that follow it in one frame with it. It
 // returns how many were copied.
 fn copy_first(
     batch: &mut Vec<u8>,
@@ -177,7 +177,7 @@ fn copy_first(
         copy_zero(batch, number, page_size, bytes, first)?;
         return Ok(1);
     }
-    let count = 1 + run_behind(page_size, bytes, first, &pages[1..]);
+    let count = 1 + pages_in_a_row(page_size, bytes, first, &pages[1..]);
     copy_run(batch, number, page_size, bytes, &pages[..count])?;
     Ok(count)
 }
@@ -303,7 +303,7 @@ fn take_all<B: ExactBitmap>(
     }
 }
 
-// Copies pages of a block behind what waits to be sent, as long as there is room, and returns how many: at most 2^20
+// Copies pages of a block after what waits to be sent, as long as there is room, and returns how many: at most 2^20
 // bytes of pages, zeros among them.
 pub(super) fn copy_pages(
     batch: &mut Vec<u8>,
@@ -334,7 +334,7 @@ pub(super) fn copy_pages(
     at
 }
 
-// How many pages of this size may be copied behind so many pages, and behind so many bytes that wait to be sent.
+// How many pages of this size may be copied after so many pages, and after so many bytes that wait to be sent.
 fn room_for(count: usize, len: usize, page_size: usize) -> usize
     requires some { 0 < page_size }
     requires most { count * page_size ≤ 2 ^ 20 }

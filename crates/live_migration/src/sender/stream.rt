@@ -242,7 +242,8 @@ impl Sender {
         options: Options,
         writer: &mut W,
     ) -> Result<Sender, SendError>
-        ensures begun { IfOk result (λ s. BeginsToSend options.digests (W.contents writer.old) (W.contents writer.new) s) }
+        ensures begun { IfOk result (λ s. BeginsToSend options.digests (W.contents writer.old) (W.contents writer.new)
+            s) }
         ensures targets { IfOk result (λ s. AreTargets B.pages host.now s.rounds.targets.items) }
         ensures asked { IfOk result (λ s. map place_of s.rounds.targets.items ≡ map asked blocks.now) }
     {

@@ -151,7 +151,8 @@ impl Sender {
         options: Options,
         writer: &mut W,
     ) -> Result<Sender, SendError>
-        ensures begun { IfOk result (λ s. BeginsToSend options.digests (W.contents writer.old) (W.contents writer.new) s) }
+        ensures begun { IfOk result (λ s. BeginsToSend options.digests (W.contents writer.old) (W.contents writer.new)
+            s) }
         ensures blocks { IfOk result (λ s. AreBlocks host.now s.rounds.targets.items) }
         ensures asked { IfOk result (λ s. map sized_place_of s.rounds.targets.items ≡ map sized_asked blocks.now) }
     {

@@ -10,7 +10,7 @@ ghost use Rattle.virtio_blk.specs.Texts.{Accessed, StopsAt, StopsWithin, WritesA
 
 use super::PIECE;
 use crate::disk::Disk;
-use crate::lent::{data_behind, data_segment, lent};
+use crate::lent::{data_from, data_segment, lent};
 use crate::request::{VIRTIO_BLK_S_IOERR, VIRTIO_BLK_S_OK};
 use crate::text::{Stop, Written, read_all, write_front};
 use vm_memory_base::{Bitmap, GuestAddress};
@@ -99,7 +99,7 @@ pub(super) fn store<D: Disk, M: GuestMemory, B: Bitmap>(
     while moved < len {
         let count = (len - moved).min(PIECE);
         let at = sector + (moved / 512) as u64;
-        let here = data_behind(start, moved);
+        let here = data_from(start, moved);
         match store_piece(disk, reader, mem, host, here, at, &mut buffer[..count]) {
             Ok(()) => moved += count,
             Err(stop) => return (VIRTIO_BLK_S_IOERR, stop.wanted),

@@ -154,7 +154,7 @@ impl<D: Disk> BlockDevice<D> {
             result self.new host.new }
         ensures shape { shape_of host.new ≡ shape_of host.old }
     {
-        let (request, unread) = asked_of(begin(self.terms(), mem, host, chain));
+        let (request, unread) = asked_of(begin(self.limits(), mem, host, chain));
         let (status, written) = self.act(request, mem, host, chain);
         let moved = written.count;
         let finished = finish(mem, host, chain, status, moved);

@@ -5,7 +5,7 @@ ghost use Rattle.vm_memory_guest.specs.Host.{shape_of, Holds};
 ghost use Rattle.virtio_queue.specs.Fields.{Answers, MayWant};
 ghost use Rattle.virtio_queue.specs.Looks.{Follows};
 ghost use Rattle.virtio_queue.specs.Packed.{are_positions, slots_out};
-ghost use Rattle.virtio_queue.specs.PackedPopping.{chain_known, last_behind, listing, rows_behind, with_known};
+ghost use Rattle.virtio_queue.specs.PackedPopping.{chain_known, last_after, listing, rows_after, with_known};
 ghost use Rattle.virtio_queue.specs.PackedRing.{packed_at};
 ghost use Rattle.virtio_queue.specs.Rings.{and_then};
 
@@ -95,7 +95,7 @@ fn add_rows<L: Looks>(
     len: u16,
     segments: &mut Vec<Segment>,
 ) -> Result<(), QueueError>
-    ensures { Follows L.looks (rows_behind table len segments.old.items 0) looks.old
+    ensures { Follows L.looks (rows_after table len segments.old.items 0) looks.old
         (and_then result (λ _. Ok segments.new.items)) looks.new }
 {
     for index in 0..len {
@@ -113,7 +113,7 @@ fn add_last<L: Looks>(
     last: &PackedDescriptor,
     segments: &mut Vec<Segment>,
 ) -> Result<(), QueueError>
-    ensures { Follows L.looks (last_behind segments.old.items last.now) looks.old
+    ensures { Follows L.looks (last_after segments.old.items last.now) looks.old
         (and_then result (λ _. Ok segments.new.items)) looks.new }
 {
     if last.is_indirect() {

@@ -184,15 +184,15 @@ impl PackedQueue {
         }
         let state = &self.state;
         let area = state.device_area;
-        let behind = 16 * u64::from(state.next_avail.slot) + 14;
+        let flags_at = 16 * u64::from(state.next_avail.slot) + 14;
         let offset = mem.spot(host, Permissions::Write, area, 0)?;
         let flags = mem.spot(host, Permissions::Write, area, 2)?;
-        let next = mem.spot(host, Permissions::Read, state.desc_ring, behind)?;
+        let next = mem.spot(host, Permissions::Read, state.desc_ring, flags_at)?;
         mem.store(host, area, 0, &offset, state.next_avail.to_bits());
         self.barrier.acquire_release_barrier();
         mem.store(host, area, 2, &flags, kick_flags(state));
         self.barrier.full_barrier();
-        let found = mem.load(host, state.desc_ring, behind, &next);
+        let found = mem.load(host, state.desc_ring, flags_at, &next);
         Ok(is_available(found, state.next_avail.wrap))
     }
 

@@ -84,6 +84,8 @@ pub fn refusals_change_nothing()
 
 /// Every run keeps an image that mirrors a block which its bitmap covers: at each state of it, patched
 /// by the harvests before, it mirrors the block. A copy of the block is such an image.
+///
+/// Witness: vm_memory::run
 pub fn runs_keep_images()
     ensures copy { (block : ℕ) (host : Host PageSet) → MirrorsBlock block host (bytes_of_block block host) }
     ensures kept { (block : ℕ) (image : List ℕ) (old : State) (cs : List Command) (rs : List Reply)
@@ -171,6 +173,8 @@ pub fn tables_say_what_was_set_last()
 /// In the state that a run leaves, an access behind an IOMMU that is on reaches each byte through the mapping
 /// that was set last for its address and not invalidated or evicted since. What the table said before the run counts
 /// as set before it.
+///
+/// Witness: vm_memory::run
 pub fn accesses_go_through_what_was_set_last()
     ensures all { (old now : State) (cs : List Command) (rs : List Reply) (m : guest.Memory) (b : Translation)
         (t : Table) (a n i : ℕ) (access : Permissions) (x : Reached) → Run old cs rs now
@@ -222,6 +226,8 @@ pub fn new_machines_are_lawful<R: GuestMemoryRegion, I: Iommu, B: ExactBitmap>()
 
 /// A run keeps the layouts of a machine layouts, and so the regions of its memories, and so does `sync`. At most one
 /// region of a memory has an address.
+///
+/// Witness: vm_memory::run
 pub fn runs_keep_layouts()
     ensures kept { (old new : State) (cs : List Command) (rs : List Reply) → IsLawful old → Run old cs rs new
         → IsLawful new }

@@ -87,7 +87,7 @@ impl<R: GuestMemoryRegion, I: Iommu, B: ExactBitmap> Machine<R, I, B> {
             × (self.new ≡ record self.old { layouts = self.old.layouts ++ layout ∷ [] }))
             ⊎ ((result ≡ Err refusal.Memory) × (self.new ≡ self.old)) }
     {
-        layout.known();
+        layout.recall_law();
         let number = self.layouts.len();
         if self.layouts.push(layout).is_err() {
             return Err(Refusal::Memory);

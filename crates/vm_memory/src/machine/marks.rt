@@ -104,7 +104,7 @@ fn mark_any<R: GuestMemoryRegion, I: Iommu, B: ExactBitmap>(
 {
     match memory {
         MachineMemory::Plain(layout) => mark_layout(layout, host, addr, count),
-        MachineMemory::Translated(memory) => mark_behind(alloc, memory, host, addr, count),
+        MachineMemory::Translated(memory) => mark_translated(alloc, memory, host, addr, count),
     }
 }
 
@@ -128,7 +128,7 @@ fn mark_layout<R: GuestMemoryRegion, B: ExactBitmap>(
 }
 
 // Marks what a write to a memory behind an IOMMU would reach: the pieces of its translation, if the IOMMU is on.
-fn mark_behind<R: GuestMemoryRegion, I: Iommu, B: ExactBitmap>(
+fn mark_translated<R: GuestMemoryRegion, I: Iommu, B: ExactBitmap>(
     alloc: Global,
     memory: &IommuMemory<GuestRegionCollection<R>, I>,
     host: &mut HostMemory<B>,

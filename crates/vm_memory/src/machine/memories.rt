@@ -122,7 +122,7 @@ impl<R: GuestMemoryRegion, I: Iommu, B: ExactBitmap> Machine<R, I, B> {
             × (self.new ≡ record self.old { memories = self.old.memories ++ memory ∷ [] }))
             ⊎ ((result ≡ Err refusal.Memory) × (self.new ≡ self.old)) }
     {
-        memory.known();
+        memory.recall_law();
         let number = self.memories.len();
         let hint = Cell::new(0);
         if self.memories.push(KeptMemory { memory, hint }).is_err() {

@@ -83,7 +83,7 @@ fn store_any<T: AtomicAccess, M: GuestMemory, B: ExactBitmap>(
     ensures shape { shape_of host.new ≡ shape_of host.old }
 {
     loads_and_stores_are_by_bytes::<B>();
-    value.known();
+    value.recall_law();
     match Bytes::store(memory, host, value, addr, Ordering::SeqCst) {
         Ok(()) => Ok(()),
         Err(error) => Err(Refusal::from(error)),

@@ -13,13 +13,13 @@ pub(super) fn put<W: Write>(output: &mut W, waiting: &mut Vec<u8>, text: &[u8]) 
     ensures { Puts (W.contents output.old) waiting.old.items text.now result (W.contents output.new) waiting.new.items }
 {
     if text.len() > ROOM.saturating_sub(waiting.len()) {
-        return put_behind(output, waiting, text);
+        return write_and_put(output, waiting, text);
     }
     waiting.extend_from_slice(text).is_ok()
 }
 
 // Writes what waits, and then takes a text, or writes a long one.
-fn put_behind<W: Write>(output: &mut W, waiting: &mut Vec<u8>, text: &[u8]) -> bool
+fn write_and_put<W: Write>(output: &mut W, waiting: &mut Vec<u8>, text: &[u8]) -> bool
     ensures { Puts (W.contents output.old) waiting.old.items text.now result (W.contents output.new) waiting.new.items }
 {
     if !write_all(output, waiting.as_slice()) {
@@ -40,7 +40,7 @@ pub(super) fn write_all<W: Write>(output: &mut W, bytes: &[u8]) -> bool
 }
 
 // Writes bytes until the output fails, and returns how many it took.
-#[tactic(auto, using(crate::proofs::ToldLemmas::keeps_keeps, crate::proofs::ToldLemmas::keeps_then, crate::proofs::ToldLemmas::appends_appends))]
+#[tactic(auto, using(crate::proofs::ToldLemmas::one_after_other))]
 fn write_out<W: Write>(output: &mut W, bytes: &[u8]) -> usize
     ensures bound { result ≤ length bytes.now }
     ensures wrote { Appends (W.contents output.old) (W.contents output.new) (take result bytes.now) }
@@ -56,7 +56,7 @@ fn write_out<W: Write>(output: &mut W, bytes: &[u8]) -> usize
 }
 
 // Writes the first of these bytes, and tries again if it is interrupted. `None` if the output fails.
-#[tactic(auto, using(crate::proofs::ToldLemmas::keeps_keeps, crate::proofs::ToldLemmas::keeps_then, crate::proofs::ToldLemmas::appends_appends))]
+#[tactic(auto, using(crate::proofs::ToldLemmas::one_after_other))]
 fn write_again<W: Write>(output: &mut W, bytes: &[u8]) -> Option<usize>
     ensures { MatchOption result (Keeps (W.contents output.old) (W.contents output.new))
         (λ count. (count ≤ length bytes.now)

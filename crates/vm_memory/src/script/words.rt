@@ -265,7 +265,7 @@ impl<'a> Words<'a> {
     }
 
     /// All words that are left as numbers of a pool.
-    #[tactic(auto, using(crate::proofs::WordLemmas::each_all, crate::proofs::WordLemmas::each_more, crate::proofs::WordLemmas::each_none))]
+    #[tactic(auto, using(crate::proofs::WordLemmas::each_word))]
     pub(super) fn indices(&mut self, alloc: Global) -> Result<NumberList, LineError>
         ensures { Gives (λ n. n) result self.new (numbers_at self.old) }
     {
@@ -332,7 +332,7 @@ fn digit_pairs(alloc: Global, word: &str) -> Result<ByteList, LineError>
     }
 }
 
-#[tactic(auto, using(crate::proofs::WordLemmas::each_all, crate::proofs::WordLemmas::each_more, crate::proofs::WordLemmas::each_none))]
+#[tactic(auto, using(crate::proofs::WordLemmas::each_word))]
 fn source(alloc: Global, word: &str) -> Result<SourceList, LineError>
     ensures { IsRead result (source_of word.now) }
 {
@@ -362,7 +362,7 @@ fn source_step(alloc: Global, word: &str) -> Result<SourceStep, LineError>
     Err(LineError::Bad)
 }
 
-#[tactic(auto, using(crate::proofs::WordLemmas::each_all, crate::proofs::WordLemmas::each_more, crate::proofs::WordLemmas::each_none))]
+#[tactic(auto, using(crate::proofs::WordLemmas::each_word))]
 fn sink(alloc: Global, word: &str) -> Result<SinkList, LineError>
     ensures { IsRead result (sink_of word.now) }
 {

@@ -4,7 +4,7 @@ use Rattle.std.proofs.lemmas.List.{length-drop}
 use Rattle.std.proofs.Math.Seq.{take-add}
 use Rattle.std.specs.declared.io.ErrorKind.TheVariants.{UnexpectedEof}
 use mathlib.Core.Bool.{true≢false}
-use Rattle.vm_memory_base.specs.Transfer.{Next, is_interrupted, ReadsAs, Reads, ReadsBehind, Lending, lending, lent_once, lent_behind, filled_as, is_short, FillsAs, FillsBy, Sink, offered, again, TakesAs, TakesOnce, OffersAs, count_of, Keeps, sent_as, SendsAs, SendsBy, Stop, Again, WholeOf, Answer, AgainUpto, Last, Done, Retry, RestOf, AllMoved, NoneMoved, TurnFailed, SomeMoved}
+use Rattle.vm_memory_base.specs.Transfer.{Next, is_interrupted, ReadsAs, Reads, ReadsAfter, Lending, lending, lent_once, lent_after, filled_as, is_short, FillsAs, FillsBy, Sink, offered, again, TakesAs, TakesOnce, OffersAs, count_of, Keeps, sent_as, SendsAs, SendsBy, Stop, Again, WholeOf, Answer, AgainUpto, Last, Done, Retry, RestOf, AllMoved, NoneMoved, TurnFailed, SomeMoved}
 use Rattle.vm_memory_base.specs.declared.io.ReadExactFault.{ReadExactFault}
 use Rattle.vm_memory_base.specs.declared.io.VolatileMemoryError.{VolatileMemoryError}
 use Rattle.vm_memory_base.specs.declared.io.VolatileMemoryError.TheVariants.{IOError}
@@ -26,9 +26,9 @@ module _ {S : Type 0} (source : S → Option (List Next)) (reads : S → List �
       let flag = h.3 ∙ ap₂ (λ (b : Bool) (r : Answer). b || is_interrupted r) like.2 here.0 in
       inr (here.0, (here.2, here.1, flag))
 
-  behind_does : (done : ℕ) (x z : S × List ℕ × Bool) (answer : Answer) (y : Lending) → IsLent x y
-      → ReadsBehind source reads done x answer z → Does IsLent (λ x. ⊥) x answer z (lent_behind done y)
-  behind_does done x z answer y like h =
+  after_does : (done : ℕ) (x z : S × List ℕ × Bool) (answer : Answer) (y : Lending) → IsLent x y
+      → ReadsAfter source reads done x answer z → Does IsLent (λ x. ⊥) x answer z (lent_after done y)
+  after_does done x z answer y like h =
       elim (again_does IsLent (λ x. ⊥) (Reads source reads) lent_once reads_does (λ x z a t no. no) h.1
       (record y { buffer = drop done y.buffer }) (like.0, ap (λ (b : List ℕ). drop done b) like.1, like.2)) [
         | inl wanted ↦ inl wanted
@@ -42,13 +42,13 @@ module _ {S : Type 0} (source : S → Option (List Next)) (reads : S → List �
       → MatchBool b
       ((answer ≡ Err (record { touched = 0; error = IOError UnexpectedEof })) × (buf ≡ start) × (t ≡ s))
       ((count : ℕ) × (stop : Stop) × (interrupted : Bool)
-      × WholeOf (ReadsBehind source reads) (length start) (s, start, false) count stop (t, buf, interrupted)
+      × WholeOf (ReadsAfter source reads) (length start) (s, start, false) count stop (t, buf, interrupted)
       × (answer ≡ filled_as (length start) interrupted count stop))
       → FillsAs (known s) (Some next) start answer buf (source t)
   fills_told known s t start buf answer next tells true short h = rw short (h.0, h.1, ap source h.2 ∙ tells)
   fills_told known s t start buf answer next tells false long h =
-      elim (rest_does IsLent (λ x. ⊥) (ReadsBehind source reads) lent_behind (length start)
-      (λ done x z a y some. behind_does done x z a y) (λ done x z a t no. no) h.3 (length start) (omega arith)
+      elim (rest_does IsLent (λ x. ⊥) (ReadsAfter source reads) lent_after (length start)
+      (λ done x z a y some. after_does done x z a y) (λ done x z a t no. no) h.3 (length start) (omega arith)
       (lending start next) (tells, refl, refl)) [
         | inl wanted ↦ absurd wanted.1
         | inr does ↦ rw long (rw (does.0, does.1, does.2.2) at h.4, does.2.1, does.2.0)

@@ -69,9 +69,9 @@ impl<T: FixedInteger, const N: usize> ByteValued for [T; N] {
     }
 
     #[inline]
-    fn known(&self) {
+    fn recall_law(&self) {
         for x in self.iter() {
-            x.known();
+            x.recall_law();
         }
     }
 

@@ -64,9 +64,9 @@ impl<A: FixedInteger, B: ByteValued> ByteValued for (A, B) {
     }
 
     #[inline]
-    fn known(&self) {
-        self.0.known();
-        self.1.known();
+    fn recall_law(&self) {
+        self.0.recall_law();
+        self.1.recall_law();
     }
 
     ghost laws = { pair_code A.FixedInteger.laws A.length_always B.ByteValued.laws };

@@ -15,7 +15,7 @@ fn copy_bytes<T: ByteValued>(value: &T, from: usize, out: &mut [u8])
     requires fits { from + length out.old < 2 ^ 64 }
     ensures { out.new ≡ take (length out.old) (drop from (T.bytes value.now)) }
 {
-    value.known();
+    value.recall_law();
     for i in 0..out.len() {
         out[i] = value.byte(from + i);
     }
@@ -30,7 +30,7 @@ fn put_bytes<T: ByteValued>(value: &mut T, from: usize, data: &[u8])
     ensures after { drop (from + length «data».now) (T.bytes value.new)
         ≡ drop (from + length «data».now) (T.bytes value.old) }
 {
-    value.known();
+    value.recall_law();
     for i in 0..data.len() {
         value.set_byte(from + i, data[i]);
     }
@@ -46,7 +46,7 @@ pub(super) fn copy_part<T: ByteValued>(value: &T, from: usize, out: &mut [u8])
         copy_bytes(value, from, out);
         return;
     }
-    value.known();
+    value.recall_law();
     let mut piece = [0u8; PIECE];
     let all = &mut piece[..T::size()];
     value.to_slice(all);
@@ -61,7 +61,7 @@ pub(super) fn put_part<T: ByteValued>(value: &mut T, from: usize, data: &[u8])
     ensures { T.bytes value.new ≡ take from (T.bytes value.old) ++ «data».now
         ++ drop (from + length «data».now) (T.bytes value.old) }
 {
-    value.known();
+    value.recall_law();
     if T::size() > PIECE {
         put_bytes(value, from, data);
         return;

@@ -146,7 +146,7 @@ impl MappedRun {
 
     // The part from an address on.
     #[inline(always)]
-    pub(super) fn behind(&self, start: u64) -> MappedRun
+    pub(super) fn part_from(&self, start: u64) -> MappedRun
         requires some { start < self.now.start + self.now.len }
         ensures { result ≡ record self.now { start = start; len = self.now.start + self.now.len - start } }
     {
@@ -170,7 +170,7 @@ impl MappedRun {
         self.end < next.start || (self.end == next.start && !self.is_like(next))
     }
 
-    // The run before another: one run with it where that begins right behind it and is mapped alike.
+    // The run before another: one run with it where that begins right after it and is mapped alike.
     #[inline(always)]
     pub(super) fn joined(&self, next: Option<MappedRun>) -> (MappedRun, Option<MappedRun>)
         ensures joined { result.0 ∷ if_any result.1 ≡ prepended self.now (if_any next) }
@@ -190,7 +190,7 @@ impl MappedRun {
     }
 }
 
-// A run behind the one that reaches it, if there is one: one run with it where they are mapped alike.
+// A run after the one that reaches it, if there is one: one run with it where they are mapped alike.
 #[inline(always)]
 pub(super) fn joined_to(
     left: Option<MappedRun>,

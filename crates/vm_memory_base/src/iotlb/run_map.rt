@@ -6,7 +6,7 @@ ghost use Rattle.vm_memory_base.specs.Change.{EndBelow, StartFrom, AreAscending,
 ghost use Rattle.vm_memory_base.specs.Change.{runs_below, runs_from, with_reset, start_or, with_run, without_first};
 ghost use Rattle.vm_memory_base.specs.Change.{without_range};
 ghost use Rattle.vm_memory_base.specs.Runs.{AddressRun, IsCanonical};
-ghost use Rattle.vm_memory_base.specs.Site.{AreNeighbours, CutsBehind, CutsInFront, IsBehind, IsClear, IsFront};
+ghost use Rattle.vm_memory_base.specs.Site.{AreNeighbours, CutsFrom, CutsInFront, IsClear, IsEdgeFrom, IsFront};
 ghost use Rattle.vm_memory_base.specs.Site.{IsLastBelow, IsReplaced, IsSite};
 ghost use Rattle.vm_memory_base.specs.Table.{Mapping, excess, has_any, same_mapping, canonical_list};
 ghost use Rattle.vm_memory_base.specs.Walk.{HeadEndsAfter};
@@ -194,7 +194,7 @@ impl RunMap {
         }
     }
 
-    // Puts a run, or none, in the place of those that start in a site, and the one behind it, or none, where that
+    // Puts a run, or none, in the place of those that start in a site, and the one after it, or none, where that
     // belongs. Refused, nothing changes.
     #[inline(always)]
     fn put(&mut self, site: &Site, run: Option<MappedRun>) -> Result<(), AllocError>
@@ -202,18 +202,18 @@ impl RunMap {
         requires site { IsSite self.old site.now }
         requires starts { IfSome run (λ r. r.start ≡ site.now.start) }
         ensures ok { OnOk result (self.new ≡ runs_below site.now.start self.old
-            ++ (if_any run ++ (if_any site.now.behind.run ++ runs_from (site.now.end + 1) self.old))) }
+            ++ (if_any run ++ (if_any site.now.back.run ++ runs_from (site.now.end + 1) self.old))) }
         ensures err { OnErr result (self.new ≡ self.old) }
     {
-        let behind = site.behind;
-        let Some(next) = behind.run else {
+        let back = site.back;
+        let Some(next) = back.run else {
             self.put_alone(site, run)?;
-            if behind.stored {
+            if back.stored {
                 self.remove(site.end);
             }
             return Ok(());
         };
-        if behind.stored {
+        if back.stored {
             return self.put_alone(site, run);
         }
         self.insert(next)?;
@@ -329,11 +329,11 @@ impl RunMap {
 
     // The run that has an address, from there on. The runs on both sides of it are known.
     #[inline(always)]
-    fn behind(&self, near: &Neighbours, at: u64) -> Edge
+    fn edge_from(&self, near: &Neighbours, at: u64) -> Edge
         requires kept { IsKept self.now }
         requires near { AreNeighbours self.now at near.now }
-        ensures behind { IsBehind self.now at result }
-        ensures cut { CutsBehind self.now at result }
+        ensures edge { IsEdgeFrom self.now at result }
+        ensures cut { CutsFrom self.now at result }
     {
         let Some(run) = near.last else {
             return Edge {
@@ -348,7 +348,7 @@ impl RunMap {
             };
         }
         Edge {
-            run: Some(run.behind(at)),
+            run: Some(run.part_from(at)),
             stored: run.start() == at,
         }
     }
@@ -362,14 +362,14 @@ impl RunMap {
         requires near { AreNeighbours self.now end near.now }
         requires front { IsFront self.now start front }
         ensures site { IsSite self.now result }
-        ensures cut { CutsBehind self.now end result.behind }
+        ensures cut { CutsFrom self.now end result.back }
         ensures same { (result.start ≡ start) × (result.end ≡ end) × (result.front ≡ front) }
     {
         Site {
             start,
             end,
             front,
-            behind: self.behind(near, end),
+            back: self.edge_from(near, end),
             clear: self.is_clear(near, start, end),
         }
     }
@@ -473,8 +473,8 @@ impl RunMap {
     pub(super) fn asked(&self, start: u64, end: u64) -> Runs<'_>
         requires canonical { IsCanonical same_mapping self.now }
         requires some { start < end }
-        ensures { (front behind : List (AddressRun Mapping)) × (self.now ≡ front ++ (result ++ behind))
-            × EndBelow (start + 1) front × StartFrom end behind × HeadEndsAfter start result }
+        ensures { (front rest : List (AddressRun Mapping)) × (self.now ≡ front ++ (result ++ rest))
+            × EndBelow (start + 1) front × StartFrom end rest × HeadEndsAfter start result }
     {
         let held = self.holder(start);
         Runs {
@@ -488,8 +488,8 @@ impl RunMap {
     pub(super) fn holder_of_all(&self, start: u64, end: u64) -> Option<MappedRun>
         requires canonical { IsCanonical same_mapping self.now }
         requires some { start < end }
-        ensures { IfSome result (λ r. (front behind : List (AddressRun Mapping))
-            × (self.now ≡ front ++ (r ∷ [] ++ behind)) × EndBelow (start + 1) front × StartFrom end behind
+        ensures { IfSome result (λ r. (front rest : List (AddressRun Mapping))
+            × (self.now ≡ front ++ (r ∷ [] ++ rest)) × EndBelow (start + 1) front × StartFrom end rest
             × (r.start ≤ start) × (end ≤ r.start + r.len)) }
     {
         let run = self.holder(start)?;

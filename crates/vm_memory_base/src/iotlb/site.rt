@@ -15,21 +15,21 @@ pub(super) struct Neighbours {
 }
 
 // What lies of a run on one side of an address, and whether a run is stored so: in front of the address one that
-// ends there, and behind it one that starts there.
+// ends there, and after it one that starts there.
 #[derive(Clone, Copy, Debug)]
 pub(super) struct Edge {
     pub(super) run: Option<MappedRun>,
     pub(super) stored: bool,
 }
 
-// The addresses from `start` up to `end`, with what lies in front of them and behind them. It is told to be clear
+// The addresses from `start` up to `end`, with what lies in front of them and after them. It is told to be clear
 // where no run starts between the two.
 #[derive(Clone, Copy, Debug)]
 pub(super) struct Site {
     pub(super) start: u64,
     pub(super) end: u64,
     pub(super) front: Edge,
-    pub(super) behind: Edge,
+    pub(super) back: Edge,
     pub(super) clear: bool,
 }
 
@@ -41,7 +41,7 @@ impl Site {
         requires { run.start ≡ self.now.start }
         ensures site { (rs : List (AddressRun Mapping)) → IsSite rs self.now → IsSite rs result.0 }
         ensures joined { (j : AddressRun Mapping)
-            × (j ∷ if_any result.0.behind.run ≡ prepended run (if_any self.now.behind.run))
+            × (j ∷ if_any result.0.back.run ≡ prepended run (if_any self.now.back.run))
             × (if_any result.0.front.run ++ if_any result.1 ≡ prepended_if_any self.now.front.run (j ∷ [])) }
         ensures same { (result.0.start ≡ self.now.start) × (result.0.end ≡ self.now.end)
             × (start_or result.0.front.run result.0.start ≡ start_or self.now.front.run self.now.start) }
@@ -49,7 +49,7 @@ impl Site {
         ensures room { length (if_any result.1) + length (if_any result.0.front.run)
             ≤ length (if_any self.now.front.run) + 1 }
     {
-        let (joined, behind) = run.joined(self.behind.run);
+        let (joined, back) = run.joined(self.back.run);
         let (front, next) = joined_to(self.front.run, joined);
         let site = Site {
             start: self.start,
@@ -58,9 +58,9 @@ impl Site {
                 run: front,
                 stored: self.front.stored & next.is_some(),
             },
-            behind: Edge {
-                run: behind,
-                stored: self.behind.stored,
+            back: Edge {
+                run: back,
+                stored: self.back.stored,
             },
             clear: self.clear,
         };
@@ -74,7 +74,7 @@ impl MappedRun {
     pub(super) fn stands_alone(&self, near: &Neighbours) -> bool
         ensures before { result ≡ true → IfSome near.now.before (λ l. (l.start + l.len ≤ self.now.start)
             × (l.start + l.len ≡ self.now.start → same_mapping l.value self.now.value ≡ false)) }
-        ensures behind { result ≡ true → IfSome near.now.last (λ r. self.now.start + self.now.len ≡ r.start
+        ensures last { result ≡ true → IfSome near.now.last (λ r. self.now.start + self.now.len ≡ r.start
             → same_mapping self.now.value r.value ≡ false) }
     {
         if let Some(left) = near.before {

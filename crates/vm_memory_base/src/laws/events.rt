@@ -6,6 +6,8 @@ ghost use Rattle.vm_memory_base.specs.Events.{Event, is_left, marks_at, answers_
 /// is lost and none is invented. The pages that the clears returned, with those that are left, are the marked
 /// ones. Each return of a page has a mark of it since the return before. And each mark of a page is followed by
 /// a clear that returns it, or the page is left.
+///
+/// Witness: tests_base_bitmaps::bits_of_ranges
 pub fn event_law()
     ensures told { (history : List Event) (page : ℕ)
         → (((i : ℕ) × (answers_at page false history i ≡ true)) ⊎ (is_left page false history ≡ true))

@@ -69,7 +69,7 @@ pub fn pages_and_marks()
     ensures empty { marked 6 0 (new_pages 4 12) ≡ new_pages 4 12 }
     ensures over_a_boundary { marked 3 2 (new_pages 4 12) ≡ pages_with 4 (true ∷ true ∷ false ∷ []) }
     ensures past_the_last_page { marked 10 100 (new_pages 4 12) ≡ pages_with 4 (false ∷ false ∷ true ∷ []) }
-    ensures behind_the_last_page { marked 12 4 (new_pages 4 12) ≡ new_pages 4 12 }
+    ensures after_the_last_page { marked 12 4 (new_pages 4 12) ≡ new_pages 4 12 }
     ensures not_dirty { is_dirty_at (pages_with 4 (true ∷ true ∷ true ∷ [])) 12 ≡ false }
     ensures pages_of_all_offsets { IsPageSet (pages_with (2 ^ 62) (false ∷ false ∷ false ∷ false ∷ [])) }
     ensures to_the_greatest_offset { let clean = pages_with (2 ^ 62) (false ∷ false ∷ false ∷ false ∷ []) in

@@ -10,6 +10,8 @@ ghost use Rattle.vm_memory_base.specs.Pages.{IsCleanFor};
 
 /// A mark of no bytes changes nothing, and any mark is a mark of each of its bytes, one after another. So marks
 /// of neighbouring ranges are one mark.
+///
+/// Witness: vm_memory::mark_in
 pub fn mark_is_by_bytes()
     ensures empty { (start : ℕ) (set : PageSet) → marked start 0 set ≡ set }
     ensures each { (start len : ℕ) (set : PageSet) → start + len ≤ 2 ^ 64
@@ -20,6 +22,8 @@ pub fn mark_is_by_bytes()
 
 /// A mark keeps the page size and the number of pages. It goes no further than the greatest offset, and changes
 /// nothing past the last page, and nothing at all if no pages are tracked.
+///
+/// Witness: live_migration::writes_mark_what_they_change
 pub fn mark_keeps_shape()
     ensures shape { (start len : ℕ) (set : PageSet) → shape (marked start len set) ≡ shape set }
     ensures pages { (start len : ℕ) (p : Pages) → (q : Pages) × (marked start len (Some p) ≡ Some q)
@@ -37,6 +41,8 @@ pub fn mark_keeps_shape()
 
 /// A byte that is marked is dirty, if its page is one of the set's, and no mark cleans a byte. A mark takes a
 /// page if one of its bytes lies in it, among the offsets of 64 bits, and makes no other page dirty.
+///
+/// Witness: live_migration::writes_mark_what_they_change
 pub fn marked_bytes_are_dirty()
     ensures marked { (start len offset : ℕ) (p : Pages) → 0 < p.page_size
         → is_within start len offset ≡ true → offset < 2 ^ 64 → offset / p.page_size < length p.flags
@@ -70,6 +76,8 @@ pub fn mark_order()
 {}
 
 /// New pages are clean and cover their bytes, and each of these lies in one of them.
+///
+/// Witness: tests_base::clean_bitmap
 pub fn new_pages_cover()
     ensures clean { (size bytes : ℕ) → 0 < size → IsCleanFor bytes (new_pages size bytes) }
     ensures valid { (size bytes : ℕ) → 0 < size → bytes < 2 ^ 64 → IsPageSet (new_pages size bytes) }
@@ -80,6 +88,8 @@ pub fn new_pages_cover()
 {}
 
 /// Cleaning leaves the same pages, none of them dirty. Undoing a mark makes its pages clean, and no others.
+///
+/// Witness: vm_memory::runs_keep_images
 pub fn cleaned_is_clean()
     ensures no_page { (set : PageSet) → dirty_pages (cleaned set) ≡ [] }
     ensures no_byte { (set : PageSet) (offset : ℕ) → is_dirty_at (cleaned set) offset ≡ false }
@@ -98,6 +108,8 @@ pub fn cleaned_is_clean()
 
 /// Exactly the dirty pages are listed, in ascending order. Together with the shape they decide the page
 /// set. Each page is a bit of the words, which have no other bits. If nothing is tracked, nothing is dirty.
+///
+/// Witness: vm_memory::runs_keep_images
 pub fn dirty_pages_are_listed()
     ensures exactly { (p : Pages) (page : ℕ) → Contains (dirty_pages (Some p)) page
         ↔ (slice_index_or p.flags page false ≡ true) }

@@ -6,6 +6,8 @@ ghost use Rattle.vm_memory_base.specs.Permissions.{has_read, has_write, union, i
 ghost use Rattle.vm_memory_base.specs.Runs.{TestsEquality};
 
 /// An access is allowed if each of its bits is permitted, which is an order on sets of permissions.
+///
+/// Witness: tests_base::allow_in_turn
 pub fn allowed_by_bits()
     ensures bits { (a access : Permissions) → (allow a access ≡ true)
         ↔ ((has_read access ≡ true → has_read a ≡ true)

@@ -6,6 +6,8 @@ ghost use Rattle.vm_memory_base.specs.Runs.{AddressRun, TestsEquality, runs, IsC
 /// The runs of a function are canonical. They say what it says of the addresses asked for, and nothing of others.
 /// Functions have the same runs exactly if they agree at each of these, and a canonical list is the list of
 /// the runs of what it says.
+///
+/// Witness: tests_base::runs_of_part
 pub fn runs_decide_the_function<K>()
     ensures canonical { (same : K → K → Bool) → TestsEquality same → (f : ℕ → Option K) (a n : ℕ)
         → IsCanonical same (runs same f a n) }
@@ -21,6 +23,8 @@ pub fn runs_decide_the_function<K>()
 {}
 
 /// Canonical lists that say the same of each address are one list.
+///
+/// Witness: tests_base::runs_of_part
 pub fn canonical_list_is_unique<K>()
     ensures { (same : K → K → Bool) → TestsEquality same → (rs ss : List (AddressRun K)) → IsCanonical same rs
         → IsCanonical same ss → ((x : ℕ) → value_at rs x ≡ value_at ss x) → rs ≡ ss }
@@ -28,6 +32,8 @@ pub fn canonical_list_is_unique<K>()
 
 /// The runs of a part are the runs of the whole, cut to the part. A list that is cut stays canonical, and says of
 /// the part what it said before.
+///
+/// Witness: tests_base::runs_of_part
 pub fn runs_are_cut<K>()
     ensures canonical { (same : K → K → Bool) (a n : ℕ) (rs : List (AddressRun K)) → IsCanonical same rs
         → IsCanonical same (cut_to a n rs) }

@@ -15,6 +15,8 @@ use crate::iotlb::Iotlb;
 
 /// A call changes what is said of the addresses that it covers, and of no other; one of length 0 covers none. So
 /// the last call that covers an address decides what is said of it, and if none does, nothing is changed.
+///
+/// Witness: vm_memory_device::accesses_go_through_what_calls_left
 pub fn last_call_decides()
     ensures elsewhere { (call : TableEvent) (x : ℕ) (old : Option Mapping) → covers call x ≡ false
         → says_after call x old ≡ old }
@@ -40,6 +42,8 @@ pub fn last_call_decides()
 
 /// A range that is set leads, address by address, to the range from its target on, modulo 2 ^ 64. It is one range
 /// with one after it whose targets follow its own, with the same permissions, and one run if the table was new.
+///
+/// Witness: vm_memory_device::accesses_go_through_what_calls_left
 pub fn targets_follow_addresses()
     ensures set { (iova to x : ℕ) (permissions : Permissions) → iova < 2 ^ 64 → iova ≤ x
         → target x (record { difference = difference iova to; permissions = permissions })
@@ -56,6 +60,8 @@ pub fn targets_follow_addresses()
 
 /// Tables have one canonical list exactly if they say the same of each address. `same_mapping` says whether two
 /// mappings are equal.
+///
+/// Witness: tests_base::ranges_there
 pub fn canonical_list_decides_the_table()
     ensures canonical { (f : Says) → IsCanonical same_mapping (canonical_list f) }
     ensures values { (f : Says) (x : ℕ) → x < 2 ^ 64 → value_at (canonical_list f) x ≡ f x }
@@ -70,6 +76,8 @@ pub fn canonical_list_decides_the_table()
 
 /// A kept list that is canonical, and says nothing past the last address, is the canonical list of
 /// what it says.
+///
+/// Witness: tests_base::ranges_there
 pub fn kept_list_is_the_canonical_list()
     ensures by_values { (rs : List (AddressRun Mapping)) → IsCanonical same_mapping rs
         → ((x : ℕ) → 2 ^ 64 ≤ x → value_at rs x ≡ None) → canonical_list (value_at rs) ≡ rs }
@@ -88,6 +96,8 @@ pub fn allowed_where_each_address_grants()
 {}
 
 /// An access is refused for a missing mapping if anything is missed, and otherwise for its permissions.
+///
+/// Witness: tests_base::refusal_of
 pub fn reason_of_a_refusal()
     ensures missing { (f : Says) (a n : ℕ) → (misses f a n ≡ [] → ⊥) → reason f a n ≡ MissingMapping }
     ensures not_allowed { (f : Says) (a n : ℕ) → misses f a n ≡ [] → reason f a n ≡ AccessNotAllowed }
@@ -95,6 +105,8 @@ pub fn reason_of_a_refusal()
 
 /// The pieces of a look-up are the canonical list, cut to the addresses asked for, and the failures the runs of
 /// these whose mapping forbids the access.
+///
+/// Witness: tests_base::ranges_there
 pub fn pieces_are_cut()
     ensures runs { (f : Says) (a n : ℕ) → a + n ≤ 2 ^ 64
         → runs same_mapping f a n ≡ cut_to a n (canonical_list f) }
@@ -112,6 +124,8 @@ pub fn pieces_are_cut()
 /// many addresses as are asked for. An access is allowed exactly if its look-up has no miss and no failure; an
 /// empty range that begins past the last address is allowed though it is missed. A test passes at each address
 /// exactly if it passes at the addresses one by one.
+///
+/// Witness: tests_base::grants
 pub fn look_up_by_addresses()
     ensures targets { (f : Says) (a n : ℕ) → flat_map addresses (pieces f a n)
         ≡ flat_map (λ x. target_if_any x (f x)) (numbers a n) }
@@ -134,6 +148,8 @@ pub fn look_up_by_addresses()
 /// A call of a table with a limit may lead to evictions, and one of a table without a limit leads to none. A table
 /// never has more ranges than its limit. What is evicted is a miss, and never leads elsewhere than before. What a
 /// call set stays. Calls and the evictions that they led to decide what a table says after them.
+///
+/// Witness: vm_memory_device::accesses_go_through_what_calls_left
 pub fn tables_keep_to_their_limits()
     ensures unbounded { (call : TableEvent) (t : Table) → t.limit ≡ None → events call t ≡ call ∷ [] }
     ensures within { (call : TableEvent) (t : Table) (limit : ℕ) → t.limit ≡ Some limit → 0 < limit
@@ -150,6 +166,8 @@ pub fn tables_keep_to_their_limits()
 
 /// Two tables of one limit that say the same of each address are equal: they keep the same ranges, and give every
 /// look-up the same result.
+///
+/// Witness: tests_base::forgotten
 pub fn tables_that_say_the_same(a: &Iotlb, b: &Iotlb)
     ensures same { a.now.limit ≡ b.now.limit → ((x : ℕ) → x < 2 ^ 64 → says a.now x ≡ says b.now x)
         → a.now ≡ b.now }

@@ -77,6 +77,8 @@ pub fn what_sinks_take()
 
 /// If what a source does next is known, a buffer that it fills by repeated reads is computed, and so are the result
 /// and what it does then.
+///
+/// Witness: tests_base::fill
 pub fn fills_are_computed<S: ReadVolatile>()
     ensures { (old new : _) (buf after : List ℕ) (answer : Result (Unit {0}) ReadExactFault)
         → FillsBy S.source S.reads S.known_left old buf answer after new
@@ -85,6 +87,8 @@ pub fn fills_are_computed<S: ReadVolatile>()
 
 /// If what a sink does next is known, what comes of bytes that are offered by tries is computed, or its allocation
 /// failed, and what it keeps are the first bytes. A sink that never fails to allocate does not come to do so.
+///
+/// Witness: tests_base::offer
 pub fn offers_are_computed<S: WriteVolatile>()
     ensures { (old new : _) (bytes : List ℕ) (answer : Answer)
         → Again (TakesOnce S.sink S.taken S.may_want S.writes bytes) old answer new
@@ -93,6 +97,8 @@ pub fn offers_are_computed<S: WriteVolatile>()
 {}
 
 /// The same for bytes that are sent by tries of the rest.
+///
+/// Witness: tests_base::send
 pub fn sends_are_computed<S: WriteVolatile>()
     ensures { (old new : _) (bytes : List ℕ) (count : ℕ) (answer : Result (Unit {0}) VolatileMemoryError)
         → SendsBy (TakesOnce S.sink S.taken S.may_want S.writes) old bytes count answer new
@@ -101,6 +107,8 @@ pub fn sends_are_computed<S: WriteVolatile>()
 {}
 
 /// A vector that is sent bytes gets all of them, or none if the allocation failed. So it holds whole pieces.
+///
+/// Witness: tests_base::keep
 pub fn vectors_take_whole_pieces()
     ensures { let w = ⟦<Vec<u8> as WriteVolatile>⟧ in (old new : _) (bytes : List ℕ) (count : ℕ)
         (answer : Result (Unit {0}) VolatileMemoryError)

@@ -2,7 +2,7 @@
 ghost use Rattle.std.specs.Prelude.{◌≡◌, ◌+◌, ◌<◌, ◌≤◌, ◌^◌, [], length, min, take, drop, None, Some, All, IfOk};
 ghost use Rattle.std.specs.Prelude.{MatchOption, MatchResult};
 ghost use Rattle.vm_memory_guest.specs.Host.{shape_of, Holds};
-ghost use Rattle.vm_memory_device.specs.Chain.{ReadsText, WritesText, access_len, chain_fault, fault_behind, text};
+ghost use Rattle.vm_memory_device.specs.Chain.{ReadsText, WritesText, access_len, chain_fault, fault_past, text};
 ghost use Rattle.vm_memory_device.specs.ChainText.{Divides, Fits, GoesOn, IsNext, IsPlace, entries};
 
 use super::{ChainFault, Segment};
@@ -49,8 +49,8 @@ pub(super) fn divided(segments: &[Segment]) -> Result<Division, ChainFault>
 #[inline(always)]
 fn total_with(segment: &Segment, writes: bool, total: u32) -> Result<u32, ChainFault>
     ensures { MatchResult result
-        (λ sum. (fault_behind writes total segment.now ≡ None) × Fits segment.now × (sum ≡ total + segment.now.len))
-        (λ fault. fault_behind writes total segment.now ≡ Some fault) }
+        (λ sum. (fault_past writes total segment.now ≡ None) × Fits segment.now × (sum ≡ total + segment.now.len))
+        (λ fault. fault_past writes total segment.now ≡ Some fault) }
 {
     if segment.addr.0.checked_add(u64::from(segment.len)).is_none() {
         return Err(ChainFault::Range);
@@ -67,7 +67,7 @@ fn total_with(segment: &Segment, writes: bool, total: u32) -> Result<u32, ChainF
 pub(super) struct Text<'c> {
     addr: u64,
     rest: u32,
-    behind: &'c [Segment],
+    later: &'c [Segment],
     left: usize,
 }
 
@@ -78,10 +78,10 @@ impl<'c> Model for Text<'c> {
 
     ghost Value = { List Entry };
 
-    ghost view = { λ t. entries t.addr t.rest t.behind.now };
+    ghost view = { λ t. entries t.addr t.rest t.later.now };
 
     ghost invariant = { λ t.
-        IsPlace t.addr t.rest t.behind.now × (t.left ≡ length (entries t.addr t.rest t.behind.now)) };
+        IsPlace t.addr t.rest t.later.now × (t.left ≡ length (entries t.addr t.rest t.later.now)) };
 }
 
 impl<'c> Text<'c> {
@@ -92,11 +92,11 @@ impl<'c> Text<'c> {
         requires len { len ≡ length (text segments.now) }
         ensures { result ≡ text segments.now }
     {
-        let (addr, rest, behind) = beginning(segments);
+        let (addr, rest, later) = beginning(segments);
         Text {
             addr,
             rest,
-            behind,
+            later,
             left: len,
         }
     }
@@ -133,10 +133,10 @@ impl<'c> Text<'c> {
             self.rest -= count as u32;
             return;
         }
-        let (addr, rest, behind) = beginning(self.behind);
+        let (addr, rest, later) = beginning(self.later);
         self.addr = addr;
         self.rest = rest;
-        self.behind = behind;
+        self.later = later;
     }
 
     // Skips `count` bytes, or all that are left if these are fewer, and returns how many it skipped.
@@ -230,12 +230,12 @@ fn beginning(segments: &[Segment]) -> (u64, u32, &[Segment])
     ensures text { entries result.0 result.1 result.2.now ≡ text segments.now }
     ensures place { IsPlace result.0 result.1 result.2.now }
 {
-    let mut behind = segments;
-    while let Some((first, others)) = behind.split_first() {
-        behind = others;
+    let mut later = segments;
+    while let Some((first, others)) = later.split_first() {
+        later = others;
         if first.len != 0 {
-            return (first.addr.0, first.len, behind);
+            return (first.addr.0, first.len, later);
         }
     }
-    (0, 0, behind)
+    (0, 0, later)
 }

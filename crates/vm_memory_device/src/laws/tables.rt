@@ -31,6 +31,8 @@ pub fn tables_say_what_calls_left()
 /// Behind an IOMMU that is on, whose table calls changed, an access reaches each byte through the mapping that was set
 /// last for its address and not invalidated or evicted since. What the table said before the calls counts as set
 /// before them.
+///
+/// Witness: vm_memory::accesses_go_through_what_was_set_last
 pub fn accesses_go_through_what_calls_left()
     ensures all { (tables : List Table) (m : Memory) (b : Translation) (t : Table) (calls : List TableEvent)
         (a n i : ℕ) (access : Permissions) (x : Reached) → behind_of m.iommu ≡ Some b

@@ -18,9 +18,7 @@ ghost use Rattle.vm_memory_guest.specs.Region.{containing_region, layout_error, 
 ghost use Rattle.vm_memory_guest.specs.Window.{window_names};
 ghost use Rattle.vm_memory_guest.specs.declared.mmap.FromRangesError.TheVariants.{MmapRegion, InvalidGuestRegion};
 ghost use Rattle.vm_memory_guest.specs.declared.host.MmapRegionError.TheVariants.{InvalidSize};
-ghost use Rattle.vm_memory_guest.specs.declared.region.error.GuestRegionCollectionError.TheVariants.{MemoryRegionOverlap};
-ghost use Rattle.vm_memory_guest.specs.declared.region.error.GuestRegionCollectionError.TheVariants.{NoMemoryRegion};
-ghost use Rattle.vm_memory_guest.specs.declared.region.error.GuestRegionCollectionError.TheVariants.{UnsortedMemoryRegions};
+ghost use Rattle.vm_memory_guest.specs.declared.region.error.GuestRegionCollectionError.TheVariants as errors;
 
 /// A host holds a place of a block that ends with the block, and none that goes past it; a window is held if
 /// its place and its bitmap are. A memory names the places of its regions' bytes, and its table and its space, even
@@ -48,15 +46,15 @@ pub fn layouts_of_regions()
     ensures greatest { IsRegion (backed_region (2 ^ 64 - 4) 4 1 0) }
     ensures past_the_greatest { IsRegion (backed_region (2 ^ 64 - 3) 4 1 0) → ⊥ }
     ensures no_address { IsRegion (backed_region 0 0 1 0) → ⊥ }
-    ensures no_region { layout_error [] ≡ Some NoMemoryRegion }
-    ensures unsorted { layout_error (two_regions 8 4) ≡ Some UnsortedMemoryRegions }
-    ensures last_address_shared { layout_error (two_regions 0 3) ≡ Some MemoryRegionOverlap }
+    ensures no_region { layout_error [] ≡ Some errors.NoMemoryRegion }
+    ensures unsorted { layout_error (two_regions 8 4) ≡ Some errors.UnsortedMemoryRegions }
+    ensures last_address_shared { layout_error (two_regions 0 3) ≡ Some errors.MemoryRegionOverlap }
     ensures touching { layout_error touching_regions ≡ None }
     ensures first_of_two { layout_error (two_regions 4 4 ++ backed_region 0 4 2 0 ∷ [])
-        ≡ Some MemoryRegionOverlap }
+        ≡ Some errors.MemoryRegionOverlap }
     ensures found { containing_region touching_regions 4 ≡ Some (backed_region 4 4 1 0) }
     ensures not_found { containing_region touching_regions 8 ≡ None }
-    ensures put_behind { inserted (λ r. r) (two_regions 0 8) (backed_region 0 2 2 0)
+    ensures put_after { inserted (λ r. r) (two_regions 0 8) (backed_region 0 2 2 0)
         ≡ backed_region 0 4 0 0 ∷ backed_region 0 2 2 0 ∷ backed_region 8 4 1 0 ∷ [] }
     ensures taken { removed (λ r. r) (two_regions 0 8) 8 4
         ≡ Some (backed_region 0 4 0 0 ∷ [], backed_region 8 4 1 0) }

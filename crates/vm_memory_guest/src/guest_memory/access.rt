@@ -138,7 +138,7 @@ impl<T: GuestMemory> Bytes<GuestAddress> for T {
         let mut value = V::zeroed();
         let completed = read_value(walk, host, &mut value)?;
         whole(size, completed)?;
-        value.known();
+        value.recall_law();
         Ok(value)
     }
 
@@ -344,7 +344,7 @@ fn write_value<M: GuestMemoryBackend, V: ByteValued, B: Bitmap>(
         result ≡ ended (span walk.windows) (option_map error_of walk.fault) }
     ensures bytes { Writes B.marks walk.entry.windows (V.bytes value.now) host.old host.new }
 {
-    value.known();
+    value.recall_law();
     let mut total = 0;
     for item in walk {
         match item {

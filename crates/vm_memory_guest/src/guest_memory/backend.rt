@@ -43,7 +43,7 @@ pub trait GuestMemoryBackend: Named + Drop {
 
     /// Does nothing. A proof learns from it that the regions are a layout.
     #[inline]
-    fn known(&self)
+    fn recall_law(&self)
         ensures { IsLayout (map Self.R.region (regions self.now)) }
     {
         self.num_regions();
@@ -198,7 +198,7 @@ pub trait GuestMemoryBackend: Named + Drop {
             let offset = current.0 - region.start_addr().0;
             let len = (region.len() - offset).min((count - total) as u64);
             let handled = f(total, len as usize, MemoryRegionAddress(offset), region)?;
-            let next = behind(count, total, current, handled)?;
+            let next = next_address(count, total, current, handled)?;
             total += handled;
             let Some(next) = next else {
                 return Ok(total);
@@ -327,10 +327,10 @@ fn known_address(addr: GuestAddress)
     let _bits = addr.0;
 }
 
-// The address behind what a callback handled of an access of `count` bytes, or `None` where that was nothing or
+// The address after what a callback handled of an access of `count` bytes, or `None` where that was nothing or
 // all that was left.
 #[inline]
-fn behind(
+fn next_address(
     count: usize,
     total: usize,
     addr: GuestAddress,

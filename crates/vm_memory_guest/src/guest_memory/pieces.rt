@@ -13,10 +13,10 @@ use crate::volatile_memory::slice::VolatileSlice;
 use std::marker::Model;
 use vm_memory_base::{Address, BitmapId, BitmapRef, GuestAddress, MappedRangeList};
 
-// The pieces that a walk has left behind the one that it goes through, and the space that its windows mark,
+// The pieces that a walk has left after the one that it goes through, and the space that its windows mark,
 // from an address on.
 #[derive(Drop)]
-pub(super) struct PiecesBehind<'a, M: GuestMemoryBackend> {
+pub(super) struct LaterPieces<'a, M: GuestMemoryBackend> {
     mem: &'a M,
     pieces: MappedRangeList,
     next: usize,
@@ -24,7 +24,7 @@ pub(super) struct PiecesBehind<'a, M: GuestMemoryBackend> {
     iova: GuestAddress,
 }
 
-impl<'a, M: GuestMemoryBackend> Model for PiecesBehind<'a, M> {
+impl<'a, M: GuestMemoryBackend> Model for LaterPieces<'a, M> {
     ghost use Rattle.std.specs.Prelude.{drop, map};
     ghost use Rattle.vm_memory_guest.specs.Pieces.{PiecesLeft};
 
@@ -38,7 +38,7 @@ impl<'a, M: GuestMemoryBackend> Model for PiecesBehind<'a, M> {
     } };
 }
 
-impl<'a, M: GuestMemoryBackend> PiecesBehind<'a, M> {
+impl<'a, M: GuestMemoryBackend> LaterPieces<'a, M> {
     // What a walk through these pieces has before it.
     #[inline(always)]
     pub(super) fn new(
@@ -46,7 +46,7 @@ impl<'a, M: GuestMemoryBackend> PiecesBehind<'a, M> {
         pieces: MappedRangeList,
         iova: GuestAddress,
         space: SpaceId,
-    ) -> PiecesBehind<'a, M>
+    ) -> LaterPieces<'a, M>
         ensures { result ≡ record {
           regions = map M.R.region (M.regions mem.now);
           pieces = pieces;
@@ -54,7 +54,7 @@ impl<'a, M: GuestMemoryBackend> PiecesBehind<'a, M> {
           iova = iova.0;
         } }
     {
-        PiecesBehind {
+        LaterPieces {
             mem,
             pieces,
             next: 0,
@@ -79,13 +79,13 @@ impl<'a, M: GuestMemoryBackend> PiecesBehind<'a, M> {
         Some(self.mem.get_slices(piece.base, piece.length))
     }
 
-    // A window that comes next marks the space, and what is left marks it from behind the window on.
+    // A window that comes next marks the space, and what is left marks it from the end of the window on.
     #[inline(always)]
     fn marked(&mut self, window: VolatileSlice) -> VolatileSlice
         ensures window { result ≡ record window {
           bitmap = record { id = bitmaps.Space self.old.space; base = self.old.iova };
         } }
-        ensures behind { self.new ≡ record self.old { iova = step self.old.iova window.size } }
+        ensures later { self.new ≡ record self.old { iova = step self.old.iova window.size } }
     {
         let bitmap = BitmapRef {
             id: BitmapId::Space(self.space.0),
@@ -104,25 +104,25 @@ impl<'a, M: GuestMemoryBackend> PiecesBehind<'a, M> {
     }
 }
 
-// What comes next, of the piece that a walk goes through or of those behind it. It is inlined, so that a walk that
+// What comes next, of the piece that a walk goes through or of those after it. It is inlined, so that a walk that
 // has no pieces stays in registers.
 #[inline(always)]
 pub(super) fn next_of_pieces<'a, M: GuestMemoryBackend>(
     walk: &mut GuestMemoryBackendSliceIterator<'a, M>,
-    behind: &mut PiecesBehind<'a, M>,
+    later: &mut LaterPieces<'a, M>,
 ) -> Option<GuestMemoryResult<VolatileSlice>>
-    ensures { YieldsFirst items_of (left_of walk.old (Some behind.old)) result
-        (left_of walk.new (Some behind.new)) }
+    ensures { YieldsFirst items_of (left_of walk.old (Some later.old)) result
+        (left_of walk.new (Some later.new)) }
 {
     'pieces: loop {
         match walk.next() {
-            Some(Ok(window)) => return Some(Ok(behind.marked(window))),
+            Some(Ok(window)) => return Some(Ok(later.marked(window))),
             Some(Err(error)) => {
-                behind.end();
+                later.end();
                 return Some(Err(error));
             }
             None => {
-                *walk = behind.next_walk()?;
+                *walk = later.next_walk()?;
             }
         }
     }

@@ -115,7 +115,7 @@ pub(super) fn value_in<T: ByteValued>(bytes: &[u8], k: usize) -> T
     let start = k * size;
     let mut value = T::zeroed();
     value.set_bytes(0, &bytes[start..start + size]);
-    value.known();
+    value.recall_law();
     value
 }
 
@@ -127,7 +127,7 @@ fn put_value_at<T: ByteValued>(place: &mut [u8], value: &T, k: usize)
         → take ((k + 1) * T.width) place.new ≡ take (k * T.width) place.old ++ T.bytes value.now }
 {
     let size = T::size();
-    value.known();
+    value.recall_law();
     let start = k * size;
     value.copy_bytes(0, &mut place[start..start + size]);
 }

@@ -23,7 +23,7 @@ impl<B> HostMemory<B> {
         ensures held { Holds (shape_of self.now) (window_names result) }
         ensures short { offset + len < 2 ^ 63 }
     {
-        self.known();
+        self.recall_law();
         VolatileSlice::of_block(block, offset, len)
     }
 
@@ -215,7 +215,7 @@ impl<B> HostMemory<B> {
     {
         let mut value = T::zeroed();
         value.set_bytes(0, self.bytes(window));
-        value.known();
+        value.recall_law();
         value
     }
 }

@@ -22,6 +22,8 @@ pub fn written_is_read_back()
 {}
 
 /// Bytes that no cell names stay, and so does the length of each block.
+///
+/// Witness: vm_memory::runs_keep_images
 pub fn other_bytes_stay()
     ensures bytes { (cells : List Cell) (bytes : List ℕ) (blocks : List (List ℕ)) (cell : Cell)
         → (Contains cells cell → ⊥) → byte_at (written cells bytes blocks) cell ≡ byte_at blocks cell }
@@ -72,6 +74,8 @@ pub fn other_pages_stay()
 }
 
 /// The page of each byte of the path is dirty after a write, if there is one.
+///
+/// Witness: vm_memory::runs_keep_images
 pub fn named_pages_are_dirty()
     ensures { (xs : List Reached) (bytes : List ℕ) (x : Reached) (host : Host PageSet) (p : Pages)
         → Contains xs x → x.mark < 2 ^ 64 → pages_at x.bitmap host ≡ Some p
@@ -83,6 +87,8 @@ pub fn named_pages_are_dirty()
 }
 
 /// A write to a path leaves its bytes, whatever it marks, and no write makes a page clean.
+///
+/// Witness: vm_memory::runs_keep_images
 pub fn dirt_stays()
     ensures bytes { (xs : List Reached) (bytes : List ℕ) (host : Host PageSet)
         → (after_write xs bytes host).blocks ≡ written (path_cells xs) bytes host.blocks }

@@ -11,7 +11,7 @@ use crate::host::HostMemory;
 pub fn blocks_are_short<B>(host: &HostMemory<B>)
     ensures { (block : ℕ) → length (block_at host.now.blocks block) < 2 ^ 63 }
 {
-    host.known();
+    host.recall_law();
 }
 
 /// Names are held if each of them is, and two lists one after the other if both are.
@@ -22,6 +22,8 @@ pub fn names_are_held_one_by_one()
 {}
 
 /// Regions are held if each of them is, and so are any of those that are held, in any order.
+///
+/// Witness: test_machines::are_held
 pub fn regions_are_held_one_by_one()
     ensures each { (shape : Shape) (regions : List Region)
         → Holds shape (flat_map region_names regions) ↔ All (λ r. Holds shape (region_names r)) regions }

@@ -7,6 +7,8 @@ ghost use Rattle.vm_memory_guest.specs.Region.{Region, IsRegion, last, has_addre
 ghost use Rattle.vm_memory_guest.specs.Region.{neighbours_of, layout_error, IsLayout};
 
 /// At most one region of a layout holds an address: two places that hold it are the same place.
+///
+/// Witness: vm_memory::runs_keep_layouts
 pub fn one_region_holds_an_address()
     ensures { (rs : List Region) → All IsRegion rs → IsLayout rs →
         (i j a : ℕ) (d : Region) → i < length rs → j < length rs →
@@ -15,6 +17,8 @@ pub fn one_region_holds_an_address()
 
 /// The regions that pass the tests are the layouts of at least one region, and a layout is ascending and
 /// disjoint: each region ends below the start of every later one. The error of regions is the first one of neighbours.
+///
+/// Witness: vm_memory::runs_keep_layouts
 pub fn layouts_pass_the_tests()
     ensures passes { (rs : List Region) → All IsRegion rs →
         (layout_error rs ≡ None) ↔ ((0 < length rs) × IsLayout rs) }

@@ -37,6 +37,8 @@ pub fn loads_and_stores_are_by_bytes<B: ExactBitmap>()
 
 /// A copy to a window that marks its own block's bitmap at its own place, in a host with exact bitmaps, is
 /// the copy of its bytes: each takes what the other had before, and its dirt.
+///
+/// Witness: vm_memory::copy_in
 pub fn copies_are_by_bytes<B: ExactBitmap>()
     ensures { (from to : Window) (old new : Host B)
         → to.bitmap ≡ record { id = Block to.block.0; base = to.offset } → to.offset + to.size ≤ 2 ^ 64

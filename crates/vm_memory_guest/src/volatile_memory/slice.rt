@@ -394,7 +394,7 @@ impl Bytes<usize> for VolatileSlice {
         let expected = T::size();
         if expected == 0 {
             let value = T::zeroed();
-            value.known();
+            value.recall_law();
             return Ok(value);
         }
         let window = self.reached(addr, expected)?;

@@ -3,7 +3,7 @@ use Rattle.vm_memory_guest.specs.Host.{block_at}
 use Rattle.vm_memory_guest.specs.Window.{MarksOne}
 use Rattle.live_migration.specs.Image.{are_zero, page_bytes}
 use Rattle.live_migration.specs.Placing.{HasPlaced}
-use Rattle.live_migration.proofs.BareLemmas.{bare_applies, bare_behind, bare_tells, bare_zeros}
+use Rattle.live_migration.proofs.BareLemmas.{bare_after, bare_applies, bare_tells, bare_zeros}
 use Rattle.live_migration.proofs.PlacingLemmas.{pages_apply, zeros_apply}
 use Rattle.live_migration.proofs.placing.apply.Goals as goal
 
@@ -61,7 +61,7 @@ returns-in_ok-end-in-Pages-clause-bare g c =
     subst (λ (b : ℕ). HasPlaced old new b at bytes) c.in_ok-id-in-Pages.ensures.number
     c.in_ok-end-in-Pages.ensures.ok in
     let len : length next ≡ length c.args.bare.now = omega (arith, c.note_written.auto.bare) in
-    bare_behind c.args.base block at old new bytes c.args.bare.now next has c.requires.bare len
+    bare_after c.args.base block at old new bytes c.args.bare.now next has c.requires.bare len
     c.note_written.ensures.others c.note_written.ensures.kept
     (λ (l : block < length c.args.bare.now). subst (λ (e : ℕ). e ≤ get_or next block 0)
     c.in_ok-end-in-Pages.ensures.end (c.note_written.ensures.end l))

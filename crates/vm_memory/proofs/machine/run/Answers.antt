@@ -1,6 +1,6 @@
 use Rattle.std.proofs.Common.{◌≡◌, List, ◌++◌, ◌∷◌, [], ◌^◌, ◌<◌, length, take, subst, arith}
 use Rattle.std.proofs.lemmas.List.{take_all, take_more, append_assoc}
-use Rattle.vm_memory.specs.History.{ReachesAsTold}
+use Rattle.vm_memory.specs.History.{AccessesFollowTables}
 use Rattle.vm_memory.specs.Inside.{parts_of}
 use Rattle.vm_memory.specs.Lawful.{IsLawful}
 use Rattle.vm_memory.specs.Machine.{Run}
@@ -49,7 +49,7 @@ returns-clause-ran g c =
     let layouts = c.runs_keep_layouts.ensures in
     let set_last = c.accesses_go_through_what_was_set_last.ensures.all in
     let reaches : (ds : List Command) (qs : List Reply) (s : State) → Run before ds qs s
-    → ReachesAsTold before ds qs s =
+    → AccessesFollowTables before ds qs s =
     λ ds qs s made.
     let here = layouts.kept before s ds qs lawful made in
     record {
@@ -61,7 +61,7 @@ returns-clause-ran g c =
       ran.0,
       ran.1,
       run,
-      at_each_state (ReachesAsTold before) before commands ran.0 after run reaches,
+      at_each_state (AccessesFollowTables before) before commands ran.0 after run reaches,
       λ block tracked direct.
           let short : length (bytes_of_block block before.host) < 2 ^ 63 =
           rw (← c.machine.view_is) (c.blocks_are_short.ensures block) in

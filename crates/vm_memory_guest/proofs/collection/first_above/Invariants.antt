@@ -6,6 +6,7 @@ use Rattle.vm_memory_guest.proofs.collection.first_above.Given as goal
 -- the digits that are left are those of size
 abbrev pub invariant-loop-size : goal.invariant-loop-size
 invariant-loop-size l = record {
+  some : 0 < l.size;
   within : l.next + l.size ≤ length l.starts;
   below : (k : ℕ) → k < l.next → get_or l.starts k 0 ≤ l.addr;
   above : (k : ℕ) → l.next + l.size ≤ k → k < length l.starts → l.addr < get_or l.starts k 0;

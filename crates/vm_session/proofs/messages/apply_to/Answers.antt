@@ -8,10 +8,10 @@ use Rattle.vm_session.proofs.messages.apply_to.Goals as goal
 pub returns-in-Ok : goal.returns-in-Ok
 returns-in-Ok g c =
     message_done g.R.GuestMemoryRegion.region g.I.Iommu.number g.B.ExactBitmap.pages c.args.machine.now
-    c.lend.new.self _ c.lend.new.work c.args.memory c.in-Ok.field-0 c.in-Ok.ensures
+    c.with_memory.new.self _ c.with_memory.new.step c.args.memory c.in-Ok.field-0 c.in-Ok.ensures
 
 pub returns : goal.returns
 returns g c =
     message_refused g.R.GuestMemoryRegion.region g.I.Iommu.number g.B.ExactBitmap.pages c.args.machine.now
-    c.lend.new.self _ c.lend.new.work c.args.memory c.in-Err.refusal c.in-Err.ensures c.refused.result
+    c.with_memory.new.self _ c.with_memory.new.step c.args.memory c.in-Err.refusal c.in-Err.ensures c.refused.result
     (λ e. c.refused.ensures ∙ ap (λ (r : Refusal). answer_of (reply_of_refusal r)) e)

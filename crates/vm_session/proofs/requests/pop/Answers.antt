@@ -1,5 +1,5 @@
 use Rattle.std.proofs.Common.{refl, rules}
-use Rattle.vm_session.specs.DeviceSteps.{Still}
+use Rattle.vm_session.specs.MemorySteps.{Still}
 use Rattle.vm_session.specs.Queues.{Pops}
 use Rattle.vm_session.specs.SessionState.{DeviceQueue}
 use Rattle.vm_session.specs.declared.call.Answer.{Answer}
@@ -10,13 +10,13 @@ use Rattle.vm_session.proofs.requests.pop.Goals as goal
 pub returns-in-Ok : goal.returns-in-Ok
 returns-in-Ok g c input out =
     let marks = g.B.Bitmap.marks in
-    let work = c.lend.new.work in
+    let step = c.with_memory.new.step in
     let host = c.args.machine.now.host in
     work_done g.R.GuestMemoryRegion.region g.I.Iommu.number marks g.B.ExactBitmap.pages
     g.met.B.ExactBitmap.marks_pages (PopDoes marks) kind.Pop c.args.call.now input c.args.machine.now
-    c.lend.new.self _ work c.args.queue.now _ out out _ c.in-Ok.field-0 c.in-Ok.ensures (λ m d. (
-      left_in_two work.queue.now d.0 work.answer.now d.1
-          (λ (q : DeviceQueue) (a : Answer). Pops (Still marks m) c.args.queue.now host a q c.lend.new.self.host)
+    c.with_memory.new.self _ step c.args.queue.now _ out out _ c.in-Ok.field-0 c.in-Ok.ensures (λ m d. (
+      left_in_two step.queue.now d.0 step.answer.now d.1
+          (λ (q : DeviceQueue) (a : Answer). Pops (Still marks m) c.args.queue.now host a q c.with_memory.new.self.host)
           (search rules) (search rules) d.2,
       refl,
     ))

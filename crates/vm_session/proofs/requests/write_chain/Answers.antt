@@ -8,14 +8,14 @@ use Rattle.vm_session.proofs.requests.write_chain.Goals as goal
 pub returns-in-Ok : goal.returns-in-Ok
 returns-in-Ok g c out =
     let marks = g.B.Bitmap.marks in
-    let work = c.lend.new.work in
+    let step = c.with_memory.new.step in
     let host = c.args.machine.now.host in
     work_done g.R.GuestMemoryRegion.region g.I.Iommu.number marks g.B.ExactBitmap.pages
     g.met.B.ExactBitmap.marks_pages (WriteDoes marks) kind.WriteChain c.args.call.now c.args.input.now c.args.machine.now
-    c.lend.new.self _ work c.args.queue.now c.args.queue.now out out _ c.in-Ok.field-0 c.in-Ok.ensures (λ m d. (
-      left_in_one work.answer.now d.0
+    c.with_memory.new.self _ step c.args.queue.now c.args.queue.now out out _ c.in-Ok.field-0 c.in-Ok.ensures (λ m d. (
+      left_in_one step.answer.now d.0
           (λ (a : Answer). WritesChain marks m c.args.queue.now c.args.call.now.third c.args.call.now.address
-          c.args.input.now host a c.lend.new.self.host) (search rules) d.1,
+          c.args.input.now host a c.with_memory.new.self.host) (search rules) d.1,
       refl,
       refl,
     ))

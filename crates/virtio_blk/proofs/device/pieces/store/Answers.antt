@@ -12,8 +12,8 @@ loop-moved-init g c =
 pub store_piece-requires-clause-placed : goal.store_piece-requires-clause-placed
 store_piece-requires-clause-placed g c =
     let l = c.loop-moved in
-    placed_then c.args.start c.data_behind-here.result c.args.reader.now l.reader l.moved c.requires.placed
-    c.data_behind-here.ensures l.invariant.place l.invariant.most
+    placed_then c.args.start c.data_from-here.result c.args.reader.now l.reader l.moved c.requires.placed
+    c.data_from-here.ensures l.invariant.place l.invariant.most
 
 pub returns-in-Err : goal.returns-in-Err
 returns-in-Err g c =

@@ -1,6 +1,6 @@
 use Rattle.std.proofs.lemmas.Result.{err_from_is_err_and}
 use Rattle.virtio_queue.proofs.LookLemmas.{pop_found, pop_refused, then_fails}
-use Rattle.virtio_queue.specs.Popping.{chain_behind, next_head}
+use Rattle.virtio_queue.specs.Popping.{chain_after, next_head}
 use Rattle.virtio_queue.proofs.queue.Queue.pop_from.Goals as goal
 
 pub returns-in_err-head-clause-looks : goal.returns-in_err-head-clause-looks
@@ -8,7 +8,7 @@ returns-in_err-head-clause-looks g c =
     let q = c.self.inside.state in
     let p = err_from_is_err_and c.from_residual.result c.from_residual.ensures.1 in
     rw (p.1, p.2) (rw (← c.self.view_is)
-    (then_fails g.L.Looks.looks (next_head q) (chain_behind q) c.args.looks.now c.next_head.new.looks
+    (then_fails g.L.Looks.looks (next_head q) (chain_after q) c.args.looks.now c.next_head.new.looks
     c.in_err-head.field-0.0 c.in_err-head.ensures.head))
 
 pub returns-in_err-chain-clause-looks : goal.returns-in_err-chain-clause-looks

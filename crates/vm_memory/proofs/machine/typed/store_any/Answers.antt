@@ -16,7 +16,7 @@ returns-in-Ok-clause-stored g c =
     let a = c.args.addr.0 in
     let n = g.T.ByteSized.width in
     let bytes = g.T.ByteValued.bytes c.args.value in
-    let len : length bytes ≡ n = g.met.T.ByteValued.laws.length_bytes c.args.value c.known.ensures in
+    let len : length bytes ≡ n = g.met.T.ByteValued.laws.length_bytes c.args.value c.recall_law.ensures in
     let laws = c.loads_and_stores_are_by_bytes.ensures in
     let each = g.met.M.GuestMemory.each_fits c.args.memory.now in
     store_is m (with_pages pages host) (with_pages pages new) a n bytes len
@@ -35,7 +35,7 @@ returns-in-Err-clause-stored g c =
     let a = c.args.addr.0 in
     let n = g.T.ByteSized.width in
     let bytes = g.T.ByteValued.bytes c.args.value in
-    let len : length bytes ≡ n = g.met.T.ByteValued.laws.length_bytes c.args.value c.known.ensures in
+    let len : length bytes ≡ n = g.met.T.ByteValued.laws.length_bytes c.args.value c.recall_law.ensures in
     let laws = c.loads_and_stores_are_by_bytes.ensures in
     let each = g.met.M.GuestMemory.each_fits c.args.memory.now in
     rw c.from.ensures

@@ -1,10 +1,10 @@
 -- What was read so far stands before what is left.
 use Rattle.std.proofs.Common.{◌≡◌, length}
-use Rattle.vm_memory.specs.Reading.{behind, each, source_step_of}
+use Rattle.vm_memory.specs.Reading.{after_front, each, source_step_of}
 use Rattle.vm_memory.proofs.script.words.source.Given as goal
 
 abbrev pub invariant-loop-part : goal.invariant-loop-part
-invariant-loop-part l = each source_step_of l.initial.parts ≡ behind l.steps.items (each source_step_of l.parts)
+invariant-loop-part l = each source_step_of l.initial.parts ≡ after_front l.steps.items (each source_step_of l.parts)
 
 abbrev pub decreases-loop-part : goal.decreases-loop-part
 decreases-loop-part l = length l.parts

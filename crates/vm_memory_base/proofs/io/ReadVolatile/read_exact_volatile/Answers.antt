@@ -1,6 +1,6 @@
 use Rattle.std.proofs.Common.{◌≡◌, ◌∙◌, ℕ, false, length, refl, sym, ap, Ok, arith}
 use Rattle.vm_memory_base.specs.Transfer.{is_short, AllMoved, NoneMoved, TurnFailed, Whole, Dry, Failed}
-use Rattle.vm_memory_base.proofs.TransferLemmas.{reads_behind, fills_by, length-placed}
+use Rattle.vm_memory_base.proofs.TransferLemmas.{reads_after, fills_by, length-placed}
 use Rattle.vm_memory_base.specs.lemmas.Turns.{rest_more}
 use Rattle.vm_memory_base.proofs.io.ReadVolatile.read_exact_volatile.Goals as goal
 use Rattle.vm_memory_base.proofs.io.ReadVolatile.read_exact_volatile.Given.{Over}
@@ -25,7 +25,7 @@ loop-done-preserved g c =
     record {
       within = omega (arith, long.0);
       rest = rest_more _ (length c.args.buf.now) c.in-Ok.count l.invariant.rest c.loop-done-test.true
-          (reads_behind source reads l.done l.buf read.ensures.reads c.in-Ok.is) c.in-Ok.count-test.1;
+          (reads_after source reads l.done l.buf read.ensures.reads c.in-Ok.is) c.in-Ok.count-test.1;
     }
 
 pub returns-in-Ok-eq0-clause-reads : goal.returns-in-Ok-eq0-clause-reads
@@ -40,7 +40,7 @@ returns-in-Ok-eq0-clause-reads g c =
     read.new.interrupted l.done Dry _
     (long g (goal.at.returns-in-Ok-eq0-clause-reads g c).At-loop-done)
     (l.invariant.rest _ _ _
-    (NoneMoved c.loop-done-test.true (reads_behind source reads l.done l.buf read.ensures.reads none)))
+    (NoneMoved c.loop-done-test.true (reads_after source reads l.done l.buf read.ensures.reads none)))
     refl)
 
 pub returns-in-Err-clause-reads : goal.returns-in-Err-clause-reads
@@ -54,7 +54,7 @@ returns-in-Err-clause-reads g c =
     (Failed c.in-Err.error) _
     (long g (goal.at.returns-in-Err-clause-reads g c).At-loop-done)
     (l.invariant.rest _ _ _
-    (TurnFailed c.loop-done-test.true (reads_behind source reads l.done l.buf read.ensures.reads c.in-Err.is)))
+    (TurnFailed c.loop-done-test.true (reads_after source reads l.done l.buf read.ensures.reads c.in-Err.is)))
     refl
 
 pub returns-clause-reads : goal.returns-clause-reads

@@ -40,5 +40,5 @@ module _ {X : Type 0} (region : X → Region) (fits : (x : X) → IsRegion (regi
 pub returns-in-Some-to_region_addr-clause-found : goal.returns-in-Some-to_region_addr-clause-found
 returns-in-Some-to_region_addr-clause-found g c =
     near g.R.GuestMemoryRegion.region g.met.R.GuestMemoryRegion.fits c.args.self.now c.args.hint c.args.addr.0
-    c.in-Some.region.now c.in-Some-to_region_addr.offset c.known.ensures c.in-Some.ensures
+    c.in-Some.region.now c.in-Some-to_region_addr.offset c.recall_law.ensures c.in-Some.ensures
     c.in-Some-to_region_addr.ensures

@@ -23,7 +23,7 @@ overflow_add-total g c =
 pub loop-item-preserved : goal.loop-item-preserved
 loop-item-preserved g c =
     let long : length (g.V.ByteValued.bytes c.args.value.now) ≡ g.V.ByteSized.width =
-    g.met.V.ByteValued.laws.length_bytes c.args.value.now c.known.ensures in
+    g.met.V.ByteValued.laws.length_bytes c.args.value.now c.recall_law.ensures in
     wrote_next g.B.Bitmap.marks c.loop-item.invariant
     (gave c.loop-item.item-iterator c.next.new.self _ _ c.in-Some.ensures.steps c.in-Ok.is)
     c.write_value.new.self c.len-total.result c.len-total.ensures (omega (arith, c.requires.fits))

@@ -6,7 +6,7 @@ use Rattle.vm_memory_guest.proofs.guest_memory.pieces.next_of_pieces.Given as go
 abbrev pub invariant-pieces : goal.invariant-pieces
 invariant-pieces g l =
     (goal.iterator-pieces g).can_next l.walk × (goal.iterator-pieces g).is_finite l.walk
-    × (left_of l.fn.walk (Some l.fn.behind) ≡ left_of l.walk (Some l.behind))
+    × (left_of l.fn.walk (Some l.fn.later) ≡ left_of l.walk (Some l.later))
 
 abbrev pub decreases-pieces : goal.decreases-pieces
-decreases-pieces g l = length l.behind.pieces
+decreases-pieces g l = length l.later.pieces

@@ -22,4 +22,4 @@ returns g c all =
     let bytes : g.T.ByteValued.bytes c.set_bytes.new.self
     ≡ bytes_at c.args.self.now.blocks (cells_of c.args.window.now) =
     c.set_bytes.ensures ∙ rw none (append-nil bs ∙ c.bytes.ensures) in
-    sym (g.met.T.ByteValued.laws.from_bytes c.set_bytes.new.self c.known.ensures) ∙ ap g.T.ByteValued.value_of bytes
+    sym (g.met.T.ByteValued.laws.from_bytes c.set_bytes.new.self c.recall_law.ensures) ∙ ap g.T.ByteValued.value_of bytes

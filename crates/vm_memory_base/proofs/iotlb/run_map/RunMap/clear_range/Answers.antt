@@ -23,7 +23,7 @@ cleared c e =
     (c.front_over-front.ensures.front, c.front_over-front.ensures.cut) in
     let low : start_or site.front.run site.start ≡ start_or site.front.run c.args.start =
     ap (start_or site.front.run) same.0 in
-    cleared_over rs c.requires.kept c.args.start c.args.end c.requires.some (omega arith) site.front site.behind front.0
+    cleared_over rs c.requires.kept c.args.start c.args.end c.requires.some (omega arith) site.front site.back front.0
     front.1 c.site-site.ensures.cut c.replace.new.self
     (replaced_at rs site None c.replace.new.self (start_or site.front.run c.args.start) c.args.end low same.1 e)
 

@@ -13,7 +13,7 @@ returns-then-not-site-clause-ok c =
     let l = c.in-Some.front in
     let front : (d : AddressRun Mapping) × (d.start ≡ l.start)
     × (runs_below site.start rs ≡ runs_below l.start rs ++ d ∷ []) = rw c.in-Some.is at c.requires.site.front.there in
-    let rest = if_any c.args.run ++ (if_any site.behind.run ++ runs_from (site.end + 1) rs) in
+    let rest = if_any c.args.run ++ (if_any site.back.run ++ runs_from (site.end + 1) rs) in
     let put : c.put.new.self ≡ (runs_below l.start rs ++ front.0 ∷ []) ++ rest =
     c.in_ok-put.ensures.ok ∙ ap (λ (ys : List (AddressRun Mapping)). ys ++ rest) front.2 in
     let done : c.reset.new.self ≡ runs_below l.start rs ++ (l ∷ rest) =

@@ -35,8 +35,8 @@ told c e =
     let low : start_or site.front.run site.start ≡ start_or met.front.run start =
     stays.2 ∙ ap (start_or met.front.run) same.0 in
     set_over rs c.requires.kept c.args.run c.requires.some c.requires.fits start c.end-end.result c.start-start.ensures
-    c.end-end.ensures.value met.front met.behind front.0 front.1 front.2 front.3 c.site-met.ensures.cut site.front.run
-    c.joined-site.result.1 site.behind.run c.joined-site.ensures.joined c.joined-site.ensures.room c.replace.new.self
+    c.end-end.ensures.value met.front met.back front.0 front.1 front.2 front.3 c.site-met.ensures.cut site.front.run
+    c.joined-site.result.1 site.back.run c.joined-site.ensures.joined c.joined-site.ensures.room c.replace.new.self
     (replaced_at rs site c.joined-site.result.1 c.replace.new.self (start_or met.front.run start) c.end-end.result low
     (stays.1 ∙ same.1) e)
 
@@ -66,7 +66,7 @@ alone c =
     let end = c.end-end.ensures.value in
     let differs : IfSome near.last (λ t. c.end-end.result ≡ t.start
     → same_mapping c.args.run.value t.value ≡ false) =
-    rw end (c.stands_alone.ensures.behind c.if-stands_alone.true) in
+    rw end (c.stands_alone.ensures.last c.if-stands_alone.true) in
     stands_alone c.args.self.now c.requires.kept c.args.run c.requires.some c.end-end.result end (omega arith)
     near.last c.neighbours-near.ensures.near.last differs near.before c.neighbours-near.ensures.near.before
     (c.stands_alone.ensures.before c.if-stands_alone.true) c.insert.new.self

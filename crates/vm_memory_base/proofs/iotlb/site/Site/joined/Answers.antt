@@ -13,7 +13,7 @@ each false b t = absurd (never t)
 pub returns-clause-site : goal.returns-clause-site
 returns-clause-site c rs site =
     let left = c.args.self.now.front.run in
-    let right = c.args.self.now.behind.run in
+    let right = c.args.self.now.back.run in
     let begun = c.joined_to-front.result.0 in
     let same = c.joined_to-front.ensures.same in
     let next = c.joined-joined.ensures.next in
@@ -27,11 +27,11 @@ returns-clause-site c rs site =
             (sym c.is_some.ensures ∙ parts.1))
             (site.front.whole parts.0);
       };
-      behind = record {
-        starts = if_left (λ r. r.start ≡ c.args.self.now.end) right c.joined-joined.result.1 next site.behind.starts;
+      back = record {
+        starts = if_left (λ r. r.start ≡ c.args.self.now.end) right c.joined-joined.result.1 next site.back.starts;
         stored = λ t. if_left (λ r. runs_from c.args.self.now.end rs ≡ r ∷ runs_from (c.args.self.now.end + 1) rs) right
-            c.joined-joined.result.1 next (site.behind.stored t);
-        absent = site.behind.absent;
+            c.joined-joined.result.1 next (site.back.stored t);
+        absent = site.back.absent;
       };
       clear = site.clear;
     }

@@ -37,7 +37,7 @@ returns g c short =
     completed-whole c.in_ok-completed.completed c.size-size.result c.in_ok-whole.field-0 c.in_ok-whole.ensures
     ∙ (c.size-size.ensures ∙ sym c.size-size.ensures ∙ width) in
     let zeros = ap length c.zeroed-value.ensures ∙ length-replicate g.V.ByteSized.width 0 in
-    let value = g.met.V.ByteValued.laws.from_bytes c.read_value.new.value c.known.ensures in (
+    let value = g.met.V.ByteValued.laws.from_bytes c.read_value.new.value c.recall_law.ensures in (
       value-read memory host.tables c.args.addr.0 g.V.ByteSized.width Read walk gives host.blocks
           c.read_value.new.value g.V.ByteValued.value_of (g.V.ByteValued.bytes c.zeroed-value.result)
           (g.V.ByteValued.bytes c.read_value.new.value) c.in_ok-completed.completed c.in_ok-completed.ensures.answer all
