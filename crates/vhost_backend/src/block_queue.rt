@@ -1,6 +1,6 @@
 //! The queue of a ring of a block device: chains are popped as requests, and returned with their status.
-ghost use Rattle.std.specs.Prelude.{◌≡◌, ◌^◌, ◌<◌, [], ◌∷◌, IfOk, None, replicate};
-ghost use Rattle.virtio_queue.specs.Any.{after_asked, at_next};
+ghost use Rattle.std.specs.Prelude.{◌≡◌, ◌^◌, ◌<◌, [], ◌∷◌, IfOk, None, false, replicate};
+ghost use Rattle.virtio_queue.specs.Any.{after_asked, at_next, with_ready};
 ghost use Rattle.vhost_backend.specs.Block.{len_of};
 ghost use Rattle.vhost_backend.specs.BlockQueue.{Publishes, event_of, gave, refused, shortened};
 ghost use Rattle.vhost_backend.specs.Marks.{Marks, asking_marks, chain_marks, return_marks, segment_marks};
@@ -254,6 +254,13 @@ impl BlockQueue {
         ensures { self.new ≡ with_queue self.old queue }
     {
         self.queue = queue;
+    }
+
+    /// Makes the queue one that was not set up.
+    pub fn unset(&mut self)
+        ensures { self.new ≡ with_queue self.old (with_ready self.old.queue false) }
+    {
+        self.queue.set_ready(false);
     }
 
     /// The request with an id that is under way.
