@@ -9,7 +9,7 @@ use Rattle.vhost_backend.specs.ConnectionMemory.{with_pages}
 use Rattle.vhost_backend.specs.Messages.{Happening, after, stepped}
 use Rattle.vhost_backend.specs.Whole.{Leads}
 use Rattle.vhost_backend.specs.declared.block_backend.BlockBackend.{BlockBackend}
-use Rattle.vhost_backend.specs.declared.block_backend.Why.TheVariants.{Log}
+use Rattle.vhost_backend.specs.declared.deeds.Why.TheVariants.{Log}
 use Rattle.vhost_backend.specs.declared.block_connection.BlockConnection.{BlockConnection}
 use Rattle.vhost_backend.proofs.WholeLemmas.{hung_up_leads, stays}
 use Rattle.vhost_user.specs.Log.{log_kept}

@@ -24,16 +24,16 @@ use Rattle.vhost_backend.specs.declared.backend.Outcome.TheVariants as outcome
 use Rattle.vhost_backend.specs.declared.backend.Place.{Place}
 use Rattle.vhost_backend.specs.declared.backend.Todo.{Todo}
 use Rattle.vhost_backend.specs.declared.block.BlockStep.{BlockStep}
-use Rattle.vhost_backend.specs.declared.block_backend.Ask.{Ask}
-use Rattle.vhost_backend.specs.declared.block_backend.Ask.TheVariants as ask
+use Rattle.vhost_backend.specs.declared.deeds.Ask.{Ask}
+use Rattle.vhost_backend.specs.declared.deeds.Ask.TheVariants as ask
 use Rattle.vhost_backend.specs.declared.block_backend.BlockBackend.{BlockBackend}
-use Rattle.vhost_backend.specs.declared.block_backend.Deed.{Deed}
-use Rattle.vhost_backend.specs.declared.block_backend.Deed.TheVariants as deed
-use Rattle.vhost_backend.specs.declared.block_backend.Limits.{Limits}
-use Rattle.vhost_backend.specs.declared.block_backend.Made.{Made}
-use Rattle.vhost_backend.specs.declared.block_backend.Made.TheVariants as made
-use Rattle.vhost_backend.specs.declared.block_backend.Why.{Why}
-use Rattle.vhost_backend.specs.declared.block_backend.Why.TheVariants as why
+use Rattle.vhost_backend.specs.declared.deeds.Deed.{Deed}
+use Rattle.vhost_backend.specs.declared.deeds.Deed.TheVariants as deed
+use Rattle.vhost_backend.specs.declared.deeds.Limits.{Limits}
+use Rattle.vhost_backend.specs.declared.deeds.Made.{Made}
+use Rattle.vhost_backend.specs.declared.deeds.Made.TheVariants as made
+use Rattle.vhost_backend.specs.declared.deeds.Why.{Why}
+use Rattle.vhost_backend.specs.declared.deeds.Why.TheVariants as why
 use Rattle.vhost_backend.specs.declared.block_queues.Reached.{Reached}
 use Rattle.vhost_backend.specs.declared.block_queues.Reached.TheVariants as reached
 use Rattle.vhost_backend.specs.declared.mapping.Mapping.{Mapping}

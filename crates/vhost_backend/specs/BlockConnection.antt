@@ -11,7 +11,7 @@ use Rattle.vhost_backend.specs.PageList.{capped}
 use Rattle.vhost_backend.specs.declared.block.BlockStep.{BlockStep}
 use Rattle.vhost_backend.specs.declared.block.BlockStep.TheVariants as step
 use Rattle.vhost_backend.specs.declared.block_backend.BlockBackend.{BlockBackend}
-use Rattle.vhost_backend.specs.declared.block_backend.Why.TheVariants.{HungUp, Log}
+use Rattle.vhost_backend.specs.declared.deeds.Why.TheVariants.{HungUp, Log}
 use Rattle.vhost_backend.specs.declared.block_connection.BlockConnection.{BlockConnection}
 
 abbrev pub with_backend : BlockConnection → BlockBackend → BlockConnection

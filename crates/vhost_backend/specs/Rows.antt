@@ -5,10 +5,10 @@ use Rattle.vhost_message.specs.declared.regions.MemoryRegion.{MemoryRegion}
 use Rattle.vhost_backend.specs.PageList.{capped}
 use Rattle.vhost_backend.specs.declared.block.BlockStep.{BlockStep}
 use Rattle.vhost_backend.specs.declared.block.BlockStep.TheVariants as step
-use Rattle.vhost_backend.specs.declared.block_backend.Deed.{Deed}
-use Rattle.vhost_backend.specs.declared.block_backend.Deed.TheVariants as deed
-use Rattle.vhost_backend.specs.declared.block_backend.Why.{Why}
-use Rattle.vhost_backend.specs.declared.block_backend.Why.TheVariants as why
+use Rattle.vhost_backend.specs.declared.deeds.Deed.{Deed}
+use Rattle.vhost_backend.specs.declared.deeds.Deed.TheVariants as deed
+use Rattle.vhost_backend.specs.declared.deeds.Why.{Why}
+use Rattle.vhost_backend.specs.declared.deeds.Why.TheVariants as why
 use Rattle.vhost_backend.specs.declared.page_list.PageRange.{PageRange}
 use Rattle.vhost_backend.specs.declared.rows.ActionRow.{ActionRow}
 use Rattle.vhost_backend.specs.declared.wanted.Purpose.{Purpose}

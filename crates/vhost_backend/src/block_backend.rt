@@ -2,19 +2,22 @@
 //! to be done is given one after another.
 ghost use Rattle.std.specs.Prelude.{◌≡◌, ◌-◌, ◌^◌, ◌<◌, [], true, false, None, slice_set};
 ghost use Rattle.vhost_backend.specs.BlockBackend.{Acts, Looks, Places, SetsUpAt, Steps, TakesTurn, after_reach};
-ghost use Rattle.vhost_backend.specs.BlockBackend.{answered, asked_first, asked_more, called_by, came, counted};
-ghost use Rattle.vhost_backend.specs.BlockBackend.{finished_by, gone_on, hung_up, is_asked, is_done, is_quiet, limit_if};
-ghost use Rattle.vhost_backend.specs.BlockBackend.{mapped, messaged, notified, part_deed, region_at, replied, said_last};
+ghost use Rattle.vhost_backend.specs.BlockBackend.{answered, asked_first, asked_more, came, counted};
+ghost use Rattle.vhost_backend.specs.BlockBackend.{finished_by, gone_on, hung_up, is_done};
+ghost use Rattle.vhost_backend.specs.BlockBackend.{mapped, messaged, notified, region_at, replied, said_last};
 ghost use Rattle.vhost_backend.specs.BlockBackend.{broke_if, stepped_on, terms_of, told};
 ghost use Rattle.vhost_backend.specs.BlockQueues.{part_of};
 ghost use Rattle.vhost_backend.specs.PageList.{capped};
 ghost use Rattle.vhost_backend.specs.Rings.{has_next};
 ghost use Rattle.vhost_backend.specs.BlockBackend.{resized};
-ghost use Rattle.vhost_backend.specs.declared.block_backend.Ask.TheVariants as ask;
+ghost use Rattle.vhost_backend.specs.declared.deeds.Ask.TheVariants as ask;
 
 use crate::backend::{Backend, Finish, Next, Outcome, Place, Todo};
 use crate::block::BlockStep;
 use crate::block_queues::{BlockQueues, Reached};
+use crate::deeds::{
+    Ask, Deed, Limits, Made, Why, called_by, is_asked, is_quiet, limit_if, part_deed,
+};
 use crate::kicks::Kicks;
 use crate::mapping::Mapping;
 use crate::request::{Chain, PartEnd};
@@ -36,91 +39,6 @@ const SEG_MAX: u64 = 4;
 
 // How many sectors a disk has at most.
 const MOST_SECTORS: u64 = (1 << 55) - 1;
-
-/// What requests are held against, and how many bytes of replies may wait.
-#[derive(Clone, Copy, Debug, PartialEq, Eq)]
-pub struct Limits {
-    /// How many sectors of 512 bytes the disk has.
-    pub sectors: u64,
-    /// Whether nothing is written to it.
-    pub read_only: bool,
-    /// How many segments a request has beside header and status at most, if the driver accepted that.
-    pub seg_max: usize,
-    /// How many bytes a segment has at most, if the driver accepted that.
-    pub size_max: usize,
-    /// How many bytes of replies may wait to be sent.
-    pub unread: usize,
-}
-
-/// Why a connection is over.
-#[derive(Clone, Copy, Debug)]
-pub enum Why {
-    /// A message broke the protocol.
-    Refused(Refusal),
-    /// What a message asked for could not be done.
-    Failed,
-    /// An allocation failed.
-    Memory,
-    /// The front end does not read its replies.
-    Unread,
-    /// Guest memory has a page that has no bit in the log.
-    Log,
-    /// The program ended it.
-    HungUp,
-}
-
-/// What is to be done by the program.
-#[derive(Clone, Copy, Debug)]
-pub enum Deed {
-    /// The bytes of the reply are sent.
-    Send,
-    /// What was mapped of guest memory goes.
-    UnmapAll,
-    /// A region is mapped from the descriptor of this number. It is told whether that was done.
-    Map(MemoryRegion, usize),
-    /// All regions are mapped, and become guest memory. It is told whether that was done.
-    Join,
-    /// The log is mapped: so many bytes of its file, from an offset on. It is told whether that was done.
-    Log { size: u64, offset: u64 },
-    /// A descriptor is kept for a purpose, or none is. It is told whether that was done.
-    Keep(Purpose, bool),
-    /// A part of the request of a ring with this id is served.
-    Part(usize, u16, BlockStep),
-    /// The driver of a ring is interrupted.
-    Interrupt(usize),
-    /// The front end is told that a ring broke.
-    Tell(usize),
-    /// A ring is stopped.
-    Stopped(usize),
-    /// The connection is over.
-    End(Why),
-}
-
-/// What came of a step.
-#[derive(Clone, Copy, Debug)]
-pub enum Made {
-    /// This is to be done before the next step.
-    Deed(Deed),
-    /// Nothing is to be done by the program, and there may be another step.
-    Again,
-    /// There is no step before the next event.
-    Idle,
-}
-
-/// How far it has come with what a message asks for.
-#[derive(Clone, Copy, Debug)]
-pub enum Ask {
-    /// There is nothing.
-    Nothing,
-    /// A message took effect.
-    First,
-    /// The mapping of this number is next.
-    Mapped(usize),
-    /// It is to be told whether the mapping of this number was done.
-    Region(usize),
-    /// It is to be told whether what was asked for was done.
-    Answer,
-}
 
 /// The back end's side of a connection, with the queues of its rings and what is left to be done.
 #[derive(Drop)]
@@ -147,48 +65,6 @@ pub struct BlockBackend {
     unread: usize,
     // A message was finished since it was asked.
     finished: bool,
-}
-
-fn limit_if(is: bool, limit: usize) -> Option<usize>
-    ensures { result ≡ limit_if is limit }
-{
-    if is { Some(limit) } else { None }
-}
-
-fn is_quiet(outcome: &Outcome) -> bool
-    ensures { result ≡ is_quiet outcome.now }
-{
-    match outcome {
-        Outcome::Stays => true,
-        _ => false,
-    }
-}
-
-fn is_asked(ask: Ask) -> bool
-    ensures { result ≡ is_asked ask }
-{
-    match ask {
-        Ask::First | Ask::Mapped(_) => false,
-        _ => true,
-    }
-}
-
-fn part_deed(ring: usize, id: u16, part: Option<BlockStep>) -> Made
-    ensures { result ≡ part_deed ring id part }
-{
-    match part {
-        Some(part) => Made::Deed(Deed::Part(ring, id, part)),
-        None => Made::Again,
-    }
-}
-
-fn called_by(before: Option<usize>, wanted: Wanted) -> Option<usize>
-    ensures { result ≡ called_by before wanted }
-{
-    match wanted {
-        Wanted::Descriptor(Purpose::Call(ring), _) => Some(ring as usize),
-        _ => before,
-    }
 }
 
 impl BlockBackend {
@@ -698,8 +574,8 @@ impl BlockBackend {
         }
     }
 
-    /// Looks at a ring that was kicked, or else pops the next chain of the ring that has its turn, if nothing is left to
-    /// be done. Returns whether it did.
+    /// Looks at a ring that was kicked, or else pops the next chain of the ring that has its turn, if nothing is left
+    /// to be done. Returns whether it did.
     pub fn look<H, D: RingMemory<H>>(&mut self, mem: &D, host: &mut H) -> bool
         requires { D.held mem.now host.old }
         ensures looks { Looks (D.steps mem.now) self.old host.old result self.new host.new }

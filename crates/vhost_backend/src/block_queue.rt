@@ -305,8 +305,8 @@ impl BlockQueue {
     ) -> Pop
         requires held { D.held mem.now host.old }
         requires small { terms.sectors < 2 ^ 55 }
-        ensures begins { Begins (D.steps mem.now) terms (at_next self.old.queue next) self.old popped.0 popped.1 host.old
-            result self.new host.new }
+        ensures begins { Begins (D.steps mem.now) terms (at_next self.old.queue next) self.old popped.0 popped.1
+            host.old result self.new host.new }
         ensures held { D.held mem.now host.new }
     {
         let (buffer, chain) = popped;

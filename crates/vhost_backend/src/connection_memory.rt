@@ -4,7 +4,8 @@ ghost use Rattle.vm_memory_guest.specs.BlockBytes.{bytes_of};
 ghost use Rattle.vhost_backend.specs.BlockBackend.{Looks, Steps};
 ghost use Rattle.vhost_backend.specs.ConnectionMemory.{memory_step, no_memory, with_pages};
 
-use crate::block_backend::{BlockBackend, Made};
+use crate::block_backend::BlockBackend;
+use crate::deeds::Made;
 use crate::page_list::{PageList, PageRange};
 use crate::pieces::Piece;
 use crate::ring_memory::{Lent, Logged};

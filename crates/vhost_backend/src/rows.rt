@@ -5,7 +5,7 @@ ghost use Rattle.vhost_backend.specs.Rows.{number_of, on_ring, part_row, place_o
 ghost use Rattle.vhost_backend.specs.Rows.{way_of_part, way_of_purpose, way_of_why};
 
 use crate::block::BlockStep;
-use crate::block_backend::{Deed, Why};
+use crate::deeds::{Deed, Why};
 use crate::page_list::PageRange;
 use crate::wanted::Purpose;
 use vhost_calls::code_of_refusal;

@@ -5,15 +5,15 @@ ghost use Rattle.vhost_backend.specs.BlockBackend.{Looks, Steps, answered, came,
 ghost use Rattle.vhost_backend.specs.PageList.{InRange, IsToMark, Pages, added};
 ghost use Rattle.vhost_backend.specs.Whole.{Leads};
 ghost use Rattle.vhost_backend.specs.declared.block_backend.BlockBackend.{BlockBackend};
-ghost use Rattle.vhost_backend.specs.declared.block_backend.Made.{Made};
-ghost use Rattle.vhost_backend.specs.declared.block_backend.Why.{Why};
+ghost use Rattle.vhost_backend.specs.declared.deeds.Made.{Made};
+ghost use Rattle.vhost_backend.specs.declared.deeds.Why.{Why};
 ghost use Rattle.vhost_backend.specs.declared.page_list.PageRange.{PageRange};
 ghost use Rattle.vhost_backend.specs.declared.rings.Event.{Event};
 
 use crate::ring_memory::RingMemory;
 
-/// Each step on memory is something that happens to the connection, or nothing: a message, what came of one, an event of
-/// a ring, or the end. So is each call. So every law of [messages](crate::messages_laws) and of [rings](crate::laws)
+/// Each step on memory is something that happens to the connection, or nothing: a message, what came of one, an event
+/// of a ring, or the end. So is each call. So every law of [messages](crate::messages_laws) and of [rings](crate::laws)
 /// holds of the connection of a back end as a whole, whatever a guest writes.
 pub fn each_step_happens_to_the_connection<H, D: RingMemory<H>>()
     ensures steps { (mem : D) (w new_w : BlockBackend) (old new : H) (m : Made) → Steps (D.steps mem) w old m new_w new
