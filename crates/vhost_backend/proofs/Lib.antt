@@ -3,11 +3,13 @@ pub mod AnswerLemmas
 pub mod AtRestLemmas
 pub mod BackendLemmas
 pub mod BoundLemmas
+pub mod ConnectionLemmas
 pub mod EndLemmas
 pub mod FairLemmas
 pub mod FitLemmas
 pub mod GoneLemmas
 pub mod HoldLemmas
+pub mod KickLemmas
 pub mod LineLemmas
 pub mod MappingLemmas
 pub mod MarkLemmas
@@ -15,6 +17,7 @@ pub mod MessageLemmas
 pub mod OnceLemmas
 pub mod OverLemmas
 pub mod OwnWayLemmas
+pub mod PageLemmas
 pub mod PartLemmas
 pub mod PieceLemmas
 pub mod PlaceLemmas
@@ -27,3 +30,4 @@ pub mod StopLemmas
 pub mod ToldLemmas
 pub mod TurnLemmas
 pub mod WantLemmas
+pub mod WholeLemmas

@@ -6,7 +6,7 @@ use Rattle.std.specs.List.{filter, list_any}
 abbrev pub stands_in : ℕ → List ℕ → Bool
 stands_in ring line = list_any (λ other. other == ring) line
 
--- a ring stands behind all others
+-- a ring stands last
 abbrev pub joined : List ℕ → ℕ → List ℕ
 joined line ring = if stands_in ring line then line else line ++ ring ∷ []
 

@@ -125,7 +125,7 @@ turn_taken s i None = (record s { turn = None; line = without s.line i }, nothin
 turn_taken s i (Some r) =
     with_step (record s { turn = turn_of i (pops r); line = without s.line i }) i (after_turn r)
 
--- the first ring in the line takes its turn, and stands behind all others if it still wants one
+-- the first ring in the line takes its turn, and stands last if it still wants one
 abbrev pub next_turn : RingsState → Option ℕ → Happens
 next_turn s None = (record s { turn = None }, nothing 0)
 next_turn s (Some i) = turn_taken s i (slice_get s.rings i)

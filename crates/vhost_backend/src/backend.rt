@@ -5,6 +5,7 @@ ghost use Rattle.vhost_backend.specs.Backend.{is_due, is_outer, moved, to_do};
 use crate::mapping::{Mapping, mapping_of};
 use crate::ring::{RingActions, RingEvent};
 use crate::rings::{Actions, Event, Rings, nothing};
+use crate::wanted::{Wanted, wanted_of};
 use std::alloc::Global;
 use std::marker::Model;
 use std::mem;
@@ -169,10 +170,12 @@ impl Model for Backend {
 impl Backend {
     ghost use Rattle.std.specs.Prelude.{◌<◌, false, length, true, MatchResult};
     ghost use Rattle.vhost_user.specs.Connection.{can_offer, connected};
+    ghost use Rattle.vhost_backend.specs.Wanted.{wanted_at};
     ghost use Rattle.vhost_user.specs.declared.backend_req_handler.OfferError.TheVariants.{Invalid, Memory};
     ghost use Rattle.vhost_backend.specs.Backend.{after_event, after_finish, after_message, begun, begun_or_waits};
     ghost use Rattle.vhost_backend.specs.Backend.{happened, is_at_rest, is_free, is_over, mapping_at, new_backend};
     ghost use Rattle.vhost_backend.specs.Backend.{over, placed, rebased, refreshed_one, refused, released, to_place};
+    ghost use Rattle.vhost_backend.specs.Config.{config_changed};
     ghost use Rattle.vhost_backend.specs.Backend.{until_of, waiting};
 
     /// A new connection, as from `BackendReqHandler::new`. The ids of its rings' chains are below `ids`.
@@ -260,6 +263,23 @@ impl Backend {
             Taken::Begun(_, request) => mapping_of(request, number),
             _ => None,
         }
+    }
+
+    /// What the message that took effect asks for before it is finished.
+    pub fn wanted(&self) -> Wanted
+        ensures { result ≡ wanted_at self.now.taken }
+    {
+        match &self.taken {
+            Taken::Begun(_, request) => wanted_of(request),
+            _ => Wanted::Nothing,
+        }
+    }
+
+    /// Replaces bytes of the configuration from an offset on, if it has them.
+    pub fn change_config(&mut self, offset: u32, bytes: &[u8])
+        ensures { self.new ≡ config_changed self.old offset bytes.now }
+    {
+        let _ = self.connection.change_config(offset, bytes);
     }
 
     // What a ring's queue is to be told first, if something is to be done for the ring.

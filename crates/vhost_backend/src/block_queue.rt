@@ -1,6 +1,6 @@
 //! The queue of a ring of a block device: chains are popped as requests, and returned with their status.
-ghost use Rattle.std.specs.Prelude.{◌≡◌, ◌^◌, ◌<◌, [], ◌∷◌, IfOk, None, replicate};
-ghost use Rattle.virtio_queue.specs.Any.{after_asked, at_next};
+ghost use Rattle.std.specs.Prelude.{◌≡◌, ◌^◌, ◌<◌, [], ◌∷◌, IfOk, None, false, replicate};
+ghost use Rattle.virtio_queue.specs.Any.{after_asked, at_next, with_ready};
 ghost use Rattle.vhost_backend.specs.Block.{len_of};
 ghost use Rattle.vhost_backend.specs.BlockQueue.{Publishes, event_of, gave, refused, shortened};
 ghost use Rattle.vhost_backend.specs.Marks.{Marks, asking_marks, chain_marks, return_marks, segment_marks};
@@ -117,7 +117,7 @@ fn mark_chain<H, D: RingMemory<H>>(mem: &D, host: &mut H, chain: &Descriptors)
     }
 }
 
-// Marks two ranges behind an address.
+// Marks two ranges after an address.
 fn mark_both<H, D: RingMemory<H>>(mem: &D, host: &mut H, first: Piece, second: Piece)
     requires { D.held mem.now host.old }
     ensures marks { Marks (D.steps mem.now) (first ∷ second ∷ []) host.old host.new }
@@ -256,6 +256,13 @@ impl BlockQueue {
         self.queue = queue;
     }
 
+    /// Makes the queue one that was not set up.
+    pub fn unset(&mut self)
+        ensures { self.new ≡ with_queue self.old (with_ready self.old.queue false) }
+    {
+        self.queue.set_ready(false);
+    }
+
     /// The request with an id that is under way.
     pub fn request(&self, id: u16) -> Option<Request>
         ensures request { result ≡ option_map (λ asked. asked.request) (asked_at self.now id) }
@@ -298,8 +305,8 @@ impl BlockQueue {
     ) -> Pop
         requires held { D.held mem.now host.old }
         requires small { terms.sectors < 2 ^ 55 }
-        ensures begins { Begins (D.steps mem.now) terms (at_next self.old.queue next) self.old popped.0 popped.1 host.old
-            result self.new host.new }
+        ensures begins { Begins (D.steps mem.now) terms (at_next self.old.queue next) self.old popped.0 popped.1
+            host.old result self.new host.new }
         ensures held { D.held mem.now host.new }
     {
         let (buffer, chain) = popped;

@@ -11,7 +11,7 @@ use vm_memory_device::{Chain, Segment};
 pub struct Piece {
     /// A guest address.
     pub base: u64,
-    /// How far behind it they begin.
+    /// How far after it they begin.
     pub offset: u64,
     /// How many there are.
     pub len: u64,

@@ -3,28 +3,23 @@ ghost use Rattle.std.specs.Prelude.{◌≡◌, ℕ, IfOk};
 ghost use Rattle.vm_memory_guest.specs.Host.{Holds, shape_of};
 ghost use Rattle.virtio_queue.specs.Any.{after_asked, after_pop, after_used};
 ghost use Rattle.virtio_blk.specs.Steps.{FitsOn};
-ghost use Rattle.vhost_backend.specs.RingMemory.{ByLooks, MemoryStep, Returned, Still, adds_used, begins, enables};
-ghost use Rattle.vhost_backend.specs.RingMemory.{finishes, marks, needs, pops};
+ghost use Rattle.vhost_backend.specs.RingMemory.{ByLooks, Logs, MemoryStep, Returned, adds_used, begins, enables};
+ghost use Rattle.vhost_backend.specs.RingMemory.{finishes, marks, needs, pops, reads_used};
 
+use crate::page_list::PageList;
 use std::alloc::Global;
 use virtio_blk::{DeviceLimits, Fetches, Puts, Request, begin, begin_from, finish, finish_from};
-use virtio_queue::{AnyQueue, Looks, PackedBuffer, QueueError, Stores};
+use virtio_queue::{AnyQueue, Looks, PackedBuffer, Queue, QueueError, Stores};
 use vm_memory_base::Bitmap;
 use vm_memory_device::Chain;
 use vm_memory_guest::{GuestMemory, GuestMemoryResult, HostMemory};
-
-/// The log of pages that were written. The one that keeps it ignores marks while nothing is logged.
-pub trait PageLog {
-    /// Marks each page that has one of `len` bytes so far behind an address: one atomic OR.
-    fn mark(&self, base: u64, offset: u64, len: u64);
-}
 
 /// Guest memory in which a call marks pages, while a driver may write it.
 pub trait Marks {
     /// A mark: what marked before it, its address, the offset from there, the number of bytes, and what marks after it.
     ghost logs: { Self → ℕ → ℕ → ℕ → Self → Type 0 };
 
-    /// Marks each page that has one of `len` bytes so far behind an address.
+    /// Marks each page that has one of `len` bytes so far after an address.
     fn mark(&mut self, base: u64, offset: u64, len: u64)
         ensures { logs self.old base offset len self.new };
 }
@@ -78,6 +73,12 @@ pub trait RingMemory<H> {
         ensures step { steps self.now host.old (enables queue.now) result host.new }
         ensures held { held self.now host.new };
 
+    /// The index of the entry of the used ring that is written next, as it lies there.
+    fn used_idx(&self, host: &mut H, queue: &Queue) -> Result<u16, QueueError>
+        requires { held self.now host.old }
+        ensures step { steps self.now host.old (reads_used queue.now) result host.new }
+        ensures held { held self.now host.new };
+
     /// What the chain of a request asks for.
     fn begin(&self, host: &mut H, terms: DeviceLimits, chain: &Chain) -> GuestMemoryResult<Request>
         requires { held self.now host.old }
@@ -97,91 +98,102 @@ pub trait RingMemory<H> {
         ensures step { steps self.now host.old (finishes chain.now status moved) result host.new }
         ensures held { held self.now host.new };
 
-    /// Marks in the log each page that has one of `len` bytes so far behind an address.
+    /// Marks in the log each page that has one of `len` bytes so far after an address.
     fn mark(&self, host: &mut H, base: u64, offset: u64, len: u64)
         requires { held self.now host.old }
         ensures step { steps self.now host.old (marks base offset len) tt host.new }
         ensures held { held self.now host.new };
 }
 
-/// Guest memory that is lent for a call, of which a contract says what it holds all the while, and the log of its
-/// pages.
+/// Host memory, and the pages that were changed and are to be marked in the log.
 #[derive(Drop)]
-pub struct Lent<'a, M: GuestMemory, P: PageLog> {
+pub struct Logged<B> {
     /// The memory.
-    pub mem: &'a M,
-    /// The log.
-    pub log: &'a P,
+    pub host: HostMemory<B>,
+    /// The pages.
+    pub pages: PageList,
 }
 
-impl<M: GuestMemory, P: PageLog, B: Bitmap> RingMemory<HostMemory<B>> for Lent<'_, M, P> {
-    ghost steps = { λ s old x r new. Still B.marks (M.memory s.mem.now) old x r new };
+/// Guest memory that is lent for a call, of which a contract says what it holds all the while.
+#[derive(Drop)]
+pub struct Lent<'a, M: GuestMemory> {
+    /// The memory.
+    pub mem: &'a M,
+}
 
-    ghost held = { λ s host. Holds (shape_of host) (M.names s.mem.now) };
+impl<M: GuestMemory, B: Bitmap> RingMemory<Logged<B>> for Lent<'_, M> {
+    ghost steps = { λ s old x r new. Logs B.marks (M.memory s.mem.now) old x r new };
+
+    ghost held = { λ s logged. Holds (shape_of logged.host) (M.names s.mem.now) };
 
     #[inline(always)]
     fn pop(
         &self,
-        host: &mut HostMemory<B>,
+        logged: &mut Logged<B>,
         alloc: Global,
         queue: &mut AnyQueue,
     ) -> Result<Option<(PackedBuffer, Chain)>, QueueError> {
-        queue.pop_descriptor_chain(alloc, self.mem, host)
+        queue.pop_descriptor_chain(alloc, self.mem, &mut logged.host)
     }
 
     #[inline(always)]
     fn add_used(
         &self,
-        host: &mut HostMemory<B>,
+        logged: &mut Logged<B>,
         queue: &mut AnyQueue,
         buffer: PackedBuffer,
         len: u32,
     ) -> Result<(), QueueError> {
-        queue.add_used(self.mem, host, buffer, len)
+        queue.add_used(self.mem, &mut logged.host, buffer, len)
     }
 
     #[inline(always)]
     fn needs_notification(
         &self,
-        host: &mut HostMemory<B>,
+        logged: &mut Logged<B>,
         queue: &mut AnyQueue,
     ) -> Result<bool, QueueError> {
-        queue.needs_notification(self.mem, host)
+        queue.needs_notification(self.mem, &mut logged.host)
     }
 
     #[inline(always)]
     fn enable_notification(
         &self,
-        host: &mut HostMemory<B>,
+        logged: &mut Logged<B>,
         queue: &AnyQueue,
     ) -> Result<bool, QueueError> {
-        queue.enable_notification(self.mem, host)
+        queue.enable_notification(self.mem, &mut logged.host)
+    }
+
+    #[inline(always)]
+    fn used_idx(&self, logged: &mut Logged<B>, queue: &Queue) -> Result<u16, QueueError> {
+        queue.used_idx(self.mem, &mut logged.host)
     }
 
     #[inline(always)]
     fn begin(
         &self,
-        host: &mut HostMemory<B>,
+        logged: &mut Logged<B>,
         terms: DeviceLimits,
         chain: &Chain,
     ) -> GuestMemoryResult<Request> {
-        begin(terms, self.mem, host, chain)
+        begin(terms, self.mem, &mut logged.host, chain)
     }
 
     #[inline(always)]
     fn finish(
         &self,
-        host: &mut HostMemory<B>,
+        logged: &mut Logged<B>,
         chain: &Chain,
         status: u8,
         moved: usize,
     ) -> GuestMemoryResult<u32> {
-        finish(self.mem, host, chain, status, moved)
+        finish(self.mem, &mut logged.host, chain, status, moved)
     }
 
     #[inline(always)]
-    fn mark(&self, _host: &mut HostMemory<B>, base: u64, offset: u64, len: u64) {
-        self.log.mark(base, offset, len);
+    fn mark(&self, logged: &mut Logged<B>, base: u64, offset: u64, len: u64) {
+        logged.pages.mark(base, offset, len);
     }
 }
 
@@ -225,6 +237,10 @@ impl<L: Looks + Fetches + Puts + Marks, S: Stores<L>> RingMemory<L> for Looked<'
 
     fn enable_notification(&self, guest: &mut L, queue: &AnyQueue) -> Result<bool, QueueError> {
         queue.enable_notification_in(self.stores, guest)
+    }
+
+    fn used_idx(&self, guest: &mut L, queue: &Queue) -> Result<u16, QueueError> {
+        queue.used_idx_from(guest)
     }
 
     fn begin(

@@ -13,7 +13,9 @@ pub use calls::{
     wanted,
 };
 pub use channel::{access_fail, answered, config_change, miss};
+pub use refused::{code_of_offer, code_of_refusal};
 pub use values::{
     VhostOffer, VhostPages, VhostRegion, VhostRequest, VhostState, VhostVring, VhostWanted,
+    offer_of,
 };
 pub use vhost_user::BackendReqHandler;

@@ -6,7 +6,8 @@ ghost use Rattle.vhost_calls.specs.Codes.{code_of_step};
 use crate::code;
 use vhost_user::{Malformed, NotRunning, OfferError, Refusal};
 
-pub(crate) fn code_of_offer(error: OfferError) -> u32
+/// The code of an offer that was refused.
+pub fn code_of_offer(error: OfferError) -> u32
     ensures { result ≡ code_of_offer error }
 {
     match error {
@@ -26,7 +27,8 @@ fn code_of_malformed(malformed: Malformed) -> u32
     }
 }
 
-pub(crate) fn code_of_refusal(refusal: Refusal) -> u32
+/// The code of a refusal.
+pub fn code_of_refusal(refusal: Refusal) -> u32
     ensures { result ≡ code_of_refusal refusal }
 {
     match refusal {

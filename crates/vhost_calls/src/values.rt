@@ -122,7 +122,8 @@ pub struct VhostState {
     pub is_owned: u32,
 }
 
-pub(crate) fn offer_of(offer: &VhostOffer) -> Offer
+/// What a back end offers, by its numbers.
+pub fn offer_of(offer: &VhostOffer) -> Offer
     ensures { result ≡ offer_of offer.now }
 {
     Offer {

@@ -1,0 +1,297 @@
+-- A block device's back end as a whole: what each event makes of it, and what is to be done, step by step.
+use Rattle.std.specs.Prelude.{◌≡◌, ℕ, ◌+◌, ◌-◌, ◌^◌, ◌==◌, ◌&&◌, not, min, nat_lt, bit_and, Bool, true, false, if◌then◌else◌, List, [], length, drop, slice_get, slice_set, Option, Some, None, is_none, is_some, Result, Ok, Err, MatchOption, MatchResult}
+use Rattle.std.specs.Int.{to_le_bytes, w64}
+use Rattle.virtio_blk.specs.declared.request.DeviceLimits.{DeviceLimits}
+use Rattle.virtio_queue.specs.declared.error.QueueError.{QueueError}
+use Rattle.vhost_message.specs.declared.header.Header.{Header}
+use Rattle.vhost_message.specs.declared.regions.MemoryRegion.{MemoryRegion}
+use Rattle.vhost_user.specs.declared.vring.NotRunning.{NotRunning}
+use Rattle.vhost_user.specs.declared.vring.RunningVring.{RunningVring}
+use Rattle.vhost_backend.specs.Backend.{BackendState, after_event, after_finish, after_message, is_free, is_over, mapping_at, over}
+use Rattle.vhost_backend.specs.BlockQueue.{BlockQueueState}
+use Rattle.vhost_backend.specs.BlockQueues.{Asks, Gives, SetsUp, Turns, WithQueue, based, part_of}
+use Rattle.vhost_backend.specs.Config.{config_changed}
+use Rattle.vhost_backend.specs.Kicks.{TakesKick}
+use Rattle.vhost_backend.specs.PageList.{capped}
+use Rattle.vhost_backend.specs.RingMemory.{MemoryStep, Returned}
+use Rattle.vhost_backend.specs.Wanted.{wanted_at}
+use Rattle.vhost_backend.specs.declared.backend.Finish.{Finish}
+use Rattle.vhost_backend.specs.declared.backend.Finish.TheVariants as finish
+use Rattle.vhost_backend.specs.declared.backend.Next.{Next}
+use Rattle.vhost_backend.specs.declared.backend.Next.TheVariants as next
+use Rattle.vhost_backend.specs.declared.backend.Outcome.{Outcome}
+use Rattle.vhost_backend.specs.declared.backend.Outcome.TheVariants as outcome
+use Rattle.vhost_backend.specs.declared.backend.Place.{Place}
+use Rattle.vhost_backend.specs.declared.backend.Todo.{Todo}
+use Rattle.vhost_backend.specs.declared.block.BlockStep.{BlockStep}
+use Rattle.vhost_backend.specs.declared.deeds.Ask.{Ask}
+use Rattle.vhost_backend.specs.declared.deeds.Ask.TheVariants as ask
+use Rattle.vhost_backend.specs.declared.block_backend.BlockBackend.{BlockBackend}
+use Rattle.vhost_backend.specs.declared.deeds.Deed.{Deed}
+use Rattle.vhost_backend.specs.declared.deeds.Deed.TheVariants as deed
+use Rattle.vhost_backend.specs.declared.deeds.Limits.{Limits}
+use Rattle.vhost_backend.specs.declared.deeds.Made.{Made}
+use Rattle.vhost_backend.specs.declared.deeds.Made.TheVariants as made
+use Rattle.vhost_backend.specs.declared.deeds.Why.{Why}
+use Rattle.vhost_backend.specs.declared.deeds.Why.TheVariants as why
+use Rattle.vhost_backend.specs.declared.block_queues.Reached.{Reached}
+use Rattle.vhost_backend.specs.declared.block_queues.Reached.TheVariants as reached
+use Rattle.vhost_backend.specs.declared.mapping.Mapping.{Mapping}
+use Rattle.vhost_backend.specs.declared.mapping.Mapping.TheVariants.{Map, UnmapAll}
+use Rattle.vhost_backend.specs.declared.request.PartEnd.{PartEnd}
+use Rattle.vhost_backend.specs.declared.ring.RingEvent.TheVariants.{Break, Ended, Kick}
+use Rattle.vhost_backend.specs.declared.ring.actions.RingAction.{RingAction}
+use Rattle.vhost_backend.specs.declared.ring.actions.RingAction.TheVariants as action
+use Rattle.vhost_backend.specs.declared.rings.Event.{Event}
+use Rattle.vhost_backend.specs.declared.rings.Event.TheVariants as event
+use Rattle.vhost_backend.specs.declared.wanted.Purpose.{Purpose}
+use Rattle.vhost_backend.specs.declared.wanted.Purpose.TheVariants.{Call}
+use Rattle.vhost_backend.specs.declared.wanted.Wanted.{Wanted}
+use Rattle.vhost_backend.specs.declared.wanted.Wanted.TheVariants as wanted
+
+-- ---- what requests are held against
+
+abbrev pub limit_if : Bool → ℕ → Option ℕ
+limit_if true limit = Some limit
+limit_if false limit = None
+
+abbrev pub terms_by : Limits → ℕ → DeviceLimits
+terms_by limits acked = record {
+  sectors = min limits.sectors (2 ^ 55 - 1);
+  read_only = limits.read_only;
+  acked = acked;
+  seg_max = limit_if (not (bit_and acked 4 == 0)) limits.seg_max;
+  size_max = limit_if (not (bit_and acked 2 == 0)) limits.size_max;
+}
+
+abbrev pub terms_of : BlockBackend → DeviceLimits
+terms_of w = terms_by w.limits w.backend.connection.features
+
+-- ---- whether something is left to be done
+
+abbrev pub is_quiet : Outcome → Bool
+is_quiet outcome.Stays = true
+is_quiet _ = false
+
+-- nothing is to be asked for: there is nothing, or it is to be told how that went
+abbrev pub is_asked : Ask → Bool
+is_asked ask.First = false
+is_asked (ask.Mapped count) = false
+is_asked _ = true
+
+abbrev pub is_done : BlockBackend → Bool
+is_done w = is_none w.todo.place && (length w.todo.actions == 0) && is_quiet w.todo.message && not w.broken
+    && is_asked w.ask && (length w.reply == 0) && is_none w.called && is_none w.end
+
+-- ---- events
+
+-- it is told something, and has that to do
+abbrev pub told : BlockBackend → Event → BlockBackend
+told w e = let t = after_event w.backend e in record w { backend = t.0; todo = t.1 }
+
+-- a message is taken if nothing is left to be done, and the one before it is over
+abbrev pub came : BlockBackend → Header → List ℕ → ℕ → BlockBackend × Bool
+came w h payload descriptors = if is_done w && is_free w.backend.taken
+    then (let t = after_message w.backend h payload descriptors in (record w { backend = t.0; todo = t.1 }, true))
+    else (w, false)
+
+-- the first ring in the line has its turn
+abbrev pub gone_on : BlockBackend → BlockBackend
+gone_on w = let t = after_event w.backend event.GoOn in record w { backend = t.0; todo = t.1; turn = t.1.ring }
+
+-- the connection is over
+abbrev pub hung_up : BlockBackend → Why → BlockBackend
+hung_up w y = if is_over w.backend.taken then record w { ask = ask.Nothing }
+    else record w { ask = ask.Nothing; backend = over w.backend; end = Some y }
+
+-- the message that took effect is over
+abbrev pub end_after : Option Why → Next → Option Why
+end_after e next.Messages = e
+end_after e next.End = Some why.Failed
+
+abbrev pub finished_by : BlockBackend → Finish → BlockBackend
+finished_by w e = let t = after_finish w.backend e in record w {
+  ask = ask.Nothing;
+  finished = true;
+  backend = t.0;
+  reply = t.1.0;
+  end = end_after w.end t.1.1;
+}
+
+-- the region that is to be mapped
+abbrev pub region_in : Option Mapping → Option MemoryRegion
+region_in (Some (Map region descriptor)) = Some region
+region_in _ = None
+
+abbrev pub region_at : BlockBackend → Ask → Option MemoryRegion
+region_at w (ask.Region number) = region_in (mapping_at w.backend.taken number)
+region_at w _ = None
+
+-- it was, or could not be
+abbrev pub mapped_at : BlockBackend → Ask → Bool → BlockBackend
+mapped_at w (ask.Region number) true = record w { ask = ask.Mapped (capped (number + 1)) }
+mapped_at w (ask.Region number) false = finished_by w finish.Failed
+mapped_at w _ is = w
+
+abbrev pub mapped : BlockBackend → Bool → BlockBackend
+mapped w is = mapped_at w w.ask is
+
+-- what was asked for was done, or could not be. A ring with a new call descriptor is interrupted once
+abbrev pub called_by : Option ℕ → Wanted → Option ℕ
+called_by before (wanted.Descriptor (Call ring) is) = Some ring
+called_by before _ = before
+
+abbrev pub answered_at : BlockBackend → Ask → Bool → BlockBackend
+answered_at w ask.Answer true =
+    finished_by (record w { called = called_by w.called (wanted_at w.backend.taken) }) finish.Done
+answered_at w ask.Answer false = finished_by w finish.Failed
+answered_at w _ is = w
+
+abbrev pub answered : BlockBackend → Bool → BlockBackend
+answered w is = answered_at w w.ask is
+
+-- the disk has so many sectors, and the configuration begins with them
+abbrev pub resized : BlockBackend → ℕ → BlockBackend
+resized w sectors = record w {
+  limits = record w.limits { sectors = sectors };
+  backend = config_changed w.backend 0 (to_le_bytes w64 sectors);
+}
+
+-- ---- what is to be done without memory
+
+abbrev pub messaged : BlockBackend → Outcome → BlockBackend
+messaged w outcome.Stays = w
+messaged w outcome.Begins = record w { ask = ask.First }
+messaged w (outcome.Refused e bytes) = hung_up (record w { reply = bytes }) (why.Refused e)
+
+-- what a message that took effect asks for first
+abbrev pub asked_first_by : BlockBackend → Wanted → BlockBackend × Made
+asked_first_by w wanted.Nothing = (record w { ask = ask.Nothing }, made.Again)
+asked_first_by w wanted.Memory = (record w { ask = ask.Mapped 1 }, made.Deed deed.UnmapAll)
+asked_first_by w (wanted.Log size offset) = (record w { ask = ask.Answer }, made.Deed (deed.Log size offset))
+asked_first_by w (wanted.Descriptor purpose is) = (record w { ask = ask.Answer }, made.Deed (deed.Keep purpose is))
+asked_first_by w (wanted.Base ring) = let t = based w.queues ring (slice_get w.queues ring) in
+    (finished_by (record w { queues = t.0 }) t.1, made.Again)
+asked_first_by w wanted.Finish = (finished_by w finish.Done, made.Again)
+
+abbrev pub asked_first : BlockBackend → BlockBackend × Made
+asked_first w = asked_first_by w (wanted_at w.backend.taken)
+
+-- the regions are mapped one after another, and then they become guest memory
+abbrev pub asked_more_by : BlockBackend → ℕ → Option Mapping → BlockBackend × Made
+asked_more_by w number (Some (Map region descriptor)) =
+    (record w { ask = ask.Region number }, made.Deed (deed.Map region descriptor))
+asked_more_by w number _ = (record w { ask = ask.Answer }, made.Deed deed.Join)
+
+abbrev pub asked_more : BlockBackend → ℕ → BlockBackend × Made
+asked_more w number = asked_more_by w number (mapping_at w.backend.taken number)
+
+-- the reply is sent. If too many bytes wait by then, the connection is over
+abbrev pub counted : BlockBackend → ℕ → BlockBackend
+counted w unread = if nat_lt w.limits.unread unread then hung_up (record w { unread = unread }) why.Unread
+    else record w { unread = unread }
+
+abbrev pub replied : BlockBackend → BlockBackend × Made
+replied w = (counted w (capped (w.unread + length w.reply)), made.Deed deed.Send)
+
+abbrev pub ended_by : BlockBackend → Option Why → BlockBackend × Made
+ended_by w (Some y) = (record w { end = None }, made.Deed (deed.End y))
+ended_by w None = (w, made.Idle)
+
+abbrev pub called_up : BlockBackend → Option ℕ → BlockBackend × Made
+called_up w (Some ring) = (record w { called = None }, made.Deed (deed.Interrupt ring))
+called_up w None = ended_by w w.end
+
+abbrev pub said_last : BlockBackend → BlockBackend × Made
+said_last w = if length w.reply == 0 then called_up w w.called else replied w
+
+abbrev pub asked_by : BlockBackend → Ask → BlockBackend × Made
+asked_by w ask.First = asked_first w
+asked_by w (ask.Mapped number) = asked_more w number
+asked_by w _ = said_last w
+
+-- a ring that cannot be reached breaks
+abbrev pub broke_if : BlockBackend → Bool → BlockBackend × Made
+broke_if w true = (told (record w { broken = false }) (event.Ring w.todo.ring Break), made.Again)
+broke_if w false = asked_by w w.ask
+
+abbrev pub stepped_on_by : BlockBackend → Outcome → BlockBackend × Made
+stepped_on_by w outcome.Stays = broke_if w w.broken
+stepped_on_by w o = (messaged (record w { todo = record w.todo { message = outcome.Stays } }) o, made.Again)
+
+abbrev pub stepped_on : BlockBackend → BlockBackend × Made
+stepped_on w = stepped_on_by w w.todo.message
+
+-- ---- what is to be done on memory
+
+abbrev pub after_reach : BlockBackend → Reached → BlockBackend
+after_reach w reached.Fine = w
+after_reach w reached.Broken = record w { broken = true }
+after_reach w reached.Memory = hung_up w why.Memory
+
+abbrev pub part_deed : ℕ → ℕ → Option BlockStep → Made
+part_deed ring id None = made.Again
+part_deed ring id (Some part) = made.Deed (deed.Part ring id part)
+
+abbrev pub notified : BlockBackend → ℕ → Result Bool QueueError → BlockBackend × Made
+notified w ring (Ok true) = (w, made.Deed (deed.Interrupt ring))
+notified w ring (Ok false) = (w, made.Again)
+notified w ring (Err e) = (record w { broken = true }, made.Again)
+
+abbrev pub looked : BlockBackend → Option Todo → BlockBackend
+looked w None = w
+looked w (Some todo) = record w { todo = todo }
+
+module _ {H : Type 0} (step : H → (s : MemoryStep) → Returned s → H → Type 0) where
+  abbrev pub SetsUpAt : BlockBackend → RunningVring → Bool → H → BlockBackend → H → Type 0
+  SetsUpAt w vring fresh old w' new = (r : Reached) × (qs : List BlockQueueState)
+      × WithQueue w.queues w.todo.ring reached.Fine old r qs new
+      (λ q r q'. SetsUp step q w.max_size vring w.backend.connection.features fresh old r q' new)
+      × (w' ≡ after_reach (record w { queues = qs }) r)
+
+  -- a queue is told where its ring lies, if that runs
+  abbrev pub Places : BlockBackend → Place → H → BlockBackend → H → Type 0
+  Places w place old w' new =
+      MatchResult place.vring (λ vring. SetsUpAt w vring place.fresh old w' new) (λ e. (w' ≡ w) × (new ≡ old))
+
+  -- what is to be done for a ring is done, or is to be done by the program
+  abbrev pub Acts : BlockBackend → ℕ → RingAction → H → Made → BlockBackend → H → Type 0
+  Acts w ring action.Pop old m w' new = (w' ≡ w) × (m ≡ made.Again) × (new ≡ old)
+  Acts w ring (action.Serve id left) old m w' new =
+      (w' ≡ w) × (m ≡ part_deed ring id (part_of id left (slice_get w.queues ring))) × (new ≡ old)
+  Acts w ring (action.Return chain moved failed) old m w' new = (r : Reached) × (qs : List BlockQueueState)
+      × WithQueue w.queues ring reached.Fine old r qs new (Gives step chain moved failed old new)
+      × (w' ≡ after_reach (record w { queues = qs }) r) × (m ≡ made.Again)
+  Acts w ring action.Notify old m w' new = (r : Result Bool QueueError) × (qs : List BlockQueueState)
+      × WithQueue w.queues ring (Ok false) old r qs new (Asks step old new)
+      × ((w', m) ≡ notified (record w { queues = qs }) ring r)
+  Acts w ring action.Broke old m w' new = (w' ≡ w) × (m ≡ made.Deed (deed.Tell ring)) × (new ≡ old)
+  Acts w ring action.Stopped old m w' new = (w' ≡ w) × (m ≡ made.Deed (deed.Stopped ring)) × (new ≡ old)
+
+  -- a step of what follows from an event: a place, an action for a ring, and then what comes after these
+  abbrev pub ActsFirst : BlockBackend → Option RingAction → H → Made → BlockBackend → H → Type 0
+  ActsFirst w None old m w' new = ((w', m) ≡ stepped_on w) × (new ≡ old)
+  ActsFirst w (Some a) old m w' new = Acts w w.todo.ring a old m w' new
+
+  abbrev pub StepsFrom : BlockBackend → Option Place → H → Made → BlockBackend → H → Type 0
+  StepsFrom w None old m w' new = ActsFirst
+      (record w { todo = record w.todo { actions = drop 1 w.todo.actions } }) (slice_get w.todo.actions 0) old m w' new
+  StepsFrom w (Some place) old m w' new =
+      Places (record w { todo = record w.todo { place = None } }) place old w' new × (m ≡ made.Again)
+
+  abbrev pub Steps : BlockBackend → H → Made → BlockBackend → H → Type 0
+  Steps w = StepsFrom w w.todo.place
+
+  -- a ring that was kicked is looked at, or else the one that has its turn takes a step of it
+  abbrev pub TakesTurn : BlockBackend → H → Bool → BlockBackend → H → Type 0
+  TakesTurn w old is w' new = (r : Option Todo) × (b : BackendState) × (qs : List BlockQueueState)
+      × WithQueue w.queues w.turn None old r qs new (Turns step (terms_of w) w.turn w.backend b old new)
+      × (slice_get w.queues w.turn ≡ None → b ≡ w.backend) × (is ≡ is_some r) × (w' ≡ looked (record w { queues = qs; backend = b }) r)
+
+  abbrev pub LooksAt : BlockBackend → Option ℕ → H → Bool → BlockBackend → H → Type 0
+  LooksAt w (Some ring) old is w' new = (is ≡ true) × (w' ≡ told w (event.Ring ring Kick)) × (new ≡ old)
+  LooksAt w None old is w' new = TakesTurn w old is w' new
+
+  abbrev pub Looks : BlockBackend → H → Bool → BlockBackend → H → Type 0
+  Looks w old is w' new = (ring : Option ℕ) × (kicks : List Bool) × TakesKick w.kicks ring kicks
+      × LooksAt (record w { kicks = kicks }) ring old is w' new

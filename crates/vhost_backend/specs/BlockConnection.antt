@@ -1,0 +1,82 @@
+-- A connection of a block device with its guest memory: what each call makes of it.
+use Rattle.std.specs.Prelude.{◌≡◌, ℕ, ◌+◌, ◌-◌, ◌*◌, ◌≤◌, ◌||◌, nat_lt, Bool, true, false, if◌then◌else◌, List, length, drop, slice_set, Option, Some, None, is_some, MatchOption}
+use Rattle.std.specs.List.{list_all}
+use Rattle.vhost_message.specs.Header.{header_in}
+use Rattle.vhost_message.specs.declared.regions.MemoryRegion.{MemoryRegion}
+use Rattle.vhost_user.specs.Connection.{Connection}
+use Rattle.vhost_user.specs.Log.{log_kept, logged}
+use Rattle.vhost_backend.specs.BlockBackend.{answered, came, hung_up, mapped, region_at, resized}
+use Rattle.vhost_backend.specs.ConnectionMemory.{MemoryState, with_pages}
+use Rattle.vhost_backend.specs.PageList.{capped}
+use Rattle.vhost_backend.specs.declared.block.BlockStep.{BlockStep}
+use Rattle.vhost_backend.specs.declared.block.BlockStep.TheVariants as step
+use Rattle.vhost_backend.specs.declared.block_backend.BlockBackend.{BlockBackend}
+use Rattle.vhost_backend.specs.declared.deeds.Why.TheVariants.{HungUp, Log}
+use Rattle.vhost_backend.specs.declared.block_connection.BlockConnection.{BlockConnection}
+
+abbrev pub with_backend : BlockConnection → BlockBackend → BlockConnection
+with_backend c w = record c { backend = w }
+
+-- ---- parts
+
+-- whether a part has its bytes on the writable side of its chain, the first of them there, and how many there are
+abbrev pub bytes_in : BlockStep → Bool × ℕ × ℕ
+bytes_in (step.Read place offset len) = (true, offset, len)
+bytes_in (step.Write place offset len) = (false, 16 + offset, len)
+bytes_in (step.Name len) = (true, 0, len)
+bytes_in step.Flush = (true, 0, 0)
+
+-- ---- the log
+
+-- how many pages have a bit in it, if writes are logged
+abbrev pub pages_in : Option ℕ → ℕ
+pages_in None = 0
+pages_in (Some bytes) = capped (bytes * 8)
+
+-- whether each page of the memory has one
+abbrev pub is_covered : Connection → Bool
+is_covered s = list_all (λ region. is_some (logged s region.guest_address.0 region.size)) s.memory
+
+-- pages are marked as the connection has it. If one has no bit, the connection is over
+abbrev pub with_log : BlockConnection → BlockConnection
+with_log c = let s = c.backend.backend.connection in
+    let pages = record c.memory.logged.pages { pages = pages_in (log_kept s) } in
+    let logs = record c { memory = with_pages c.memory pages } in
+    if is_covered s then logs else with_backend logs (hung_up logs.backend Log)
+
+-- after a message was finished
+abbrev pub looked_after : BlockConnection → BlockConnection
+looked_after c = let seen = with_backend c (record c.backend { finished = false }) in
+    if c.backend.finished then with_log seen else seen
+
+-- ---- events
+
+-- a whole message is taken, unless a part is being given
+abbrev pub taken_whole : BlockConnection → List ℕ → ℕ → BlockConnection × Bool
+taken_whole c message descriptors =
+    let t = came c.backend (header_in message) (drop 12 message) descriptors in (with_backend c t.0, t.1)
+
+abbrev pub taken : BlockConnection → List ℕ → ℕ → BlockConnection × Bool
+taken c message descriptors = if nat_lt (length message) 12 then (c, false)
+    else if is_some c.part || is_some c.lost then (c, false) else taken_whole c message descriptors
+
+abbrev pub kicked : BlockConnection → ℕ → BlockConnection
+kicked c ring = with_backend c (record c.backend { kicks = slice_set c.backend.kicks ring true })
+
+abbrev pub sent : BlockConnection → ℕ → BlockConnection
+sent c count = with_backend c (record c.backend { unread = c.backend.unread - count })
+
+abbrev pub ended : BlockConnection → BlockConnection
+ended c = with_backend c (hung_up c.backend HungUp)
+
+abbrev pub done : BlockConnection → BlockConnection
+done c = looked_after (with_backend c (answered c.backend true))
+
+abbrev pub failed : BlockConnection → BlockConnection
+failed c = with_backend c (answered (mapped c.backend false) false)
+
+-- the bytes of a region came, if one was asked for
+abbrev pub Maps : BlockConnection → Bool → BlockConnection → Type 0
+Maps c is c' = MatchOption (region_at c.backend c.backend.ask) ((is ≡ false) × (c' ≡ c))
+    (λ region. (m : MemoryState) × (m.layout ≡ c.memory.layout) × (m.logged.pages ≡ c.memory.logged.pages)
+    × (c' ≡ record c { memory = m; backend = mapped c.backend is }))

@@ -1,0 +1,88 @@
+-- The queues of a block device's rings: what is done for one of them, step by step, and what it leaves.
+use Rattle.std.specs.Prelude.{◌≡◌, ℕ, ◌-◌, ◌&&◌, nat_le, nat_lt, Bool, true, false, if◌then◌else◌, List, replicate, slice_get, slice_set, Option, Some, None, Result, Ok, Err, MatchBool, MatchOption, option_map}
+use Rattle.virtio_blk.specs.declared.request.Request.{Request}
+use Rattle.virtio_blk.specs.declared.request.DeviceLimits.{DeviceLimits}
+use Rattle.virtio_queue.specs.Any.{after_asked, with_ready}
+use Rattle.virtio_queue.specs.declared.any.AnyQueue.{AnyQueue}
+use Rattle.virtio_queue.specs.declared.error.QueueError.{QueueError}
+use Rattle.vhost_user.specs.declared.vring.RunningVring.{RunningVring}
+use Rattle.vhost_backend.specs.Backend.{BackendState}
+use Rattle.vhost_backend.specs.Block.{block_parts, block_step}
+use Rattle.vhost_backend.specs.BlockQueue.{BlockQueueState, GivesBack, asked_at, new_queue, with_queue}
+use Rattle.vhost_backend.specs.BlockTurn.{TakesStep}
+use Rattle.vhost_backend.specs.RingMemory.{MemoryStep, Returned, needs}
+use Rattle.vhost_backend.specs.SetUp.{Fresh, base_of, is_set_up, moved_queue}
+use Rattle.vhost_backend.specs.declared.backend.Finish.{Finish}
+use Rattle.vhost_backend.specs.declared.backend.Finish.TheVariants.{Done, At}
+use Rattle.vhost_backend.specs.declared.backend.Todo.{Todo}
+use Rattle.vhost_backend.specs.declared.block.BlockStep.{BlockStep}
+use Rattle.vhost_backend.specs.declared.block_queue.GiveBack.{GiveBack}
+use Rattle.vhost_backend.specs.declared.block_queue.GiveBack.TheVariants as back
+use Rattle.vhost_backend.specs.declared.block_queues.Reached.{Reached}
+use Rattle.vhost_backend.specs.declared.block_queues.Reached.TheVariants.{Fine, Broken, Memory}
+use Rattle.vhost_backend.specs.declared.request.Chain.{Chain}
+
+-- ---- without memory
+
+-- the request with an id that is under way in a queue
+abbrev pub request_of : BlockQueueState → ℕ → Option Request
+request_of q id = option_map (λ asked. asked.request) (asked_at q id)
+
+-- the part of a request that is served when so many are left, if it has it
+abbrev pub part_at : ℕ → Option Request → Option BlockStep
+part_at left None = None
+part_at left (Some request) =
+    if nat_lt 0 left && nat_le left (block_parts request) then Some (block_step request left) else None
+
+abbrev pub part_of : ℕ → ℕ → Option BlockQueueState → Option BlockStep
+part_of id left None = None
+part_of id left (Some q) = part_at left (request_of q id)
+
+-- the base of a ring that is stopped, if its queue was set up, which it is not from then on
+abbrev pub base_left : BlockQueueState → BlockQueueState × Finish
+base_left q = if is_set_up q.queue then (with_queue q (with_ready q.queue false), At (base_of q.queue)) else (q, Done)
+
+abbrev pub based : List BlockQueueState → ℕ → Option BlockQueueState → List BlockQueueState × Finish
+based qs ring None = (qs, Done)
+based qs ring (Some q) = let t = base_left q in (slice_set qs ring t.0, t.1)
+
+-- ---- on memory
+
+-- a queue was told where its ring lies, or cannot be reached there
+abbrev pub placed : BlockQueueState → Result AnyQueue QueueError → Reached × BlockQueueState
+placed q (Ok made) = (Fine, with_queue q made)
+placed q (Err e) = (Broken, q)
+
+abbrev pub given_back : GiveBack → Reached
+given_back back.Done = Fine
+given_back back.NotUnderWay = Fine
+given_back (back.Broken e) = Broken
+given_back back.Later = Memory
+
+-- nothing is done for a ring that is not there
+abbrev pub WithQueue : {H T : Type 0} → List BlockQueueState → ℕ → T → H → T → List BlockQueueState → H
+    → (BlockQueueState → T → BlockQueueState → Type 0) → Type 0
+WithQueue qs ring none old r qs' new P = MatchOption (slice_get qs ring) ((r ≡ none) × (qs' ≡ qs) × (new ≡ old))
+    (λ q. (q' : BlockQueueState) × P q r q' × (qs' ≡ slice_set qs ring q'))
+
+module _ {H : Type 0} (step : H → (s : MemoryStep) → Returned s → H → Type 0) where
+  -- a ring that was started begins at its base, and another one goes on where it is, if it was set up
+  abbrev pub SetsUp : BlockQueueState → ℕ → RunningVring → ℕ → Bool → H → Reached → BlockQueueState → H → Type 0
+  SetsUp q max_size vring features true old r q' new =
+      (made : Result AnyQueue QueueError) × Fresh step max_size vring features old made new × ((r, q') ≡ placed q made)
+  SetsUp q max_size vring features false old r q' new =
+      ((r, q') ≡ (if is_set_up q.queue then placed q (moved_queue q.queue vring) else (Fine, q))) × (new ≡ old)
+
+  -- a chain is given back
+  abbrev pub Gives : Chain → ℕ → Bool → H → H → BlockQueueState → Reached → BlockQueueState → Type 0
+  Gives chain moved failed old new q r q' =
+      (a : GiveBack) × GivesBack step q chain moved failed old a q' new × (r ≡ given_back a)
+
+  -- it is asked whether the driver has to be notified
+  abbrev pub Asks : H → H → BlockQueueState → Result Bool QueueError → BlockQueueState → Type 0
+  Asks old new q r q' = step old (needs q.queue) r new × (q' ≡ with_queue q (after_asked q.queue r))
+
+  -- the ring takes a step of its turn
+  abbrev pub Turns : DeviceLimits → ℕ → BackendState → BackendState → H → H → BlockQueueState → Option Todo → BlockQueueState
+      → Type 0
+  Turns terms ring b b' old new q r q' = TakesStep step terms ring b q old r b' q' new

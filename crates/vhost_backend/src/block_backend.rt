@@ -1,0 +1,590 @@
+//! A back end of a block device: its connection, its rings, and their queues and requests. Events come in, and what is
+//! to be done is given one after another.
+ghost use Rattle.std.specs.Prelude.{◌≡◌, ◌-◌, ◌^◌, ◌<◌, [], true, false, None, slice_set};
+ghost use Rattle.vhost_backend.specs.BlockBackend.{Acts, Looks, Places, SetsUpAt, Steps, TakesTurn, after_reach};
+ghost use Rattle.vhost_backend.specs.BlockBackend.{answered, asked_first, asked_more, came, counted};
+ghost use Rattle.vhost_backend.specs.BlockBackend.{finished_by, gone_on, hung_up, is_done};
+ghost use Rattle.vhost_backend.specs.BlockBackend.{mapped, messaged, notified, region_at, replied, said_last};
+ghost use Rattle.vhost_backend.specs.BlockBackend.{broke_if, stepped_on, terms_of, told};
+ghost use Rattle.vhost_backend.specs.BlockQueues.{part_of};
+ghost use Rattle.vhost_backend.specs.PageList.{capped};
+ghost use Rattle.vhost_backend.specs.Rings.{has_next};
+ghost use Rattle.vhost_backend.specs.BlockBackend.{resized};
+ghost use Rattle.vhost_backend.specs.declared.deeds.Ask.TheVariants as ask;
+
+use crate::backend::{Backend, Finish, Next, Outcome, Place, Todo};
+use crate::block::BlockStep;
+use crate::block_queues::{BlockQueues, Reached};
+use crate::deeds::{
+    Ask, Deed, Limits, Made, Why, called_by, is_asked, is_quiet, limit_if, part_deed,
+};
+use crate::kicks::Kicks;
+use crate::mapping::Mapping;
+use crate::request::{Chain, PartEnd};
+use crate::ring::{RingAction, RingActions, RingEvent};
+use crate::ring_memory::RingMemory;
+use crate::rings::Event;
+use crate::wanted::{Purpose, Wanted};
+use std::alloc::Global;
+use std::mem;
+use vhost_message::{Header, MemoryRegion, Message, Refusal};
+use vhost_user::{Offer, OfferError, RunningVring};
+use virtio_blk::DeviceLimits;
+use virtio_queue::QueueError;
+
+// The features by which a driver keeps the bounds on the length and the number of segments.
+const SIZE_MAX: u64 = 2;
+
+const SEG_MAX: u64 = 4;
+
+// How many sectors a disk has at most.
+const MOST_SECTORS: u64 = (1 << 55) - 1;
+
+/// The back end's side of a connection, with the queues of its rings and what is left to be done.
+#[derive(Drop)]
+pub struct BlockBackend {
+    alloc: Global,
+    backend: Backend,
+    queues: BlockQueues,
+    max_size: u16,
+    limits: Limits,
+    // What is left of what followed from the last event.
+    todo: Todo,
+    // The ring of that cannot be reached, and breaks after it.
+    broken: bool,
+    ask: Ask,
+    reply: Message,
+    // A ring whose call descriptor is new.
+    called: Option<usize>,
+    // Why it is over, if that was not said.
+    end: Option<Why>,
+    // The rings that were kicked since they were looked at.
+    kicks: Kicks,
+    // The ring that took its turn last.
+    turn: usize,
+    unread: usize,
+    // A message was finished since it was asked.
+    finished: bool,
+}
+
+impl BlockBackend {
+    /// A new connection, as from `Backend::new`.
+    pub fn new(
+        alloc: Global,
+        offer: Offer,
+        queues: usize,
+        config: &[u8],
+        limits: Limits,
+    ) -> Result<BlockBackend, OfferError> {
+        let Ok(max_size) = u16::try_from(offer.max_queue_size) else {
+            return Err(OfferError::Invalid);
+        };
+        let backend = Backend::new(alloc, offer, queues, config, usize::from(max_size))?;
+        let Ok(kicks) = Kicks::new(alloc, queues) else {
+            return Err(OfferError::Memory);
+        };
+        Ok(BlockBackend {
+            alloc,
+            backend,
+            queues: BlockQueues::new(alloc, queues, max_size)?,
+            max_size,
+            limits,
+            todo: Todo {
+                ring: 0,
+                place: None,
+                actions: RingActions::none(),
+                message: Outcome::Stays,
+            },
+            broken: false,
+            ask: Ask::Nothing,
+            reply: Message::new(),
+            called: None,
+            end: None,
+            kicks,
+            turn: 0,
+            unread: 0,
+            finished: false,
+        })
+    }
+
+    /// The connection.
+    #[inline]
+    pub fn backend(&self) -> &Backend
+        ensures { result.now ≡ self.now.backend }
+    {
+        &self.backend
+    }
+
+    /// The bytes that are to be sent.
+    #[inline]
+    pub fn reply(&self) -> &Message
+        ensures { result.now ≡ self.now.reply }
+    {
+        &self.reply
+    }
+
+    /// The queues.
+    #[inline]
+    pub fn queues(&self) -> &BlockQueues
+        ensures { result.now ≡ self.now.queues }
+    {
+        &self.queues
+    }
+
+    /// Whether nothing is left to be done, and so the next event may come.
+    pub fn is_done(&self) -> bool
+        ensures { result ≡ is_done self.now }
+    {
+        self.todo.place.is_none()
+            && self.todo.actions.is_empty()
+            && is_quiet(&self.todo.message)
+            && !self.broken
+            && is_asked(self.ask)
+            && self.reply.is_empty()
+            && self.called.is_none()
+            && self.end.is_none()
+    }
+
+    /// What requests are held against.
+    pub fn terms(&self) -> DeviceLimits
+        ensures terms { result ≡ terms_of self.now }
+        ensures small { result.sectors < 2 ^ 55 }
+    {
+        let acked = self.backend.connection().features();
+        DeviceLimits {
+            sectors: self.limits.sectors.min(MOST_SECTORS),
+            read_only: self.limits.read_only,
+            acked,
+            seg_max: limit_if(acked & SEG_MAX != 0, self.limits.seg_max),
+            size_max: limit_if(acked & SIZE_MAX != 0, self.limits.size_max),
+        }
+    }
+
+    // ---- events
+
+    /// Takes a message that came whole, as `Backend::take_message`, if one can be taken. Returns whether it was.
+    pub fn take_message(&mut self, header: &Header, payload: &[u8], descriptors: usize) -> bool
+        ensures { (self.new, result) ≡ came self.old header.now payload.now descriptors }
+    {
+        if !self.is_done() || !self.backend.is_free() {
+            return false;
+        }
+        self.todo = self.backend.take_message(header, payload, descriptors);
+        true
+    }
+
+    /// Takes note that a driver notified.
+    pub fn kick(&mut self, ring: usize)
+        ensures { self.new ≡ record self.old { kicks = slice_set self.old.kicks ring true } }
+    {
+        self.kicks.add(ring);
+    }
+
+    /// Takes note of what happened, if nothing is left to be done: a part of a request ended.
+    pub fn ended(&mut self, ring: usize, id: u16, end: PartEnd)
+        ensures { self.new ≡ told self.old (Event.Ring ring (RingEvent.Ended id end)) }
+    {
+        self.todo = self
+            .backend
+            .handle(Event::Ring(ring, RingEvent::Ended(id, end)));
+    }
+
+    /// Gives a ring its turn, if one wants it and nothing is left to be done.
+    pub fn go_on(&mut self)
+        ensures { self.new ≡ gone_on self.old }
+    {
+        self.todo = self.backend.handle(Event::GoOn);
+        self.turn = self.todo.ring;
+    }
+
+    /// Whether a ring gets a turn by `go_on`.
+    #[inline]
+    pub fn has_next(&self) -> bool
+        ensures { result ≡ has_next self.now.backend.rings }
+    {
+        self.backend.rings().has_next()
+    }
+
+    /// Ends the connection.
+    pub fn hang_up(&mut self, why: Why)
+        ensures { self.new ≡ hung_up self.old why }
+    {
+        self.ask = Ask::Nothing;
+        if !self.backend.is_over() {
+            self.backend.hang_up();
+            self.end = Some(why);
+        }
+    }
+
+    /// Takes note that so many bytes of replies were sent.
+    pub fn sent(&mut self, count: usize)
+        ensures { self.new ≡ record self.old { unread = self.old.unread - count } }
+    {
+        self.unread = self.unread.saturating_sub(count);
+    }
+
+    /// The region that is to be mapped, if one was asked for.
+    pub fn region_asked(&self) -> Option<MemoryRegion>
+        ensures { result ≡ region_at self.now self.now.ask }
+    {
+        let Ask::Region(number) = self.ask else {
+            return None;
+        };
+        match self.backend.mapping(number) {
+            Some(Mapping::Map(region, _)) => Some(region),
+            _ => None,
+        }
+    }
+
+    /// Takes note that the region was mapped that was asked for, or could not be.
+    pub fn mapped(&mut self, is_done: bool)
+        ensures { self.new ≡ mapped self.old is_done }
+    {
+        let Ask::Region(number) = self.ask else {
+            return;
+        };
+        if is_done {
+            self.ask = Ask::Mapped(number.saturating_add(1));
+        } else {
+            self.finish(Finish::Failed);
+        }
+    }
+
+    /// Takes note that what was asked for was done, or could not be.
+    pub fn answer(&mut self, is_done: bool)
+        ensures { self.new ≡ answered self.old is_done }
+    {
+        let Ask::Answer = self.ask else {
+            return;
+        };
+        if is_done {
+            self.called = called_by(self.called, self.backend.wanted());
+            self.finish(Finish::Done);
+        } else {
+            self.finish(Finish::Failed);
+        }
+    }
+
+    /// The disk has so many sectors from now on, and the configuration begins with them.
+    pub fn resize(&mut self, sectors: u64)
+        ensures { self.new ≡ resized self.old sectors }
+    {
+        self.limits.sectors = sectors;
+        self.backend.change_config(0, &sectors.to_le_bytes());
+    }
+
+    /// Whether a message was finished since this was asked last.
+    pub fn take_finished(&mut self) -> bool
+        ensures was { result ≡ self.old.finished }
+        ensures after { self.new ≡ record self.old { finished = false } }
+    {
+        let was = self.finished;
+        self.finished = false;
+        was
+    }
+
+    /// Forgets the bytes of the reply, which are being sent.
+    pub fn forget_reply(&mut self)
+        ensures { self.new ≡ record self.old { reply = [] } }
+    {
+        self.reply = Message::new();
+    }
+
+    // Finishes the message that took effect.
+    fn finish(&mut self, end: Finish)
+        ensures { self.new ≡ finished_by self.old end }
+    {
+        self.ask = Ask::Nothing;
+        self.finished = true;
+        let (reply, next) = self.backend.finish(end);
+        self.reply = reply;
+        match next {
+            Next::Messages => {}
+            Next::End => self.end = Some(Why::Failed),
+        }
+    }
+
+    // ---- what is to be done on memory
+
+    // What comes of a ring that was reached or not.
+    fn reach(&mut self, reached: Reached)
+        ensures { self.new ≡ after_reach self.old reached }
+    {
+        match reached {
+            Reached::Fine => {}
+            Reached::Broken => self.broken = true,
+            Reached::Memory => self.hang_up(Why::Memory),
+        }
+    }
+
+    // Tells a ring's queue where it lies.
+    fn set_up<H, D: RingMemory<H>>(
+        &mut self,
+        mem: &D,
+        host: &mut H,
+        vring: &RunningVring,
+        fresh: bool,
+    )
+        requires { D.held mem.now host.old }
+        ensures sets { SetsUpAt (D.steps mem.now) self.old vring.now fresh host.old self.new host.new }
+        ensures held { D.held mem.now host.new }
+    {
+        let features = self.backend.connection().features();
+        let ring = self.todo.ring;
+        let reached = self
+            .queues
+            .set_up(mem, host, ring, self.max_size, vring, features, fresh);
+        self.reach(reached);
+    }
+
+    fn place<H, D: RingMemory<H>>(&mut self, mem: &D, host: &mut H, place: Place)
+        requires { D.held mem.now host.old }
+        ensures places { Places (D.steps mem.now) self.old place host.old self.new host.new }
+        ensures held { D.held mem.now host.new }
+    {
+        if let Ok(vring) = place.vring {
+            self.set_up(mem, host, &vring, place.fresh);
+        }
+    }
+
+    fn give_back<H, D: RingMemory<H>>(
+        &mut self,
+        mem: &D,
+        host: &mut H,
+        ring: usize,
+        chain: Chain,
+        moved: u64,
+        failed: bool,
+    ) -> Made
+        requires { D.held mem.now host.old }
+        ensures acts { Acts (D.steps mem.now) self.old ring (RingAction.Return chain moved failed) host.old result
+            self.new host.new }
+        ensures held { D.held mem.now host.new }
+    {
+        let reached = self.queues.give_back(mem, host, ring, chain, moved, failed);
+        self.reach(reached);
+        Made::Again
+    }
+
+    // What comes of the question whether a driver is to be interrupted.
+    fn notified(&mut self, ring: usize, asked: Result<bool, QueueError>) -> Made
+        ensures { (self.new, result) ≡ notified self.old ring asked }
+    {
+        match asked {
+            Ok(true) => Made::Deed(Deed::Interrupt(ring)),
+            Ok(false) => Made::Again,
+            Err(_) => {
+                self.broken = true;
+                Made::Again
+            }
+        }
+    }
+
+    fn notify<H, D: RingMemory<H>>(&mut self, mem: &D, host: &mut H, ring: usize) -> Made
+        requires { D.held mem.now host.old }
+        ensures acts { Acts (D.steps mem.now) self.old ring RingAction.Notify host.old result self.new host.new }
+        ensures held { D.held mem.now host.new }
+    {
+        let asked = self.queues.needs_notification(mem, host, ring);
+        self.notified(ring, asked)
+    }
+
+    // Does what is to be done for a ring, or says what the program is to do.
+    fn act<H, D: RingMemory<H>>(
+        &mut self,
+        mem: &D,
+        host: &mut H,
+        ring: usize,
+        action: RingAction,
+    ) -> Made
+        requires { D.held mem.now host.old }
+        ensures acts { Acts (D.steps mem.now) self.old ring action host.old result self.new host.new }
+        ensures held { D.held mem.now host.new }
+    {
+        match action {
+            RingAction::Pop => Made::Again,
+            RingAction::Serve(id, left) => part_deed(ring, id, self.queues.part(ring, id, left)),
+            RingAction::Return(chain, moved, failed) => {
+                self.give_back(mem, host, ring, chain, moved, failed)
+            }
+            RingAction::Notify => self.notify(mem, host, ring),
+            RingAction::Broke => Made::Deed(Deed::Tell(ring)),
+            RingAction::Stopped => Made::Deed(Deed::Stopped(ring)),
+        }
+    }
+
+    /// Takes the next step of what follows from the last event.
+    pub fn step<H, D: RingMemory<H>>(&mut self, mem: &D, host: &mut H) -> Made
+        requires { D.held mem.now host.old }
+        ensures steps { Steps (D.steps mem.now) self.old host.old result self.new host.new }
+        ensures held { D.held mem.now host.new }
+    {
+        if let Some(place) = self.todo.place {
+            self.todo.place = None;
+            self.place(mem, host, place);
+            return Made::Again;
+        }
+        let ring = self.todo.ring;
+        match self.todo.actions.take_first() {
+            Some(action) => self.act(mem, host, ring, action),
+            None => self.step_on(),
+        }
+    }
+
+    // ---- what is to be done without memory
+
+    // After all was done for a ring: its message, whether it breaks, and what is asked for.
+    fn step_on(&mut self) -> Made
+        ensures { (self.new, result) ≡ stepped_on self.old }
+    {
+        match mem::replace(&mut self.todo.message, Outcome::Stays) {
+            Outcome::Stays => self.go_further(),
+            outcome => {
+                self.message(outcome);
+                Made::Again
+            }
+        }
+    }
+
+    // What becomes of the message.
+    fn message(&mut self, outcome: Outcome)
+        ensures { self.new ≡ messaged self.old outcome }
+    {
+        match outcome {
+            Outcome::Stays => {}
+            Outcome::Begins => self.ask = Ask::First,
+            Outcome::Refused(refusal, reply) => {
+                self.reply = reply;
+                self.hang_up(Why::Refused(refusal));
+            }
+        }
+    }
+
+    fn go_further(&mut self) -> Made
+        ensures { (self.new, result) ≡ broke_if self.old self.old.broken }
+    {
+        if self.broken {
+            self.broken = false;
+            let ring = self.todo.ring;
+            self.todo = self.backend.handle(Event::Ring(ring, RingEvent::Break));
+            return Made::Again;
+        }
+        match self.ask {
+            Ask::First => self.ask_first(),
+            Ask::Mapped(number) => self.ask_more(number),
+            _ => self.say_last(),
+        }
+    }
+
+    // What a message that took effect asks for first.
+    fn ask_first(&mut self) -> Made
+        ensures { (self.new, result) ≡ asked_first self.old }
+    {
+        match self.backend.wanted() {
+            Wanted::Nothing => {
+                self.ask = Ask::Nothing;
+                Made::Again
+            }
+            Wanted::Memory => {
+                self.ask = Ask::Mapped(1);
+                Made::Deed(Deed::UnmapAll)
+            }
+            Wanted::Log { size, offset } => {
+                self.ask = Ask::Answer;
+                Made::Deed(Deed::Log { size, offset })
+            }
+            Wanted::Descriptor(purpose, is_there) => {
+                self.ask = Ask::Answer;
+                Made::Deed(Deed::Keep(purpose, is_there))
+            }
+            Wanted::Base(ring) => {
+                let end = self.queues.base(ring as usize);
+                self.finish(end);
+                Made::Again
+            }
+            Wanted::Finish => {
+                self.finish(Finish::Done);
+                Made::Again
+            }
+        }
+    }
+
+    fn ask_more(&mut self, number: usize) -> Made
+        ensures { (self.new, result) ≡ asked_more self.old number }
+    {
+        match self.backend.mapping(number) {
+            Some(Mapping::Map(region, descriptor)) => {
+                self.ask = Ask::Region(number);
+                Made::Deed(Deed::Map(region, descriptor))
+            }
+            _ => {
+                self.ask = Ask::Answer;
+                Made::Deed(Deed::Join)
+            }
+        }
+    }
+
+    // What is said to the front end at last.
+    fn say_last(&mut self) -> Made
+        ensures { (self.new, result) ≡ said_last self.old }
+    {
+        if !self.reply.is_empty() {
+            return self.send();
+        }
+        if let Some(ring) = self.called {
+            self.called = None;
+            return Made::Deed(Deed::Interrupt(ring));
+        }
+        if let Some(why) = self.end {
+            self.end = None;
+            return Made::Deed(Deed::End(why));
+        }
+        Made::Idle
+    }
+
+    // The bytes of the reply are sent.
+    fn send(&mut self) -> Made
+        ensures { (self.new, result) ≡ replied self.old }
+    {
+        self.unread = self.unread.saturating_add(self.reply.len());
+        if self.unread > self.limits.unread {
+            self.hang_up(Why::Unread);
+        }
+        Made::Deed(Deed::Send)
+    }
+
+    // ---- rings that were kicked, and turns
+
+    // The ring that has its turn takes a step of it, if it can.
+    fn take_turn<H, D: RingMemory<H>>(&mut self, mem: &D, host: &mut H) -> bool
+        requires { D.held mem.now host.old }
+        ensures turns { TakesTurn (D.steps mem.now) self.old host.old result self.new host.new }
+        ensures held { D.held mem.now host.new }
+    {
+        let terms = self.terms();
+        match self
+            .queues
+            .take_step(&mut self.backend, self.turn, self.alloc, mem, host, terms)
+        {
+            Some(todo) => {
+                self.todo = todo;
+                true
+            }
+            None => false,
+        }
+    }
+
+    /// Looks at a ring that was kicked, or else pops the next chain of the ring that has its turn, if nothing is left
+    /// to be done. Returns whether it did.
+    pub fn look<H, D: RingMemory<H>>(&mut self, mem: &D, host: &mut H) -> bool
+        requires { D.held mem.now host.old }
+        ensures looks { Looks (D.steps mem.now) self.old host.old result self.new host.new }
+        ensures held { D.held mem.now host.new }
+    {
+        if let Some(ring) = self.kicks.take() {
+            self.todo = self.backend.handle(Event::Ring(ring, RingEvent::Kick));
+            return true;
+        }
+        self.take_turn(mem, host)
+    }
+}

@@ -1,0 +1,232 @@
+//! The queues of a block device's rings.
+ghost use Rattle.std.specs.Prelude.{◌≡◌, ◌^◌, ◌<◌, IfOk, None, Ok, Some, false, option_copied, replicate};
+ghost use Rattle.std.specs.Prelude.{option_map, slice_get};
+ghost use Rattle.vhost_backend.specs.BlockQueue.{asked_at};
+ghost use Rattle.vhost_backend.specs.BlockQueues.{Asks, Gives, SetsUp, Turns, WithQueue, based, given_back, part_of};
+ghost use Rattle.vhost_backend.specs.declared.block_queues.Reached.TheVariants.{Fine};
+
+use crate::backend::{Backend, Finish, Todo};
+use crate::block::{BlockStep, block_parts, block_step};
+use crate::block_queue::{BlockQueue, GiveBack};
+use crate::request::Chain;
+use crate::ring_memory::RingMemory;
+use crate::set_up::{base_of, fresh_queue, is_set_up, moved_queue, unset_queue};
+use crate::turn::take_step;
+use std::alloc::Global;
+use std::marker::Model;
+use vhost_user::{OfferError, RunningVring};
+use virtio_blk::DeviceLimits;
+use virtio_queue::QueueError;
+use vm_memory_device::Chain as Descriptors;
+
+/// What a call asks of a ring that is not there, or that is reached or is not.
+#[derive(Clone, Copy, Debug)]
+pub enum Reached {
+    /// It was done, or there is nothing to do.
+    Fine,
+    /// The ring cannot be reached: it breaks.
+    Broken,
+    /// An allocation failed.
+    Memory,
+}
+
+/// The queues of the rings, each with its requests.
+#[derive(Drop)]
+pub struct BlockQueues {
+    queues: Vec<BlockQueue>,
+}
+
+impl Model for BlockQueues {
+    ghost use Rattle.std.specs.Prelude.{List};
+    ghost use Rattle.vhost_backend.specs.BlockQueue.{BlockQueueState};
+
+    ghost Value = { List BlockQueueState };
+
+    ghost view = { λ q. q.queues.items };
+}
+
+fn given_back(given: GiveBack) -> Reached
+    ensures { result ≡ given_back given }
+{
+    match given {
+        GiveBack::Done | GiveBack::NotUnderWay => Reached::Fine,
+        GiveBack::Broken(_) => Reached::Broken,
+        GiveBack::Later => Reached::Memory,
+    }
+}
+
+// Tells a queue where its ring lies.
+fn set_up<H, D: RingMemory<H>>(
+    mem: &D,
+    host: &mut H,
+    queue: &mut BlockQueue,
+    max_size: u16,
+    vring: &RunningVring,
+    features: u64,
+    fresh: bool,
+) -> Reached
+    requires { D.held mem.now host.old }
+    ensures sets { SetsUp (D.steps mem.now) queue.old max_size vring.now features fresh host.old result queue.new
+        host.new }
+    ensures held { D.held mem.now host.new }
+{
+    let made = if fresh {
+        fresh_queue(mem, host, max_size, vring, features)
+    } else if is_set_up(queue.queue()) {
+        moved_queue(queue.queue(), vring)
+    } else {
+        return Reached::Fine;
+    };
+    match made {
+        Ok(made) => {
+            queue.set_queue(made);
+            Reached::Fine
+        }
+        Err(_) => Reached::Broken,
+    }
+}
+
+// Queues that nobody has set up.
+fn unset_queues(alloc: Global, count: usize, max_size: u16) -> Result<Vec<BlockQueue>, OfferError> {
+    let mut queues = Vec::new(alloc);
+    for _made in 0..count {
+        let Ok(queue) = unset_queue(max_size) else {
+            return Err(OfferError::Invalid);
+        };
+        let Ok(queue) = BlockQueue::new(alloc, queue, usize::from(max_size)) else {
+            return Err(OfferError::Memory);
+        };
+        if queues.push(queue).is_err() {
+            return Err(OfferError::Memory);
+        }
+    }
+    Ok(queues)
+}
+
+impl BlockQueues {
+    /// Queues that nobody has set up, so many, of this greatest size.
+    pub fn new(alloc: Global, count: usize, max_size: u16) -> Result<BlockQueues, OfferError> {
+        let queues = unset_queues(alloc, count, max_size)?;
+        Ok(BlockQueues { queues })
+    }
+
+    /// The part of the request with an id that is served when so many are left, if it is under way and has it.
+    pub fn part(&self, ring: usize, id: u16, left: u32) -> Option<BlockStep>
+        ensures { result ≡ part_of id left (slice_get self.now ring) }
+    {
+        let queue = self.queues.get(ring)?;
+        let request = queue.request(id)?;
+        if left > 0 && left <= block_parts(request) {
+            Some(block_step(request, left))
+        } else {
+            None
+        }
+    }
+
+    /// The chain with an id that is under way.
+    pub fn chain(&self, ring: usize, id: u16) -> Option<&Descriptors> {
+        match self.queues.get(ring) {
+            Some(queue) => queue.chain(id),
+            None => None,
+        }
+    }
+
+    /// The base of a ring that is stopped, if it was set up. It is not from now on.
+    pub fn base(&mut self, ring: usize) -> Finish
+        ensures { (self.new, result) ≡ based self.old ring (slice_get self.old ring) }
+    {
+        let Some(queue) = self.queues.get_mut(ring) else {
+            return Finish::Done;
+        };
+        if !is_set_up(queue.queue()) {
+            return Finish::Done;
+        }
+        let base = base_of(queue.queue());
+        queue.unset();
+        Finish::At(base)
+    }
+
+    /// Tells the queue of a ring where that lies.
+    pub fn set_up<H, D: RingMemory<H>>(
+        &mut self,
+        mem: &D,
+        host: &mut H,
+        ring: usize,
+        max_size: u16,
+        vring: &RunningVring,
+        features: u64,
+        fresh: bool,
+    ) -> Reached
+        requires { D.held mem.now host.old }
+        ensures sets { WithQueue self.old ring Fine host.old result self.new host.new
+            (λ q r q'. SetsUp (D.steps mem.now) q max_size vring.now features fresh host.old r q' host.new) }
+        ensures held { D.held mem.now host.new }
+    {
+        match self.queues.get_mut(ring) {
+            Some(queue) => set_up(mem, host, queue, max_size, vring, features, fresh),
+            None => Reached::Fine,
+        }
+    }
+
+    /// Returns a chain of a ring, whose request is over.
+    pub fn give_back<H, D: RingMemory<H>>(
+        &mut self,
+        mem: &D,
+        host: &mut H,
+        ring: usize,
+        chain: Chain,
+        moved: u64,
+        failed: bool,
+    ) -> Reached
+        requires { D.held mem.now host.old }
+        ensures gives { WithQueue self.old ring Fine host.old result self.new host.new
+            (Gives (D.steps mem.now) chain moved failed host.old host.new) }
+        ensures held { D.held mem.now host.new }
+    {
+        match self.queues.get_mut(ring) {
+            Some(queue) => given_back(queue.give_back(mem, host, chain, moved, failed)),
+            None => Reached::Fine,
+        }
+    }
+
+    /// Whether the driver of a ring has to be notified of what was returned.
+    pub fn needs_notification<H, D: RingMemory<H>>(
+        &mut self,
+        mem: &D,
+        host: &mut H,
+        ring: usize,
+    ) -> Result<bool, QueueError>
+        requires { D.held mem.now host.old }
+        ensures asks { WithQueue self.old ring (Ok false) host.old result self.new host.new
+            (Asks (D.steps mem.now) host.old host.new) }
+        ensures held { D.held mem.now host.new }
+    {
+        match self.queues.get_mut(ring) {
+            Some(queue) => queue.needs_notification(mem, host),
+            None => Ok(false),
+        }
+    }
+
+    /// Takes a step of a ring's turn, as `take_step`.
+    pub fn take_step<H, D: RingMemory<H>>(
+        &mut self,
+        backend: &mut Backend,
+        ring: usize,
+        alloc: Global,
+        mem: &D,
+        host: &mut H,
+        terms: DeviceLimits,
+    ) -> Option<Todo>
+        requires held { D.held mem.now host.old }
+        requires small { terms.sectors < 2 ^ 55 }
+        ensures turns { WithQueue self.old ring None host.old result self.new host.new
+            (Turns (D.steps mem.now) terms ring backend.old backend.new host.old host.new) }
+        ensures none { slice_get self.old ring ≡ None → backend.new ≡ backend.old }
+        ensures held { D.held mem.now host.new }
+    {
+        match self.queues.get_mut(ring) {
+            Some(queue) => take_step(backend, ring, queue, alloc, mem, host, terms),
+            None => None,
+        }
+    }
+}

@@ -1,0 +1,135 @@
+//! What a block device's back end has the program do, step by step, and why it ends.
+ghost use Rattle.std.specs.Prelude.{◌≡◌};
+ghost use Rattle.vhost_backend.specs.BlockBackend.{called_by, is_asked, is_quiet, limit_if, part_deed};
+
+use crate::backend::Outcome;
+use crate::block::BlockStep;
+use crate::wanted::{Purpose, Wanted};
+use vhost_message::{MemoryRegion, Refusal};
+
+/// What requests are held against, and how many bytes of replies may wait.
+#[derive(Clone, Copy, Debug, PartialEq, Eq)]
+pub struct Limits {
+    /// How many sectors of 512 bytes the disk has.
+    pub sectors: u64,
+    /// Whether nothing is written to it.
+    pub read_only: bool,
+    /// How many segments a request has beside header and status at most, if the driver accepted that.
+    pub seg_max: usize,
+    /// How many bytes a segment has at most, if the driver accepted that.
+    pub size_max: usize,
+    /// How many bytes of replies may wait to be sent.
+    pub unread: usize,
+}
+
+/// Why a connection is over.
+#[derive(Clone, Copy, Debug)]
+pub enum Why {
+    /// A message broke the protocol.
+    Refused(Refusal),
+    /// What a message asked for could not be done.
+    Failed,
+    /// An allocation failed.
+    Memory,
+    /// The front end does not read its replies.
+    Unread,
+    /// Guest memory has a page that has no bit in the log.
+    Log,
+    /// The program ended it.
+    HungUp,
+}
+
+/// What is to be done by the program.
+#[derive(Clone, Copy, Debug)]
+pub enum Deed {
+    /// The bytes of the reply are sent.
+    Send,
+    /// What was mapped of guest memory goes.
+    UnmapAll,
+    /// A region is mapped from the descriptor of this number. It is told whether that was done.
+    Map(MemoryRegion, usize),
+    /// All regions are mapped, and become guest memory. It is told whether that was done.
+    Join,
+    /// The log is mapped: so many bytes of its file, from an offset on. It is told whether that was done.
+    Log { size: u64, offset: u64 },
+    /// A descriptor is kept for a purpose, or none is. It is told whether that was done.
+    Keep(Purpose, bool),
+    /// A part of the request of a ring with this id is served.
+    Part(usize, u16, BlockStep),
+    /// The driver of a ring is interrupted.
+    Interrupt(usize),
+    /// The front end is told that a ring broke.
+    Tell(usize),
+    /// A ring is stopped.
+    Stopped(usize),
+    /// The connection is over.
+    End(Why),
+}
+
+/// What came of a step.
+#[derive(Clone, Copy, Debug)]
+pub enum Made {
+    /// This is to be done before the next step.
+    Deed(Deed),
+    /// Nothing is to be done by the program, and there may be another step.
+    Again,
+    /// There is no step before the next event.
+    Idle,
+}
+
+/// How far it has come with what a message asks for.
+#[derive(Clone, Copy, Debug)]
+pub enum Ask {
+    /// There is nothing.
+    Nothing,
+    /// A message took effect.
+    First,
+    /// The mapping of this number is next.
+    Mapped(usize),
+    /// It is to be told whether the mapping of this number was done.
+    Region(usize),
+    /// It is to be told whether what was asked for was done.
+    Answer,
+}
+
+pub(crate) fn limit_if(is: bool, limit: usize) -> Option<usize>
+    ensures { result ≡ limit_if is limit }
+{
+    if is { Some(limit) } else { None }
+}
+
+pub(crate) fn is_quiet(outcome: &Outcome) -> bool
+    ensures { result ≡ is_quiet outcome.now }
+{
+    match outcome {
+        Outcome::Stays => true,
+        _ => false,
+    }
+}
+
+pub(crate) fn is_asked(ask: Ask) -> bool
+    ensures { result ≡ is_asked ask }
+{
+    match ask {
+        Ask::First | Ask::Mapped(_) => false,
+        _ => true,
+    }
+}
+
+pub(crate) fn part_deed(ring: usize, id: u16, part: Option<BlockStep>) -> Made
+    ensures { result ≡ part_deed ring id part }
+{
+    match part {
+        Some(part) => Made::Deed(Deed::Part(ring, id, part)),
+        None => Made::Again,
+    }
+}
+
+pub(crate) fn called_by(before: Option<usize>, wanted: Wanted) -> Option<usize>
+    ensures { result ≡ called_by before wanted }
+{
+    match wanted {
+        Wanted::Descriptor(Purpose::Call(ring), _) => Some(ring as usize),
+        _ => before,
+    }
+}
