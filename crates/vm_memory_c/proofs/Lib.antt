@@ -1,3 +1,4 @@
 mod Values
 mod HandleValues
 mod BackendValues
+mod BlockValues

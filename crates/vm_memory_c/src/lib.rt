@@ -6,6 +6,8 @@ ghost use Rattle.vm_memory_c.specs.Calls.{CallsAt, GivesBackAt, LendsAt, MissesA
 ghost use Rattle.vm_session.specs.Retries.{without_memories};
 
 mod backend;
+mod block;
+mod block_handle;
 mod handle;
 mod raw_box;
 mod vhost;
