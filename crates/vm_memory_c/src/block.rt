@@ -7,7 +7,7 @@ ghost use Rattle.vhost_backend.specs.BlockConnection.{Maps, done, ended, failed,
 ghost use Rattle.vm_memory_c.specs.Block.{Stays};
 
 use crate::block_handle::BlockHandle;
-use crate::loose::Loose;
+use crate::raw_box::RawBox;
 use std::alloc::Global;
 use std::mem;
 use vhost_backend::rows::{ActionRow, Counts, EndRow, PieceRow};
@@ -22,13 +22,13 @@ fn take(alloc: Global, connection: &mut BlockHandle) -> Box<BlockConnection>
     ensures closed { connection.new.state ≡ None }
 {
     let handle = mem::replace(connection, BlockHandle::closed(alloc));
-    handle.loosen().into_box()
+    handle.into_raw_box().into_box()
 }
 
 fn put(connection: &mut BlockHandle, held: Box<BlockConnection>)
     ensures { connection.new.state ≡ Some held.value }
 {
-    *connection = BlockHandle::of(Loose::of(held));
+    *connection = BlockHandle::of(RawBox::of(held));
 }
 
 /// Opens a connection with nothing negotiated, and puts its handle into `connection`, which has to be closed or new.

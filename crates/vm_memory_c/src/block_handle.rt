@@ -3,7 +3,7 @@ ghost use Rattle.std.specs.Prelude.{◌≡◌, Option, Some, None, IsSome};
 ghost use Rattle.vhost_backend.specs.declared.block_connection.BlockConnection.{BlockConnection};
 ghost use Rattle.vm_memory_c.specs.BlockHandle.{block_owns};
 
-use crate::loose::Loose;
+use crate::raw_box::RawBox;
 use std::alloc::Global;
 use std::marker::Model;
 use std::ptr::null_mut;
@@ -34,10 +34,10 @@ impl BlockHandle {
     }
 
     // The handle of a connection.
-    pub(crate) fn of(connection: Loose<BlockConnection, Global>) -> BlockHandle
+    pub(crate) fn of(connection: RawBox<BlockConnection, Global>) -> BlockHandle
         ensures { result.state ≡ Some connection.value }
     {
-        let Loose { at, alloc } = connection;
+        let RawBox { at, alloc } = connection;
         BlockHandle {
             at: at as *mut u8,
             alloc,
@@ -45,12 +45,12 @@ impl BlockHandle {
     }
 
     // The connection of a handle.
-    pub(crate) fn loosen(self) -> Loose<BlockConnection, Global>
+    pub(crate) fn into_raw_box(self) -> RawBox<BlockConnection, Global>
         requires { IsSome self.state }
         ensures { Some result.value ≡ self.state }
     {
         let BlockHandle { at, alloc } = self;
-        Loose {
+        RawBox {
             at: at as *mut BlockConnection,
             alloc,
         }

@@ -10,7 +10,7 @@ use crate::front_end::*;
 use crate::slow::{total, Segment};
 use std::collections::BTreeSet;
 use vm_memory_proved::back_end::{Disk, Kept, Over, PartEnd, Way};
-use vm_memory_proved::block::{Request, Terms};
+use vm_memory_proved::block::{DeviceLimits, Request};
 use vm_memory_proved::vhost_user::{self, Offer, Refusal, Region};
 
 /// How many turns rings have in a run.
@@ -440,16 +440,16 @@ impl Model {
         if usize::from(chain.id) >= self.ids || ring.under_way.contains_key(&chain.id) {
             return self.breaks(index);
         }
-        let terms = self.terms();
-        let request = disk::asked(self.memory.image(), &chain.segments, terms);
+        let limits = self.limits();
+        let request = disk::asked(self.memory.image(), &chain.segments, limits);
         let todo = self.rings.popped(index, chain.id, chain.slots, chain.segments, request);
         self.carry_out(index, todo);
     }
 
-    fn terms(&self) -> Terms {
+    fn limits(&self) -> DeviceLimits {
         let features = self.protocol.features;
         let of = |bit: u64, limit: u32| (features & bit != 0).then_some(limit);
-        Terms {
+        DeviceLimits {
             sectors: self.disk.sectors,
             read_only: self.disk.read_only != 0,
             acked: features,

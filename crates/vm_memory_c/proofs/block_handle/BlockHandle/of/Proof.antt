@@ -22,7 +22,7 @@ use Rattle.std.proofs.alloc.Global.TheLaws.{the_row_laws}
 use Rattle.std.specs.contracts.impls.GlobalAllocator.TheImpl
 use Rattle.vhost_backend.specs.contracts.block_connection.BlockConnection as row
 use Rattle.vm_memory_c.proofs.BlockValues.{Z, block_in}
-use Rattle.vm_memory_c.proofs.Values.{Loose, both, loose_good, loose_out}
+use Rattle.vm_memory_c.proofs.Values.{RawBox, both, raw_box_good, raw_box_out}
 use Rattle.vm_memory_c.specs.contracts.block_handle.BlockHandle.of.{ended, clauses}
 use Rattle.vm_memory_c.specs.contracts.block_handle.BlockHandle.of.Key.{name as #self}
 use Rattle.vm_memory_c.proofs.block_handle.BlockHandle.of.Statement.{statement}
@@ -31,7 +31,7 @@ use Rattle.vm_memory_c.proofs.block_handle.BlockHandle.of.Code as code
 pub of_spec : {M : Type 1} → statement M
 of_spec 𝓤 𝓛 𝓜 𝓡 wired =
     let H = 𝓛.H in let 𝓣 = tables 𝓤 H 𝓜 𝓡 𝓡.env in let R : RattleType = row.the_row in let g = TheImpl.ghosts in
-    let En = ended in let c = clauses 𝓛 𝓜.mem 𝓡.returns in let fn = code.function in let L = Loose R Z the_row_laws g in
+    let En = ended in let c = clauses 𝓛 𝓜.mem 𝓡.returns in let fn = code.function in let L = RawBox R Z the_row_laws g in
     let hs : Stays En.signature.params En.kept = (stay_dropped (plain (λ _. L)) En.kept.0, tt) in
     proved_at 𝓛 En hs c 𝓜 𝓡 (Goes-blank 𝓛 0 (plain (λ _. L)) En.kept.0 (λ κs x f. tt), tt) #self fn (code.unfolded 𝓤
     H 𝓜 𝓡 wired) (λ z are.
@@ -40,8 +40,8 @@ of_spec 𝓤 𝓛 𝓜 𝓡 wired =
     qed 𝓛 ((raw (alive 𝓛 En.signature z.0.0 z.0.1) ⊛ ‵ (owns (types_at En.signature.params z.0.0) z.0.3 z.0.4)) ∷
     ‵ ftrue ∷ []) ∵
     move ! (1 ∷ []) $ drop ! $ split ! $ move ! (1 ∷ []) $ fsplit ! $
-    loose_out R Z the_row_laws g ! d z.0.4.0 (λ b o h e ws fits.
-    let w : Val = both (vptr b o) h in let typed = loose_good R Z the_row_laws g b o h fits in
+    raw_box_out R Z the_row_laws g ! d z.0.4.0 (λ b o h e ws fits.
+    let w : Val = both (vptr b o) h in let typed = raw_box_good R Z the_row_laws g b o h fits in
     suffices ! (Run (w ∷ [])) (subst (λ (us : List Val). ent 𝓤 (Run (w ∷
     [])) (Run us)) (sym (λ i. ws i ++ [])) (id⊢ 𝓤 (Run (w ∷ [])))) $
     enter ! 𝓣.C 𝓣.Λ fn (w ∷ []) Post $ alloc_all ! (λ l. pass_all ! refl (typed, tt) $

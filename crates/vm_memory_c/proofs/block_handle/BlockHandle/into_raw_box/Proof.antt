@@ -1,4 +1,4 @@
--- `loosen` gives the box's pointer. Assumes `Logic`.
+-- `into_raw_box` gives the box's pointer. Assumes `Logic`.
 use Rattle.std.proofs.Common.{◌≡◌, ◌∙◌, List, [], ◌∷◌, ◌++◌, Option, Some, None, IsSome, refl, sym, ap, subst}
 use mir.Raw.{raw as bare}
 use mir.Val.{Val, vptr}
@@ -28,11 +28,11 @@ use Rattle.vhost_backend.specs.declared.block_connection.BlockConnection.{BlockC
 use Rattle.vhost_backend.specs.contracts.block_connection.BlockConnection as row
 use Rattle.vm_memory_c.specs.BlockHandle.{block_owns}
 use Rattle.vm_memory_c.proofs.BlockValues.{BlockHandle, Z, word, block_out}
-use Rattle.vm_memory_c.proofs.Values.{both, loose_good, loose_in}
-use Rattle.vm_memory_c.specs.contracts.block_handle.BlockHandle.loosen.{ended, clauses}
-use Rattle.vm_memory_c.specs.contracts.block_handle.BlockHandle.loosen.Key.{name as #self}
-use Rattle.vm_memory_c.proofs.block_handle.BlockHandle.loosen.Statement.{statement}
-use Rattle.vm_memory_c.proofs.block_handle.BlockHandle.loosen.Code as code
+use Rattle.vm_memory_c.proofs.Values.{both, raw_box_good, raw_box_in}
+use Rattle.vm_memory_c.specs.contracts.block_handle.BlockHandle.into_raw_box.{ended, clauses}
+use Rattle.vm_memory_c.specs.contracts.block_handle.BlockHandle.into_raw_box.Key.{name as #self}
+use Rattle.vm_memory_c.proofs.block_handle.BlockHandle.into_raw_box.Statement.{statement}
+use Rattle.vm_memory_c.proofs.block_handle.BlockHandle.into_raw_box.Code as code
 
 some_of : (o : Option BlockConnection) → IsSome o → (s : BlockConnection) × (o ≡ Some s)
 some_of (Some s) h = (s, refl)
@@ -41,8 +41,8 @@ some_of None h = absurd (no h)
     no : IsSome {T = BlockConnection} None → ⊥
     no e = cc
 
-pub loosen_spec : {M : Type 1} → statement M
-loosen_spec 𝓤 𝓛 𝓜 𝓡 wired =
+pub into_raw_box_spec : {M : Type 1} → statement M
+into_raw_box_spec 𝓤 𝓛 𝓜 𝓡 wired =
     let H = 𝓛.H in let 𝓣 = tables 𝓤 H 𝓜 𝓡 𝓡.env in let R : RattleType = row.the_row in let g = TheImpl.ghosts in
     let En = ended in let c = clauses 𝓛 𝓜.mem 𝓡.returns in let fn = code.function in
     let hs : Stays En.signature.params En.kept = (stay_dropped (plain (λ _. BlockHandle)) En.kept.0, tt) in
@@ -58,7 +58,7 @@ loosen_spec 𝓤 𝓛 𝓜 𝓡 wired =
     rewrite ! 0 (λ (o : Option BlockConnection). ‵ (block_owns d.at o)) s.1 refl $
     in_a_block ! d.at (λ p. box_owns chunk R p s.0) (fst∗ 𝓤 (never 𝓤) (sem 𝓛 (chunk (bare (lone R.mir)) null_ptr)))
     (λ b o e.
-    let w : Val = both (vptr b o) h in let typed = loose_good R Z the_row_laws g b o h fits in
+    let w : Val = both (vptr b o) h in let typed = raw_box_good R Z the_row_laws g b o h fits in
     suffices ! (Run (w ∷ [])) (subst (λ (us : List Val). ent 𝓤 (Run (w ∷
     [])) (Run us)) (sym ((λ i. ws i ++ []) ∙ ap (λ p. word p h ∷ []) e)) (id⊢ 𝓤 (Run (w ∷ [])))) $
     enter ! 𝓣.C 𝓣.Λ fn (w ∷ []) Post $ alloc_all ! (λ l. pass_all ! refl (typed, tt) $
@@ -66,7 +66,7 @@ loosen_spec 𝓤 𝓛 𝓜 𝓡 wired =
     sets ! (of_opd ! (get_in ! (fld ! refl (stop !)) (sub ! 1 refl (whole !)))) refl fits $
     sets ! (of_opd ! (get ! refl)) refl (tt, tt) $
     sets ! (agg ! (and_then ! (get ! refl) (and_then ! (get ! refl) (no_more !)))) refl typed $
-    returns ! (look_at ! 0 refl) $ free_all ! refl $ loose_in R Z the_row_laws g ! b o h d.alloc s.0 $
+    returns ! (look_at ! 0 refl) $ free_all ! refl $ raw_box_in R Z the_row_laws g ! b o h d.alloc s.0 $
     use0 𝓛 (raw (fact 𝓤 (Some s.0 ≡ d.state))) (fact_i 𝓤 (Some s.0 ≡ d.state) (emp 𝓤) (sym s.1)) $ nothing ! $
     nothing ! $ fjoin ! $
     keep ! (4 ∷ 0 ∷ 2 ∷ 1 ∷ []) $
