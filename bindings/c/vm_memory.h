@@ -811,20 +811,20 @@ size_t vmm_vhost_config(vmm_vhost *connection, uint8_t *output, size_t output_si
 
 void vmm_vhost_close(vmm_vhost *connection);
 
-/* A block device's back end on a connection with a front end, as a state machine: crates/vhost_backend/README.md. It keeps
- * the protocol's state, the rings, the requests and guest memory, and makes no system call. The caller tells it what
- * happens, asks by vmm_backend_run what is to be done, until `more` is 0, and does that in order before it tells the next
- * event. Kicks may be told at any time. A connection is opened before it is called, and closed once; one call at a time
- * is made of it, from any thread. */
+/* A block device's back end on a connection with a front end, as a state machine: crates/vhost_backend/README.md.
+ * It keeps the protocol's state, the rings, the requests and guest memory, and makes no system call. The caller
+ * tells it what happens, asks by vmm_backend_run what is to be done, until `more` is 0, and does that in order
+ * before it tells the next event. Kicks may be told at any time. A connection is opened before it is called, and
+ * closed once; one call at a time is made of it, from any thread. */
 
 /* The handle of a connection. One that is zero is closed. */
 typedef struct vmm_backend {
     unsigned char *at;
 } vmm_backend;
 
-/* The disk: how many sectors of 512 bytes it has, how many segments of data a request and how many bytes a segment has at
- * most if the driver accepted SEG_MAX and SIZE_MAX, 1 if nothing is written to it, and how many bytes of replies may wait
- * to be sent. */
+/* The disk: how many sectors of 512 bytes it has, how many segments of data a request and how many bytes a segment
+ * has at most if the driver accepted SEG_MAX and SIZE_MAX, 1 if nothing is written to it, and how many bytes of
+ * replies may wait to be sent. */
 typedef struct vmm_backend_disk {
     uint64_t sectors;
     uint32_t seg_max, size_max, read_only, unread;
@@ -834,21 +834,22 @@ typedef struct vmm_backend_disk {
  *
  * SEND: the next `len` bytes of the output are sent.
  * UNMAP_ALL: all regions are unmapped.
- * MAP: region `id` is mapped from the descriptor `id` of the message: `len` bytes of its file from `place` on, at `guest` in
- * guest memory and at `user` in the front end's. Then comes vmm_backend_mapped or vmm_backend_failed.
+ * MAP: region `id` is mapped from the descriptor `id` of the message: `len` bytes of its file from `place` on, at
+ * `guest` in guest memory and at `user` in the front end's. Then comes vmm_backend_mapped or vmm_backend_failed.
  * LOG: the log is mapped from the descriptor of the message, `len` bytes of its file from `place` on. Then comes
  * vmm_backend_done or vmm_backend_failed.
  * KEEP: the descriptor of the message is kept in place of the one before, or with `count` 0 none is, and then comes
- * vmm_backend_done or vmm_backend_failed. `way` is what it is for: 1 kicks of `ring`, 2 interrupts, 3 errors, 4 the back
- * end's own channel, 5 the log.
- * SERVE: a part of the request `id` of `ring`: `way` is 1 if `len` bytes of the disk, from `place` on, are read into the next
- * `count` pieces, 2 if they are written from there, 3 if what was written is made stable, and 4 if the first `len`
- * bytes of the name are put into the pieces. If `more` is 1, the part goes on with the next action that serves this
- * request, and has one end, after the last.
+ * vmm_backend_done or vmm_backend_failed. `way` is what it is for: 1 kicks of `ring`, 2 interrupts, 3 errors, 4 the
+ * back end's own channel, 5 the log.
+ * SERVE: a part of the request `id` of `ring`: `way` is 1 if `len` bytes of the disk, from `place` on, are read
+ * into the next `count` pieces, 2 if they are written from there, 3 if what was written is made stable, and 4 if
+ * the first `len` bytes of the name are put into the pieces. If `more` is 1, the part goes on with the next action
+ * that serves this request, and has one end, after the last.
  * INTERRUPT, ERROR: `ring` is signalled by the descriptor of its interrupts or errors, if it has one.
  * MARK: `len` bits of the log, from the one of page `place` on, are set, each by an atomic OR.
- * END: the connection is over. `way` is 1 if a message was refused for the code `id`, 2 if what it asked for failed, 3 if an
- * allocation failed, 4 if too many bytes of replies wait, 5 if a page has no bit in the log, 6 after vmm_backend_hang_up.
+ * END: the connection is over. `way` is 1 if a message was refused for the code `id`, 2 if what it asked for
+ * failed, 3 if an allocation failed, 4 if too many bytes of replies wait, 5 if a page has no bit in the log, 6
+ * after vmm_backend_hang_up.
  * STOPPED: the ring is stopped, and its descriptor of kicks is let go. */
 typedef struct vmm_backend_action {
     uint32_t kind, ring, id, way, count, more;
@@ -879,41 +880,42 @@ typedef struct vmm_backend_end {
     uint32_t ring, id, failed, bytes;
 } vmm_backend_end;
 
-/* How many ends a run took, and how many actions, pieces and bytes of output it gave. If `more` is 1, another run may give
- * more. `state`: 0 if a message can be taken, 1 if one is under way, 2 if the connection is over, and 3 if nothing of it
- * is under way any more. */
+/* How many ends a run took, and how many actions, pieces and bytes of output it gave. If `more` is 1, another run
+ * may give more. `state`: 0 if a message can be taken, 1 if one is under way, 2 if the connection is over, and 3 if
+ * nothing of it is under way any more. */
 typedef struct vmm_backend_counts {
     size_t ends, actions, pieces, bytes;
     uint32_t more, state;
 } vmm_backend_counts;
 
 /* Opens a connection, as vmm_vhost_open. */
-uint32_t vmm_backend_open(vmm_backend *connection, const vmm_vhost_offer *offer, const uint8_t *config, size_t config_size,
-                          const vmm_backend_disk *disk);
+uint32_t vmm_backend_open(vmm_backend *connection, const vmm_vhost_offer *offer, const uint8_t *config,
+                          size_t config_size, const vmm_backend_disk *disk);
 
-/* A whole message came, with so many descriptors. 0 if it was taken, and 1 if the one before it is not done: then nothing
- * changes. Descriptors that no action took are closed when `state` is not 1. */
+/* A whole message came, with so many descriptors. 0 if it was taken, and 1 if the one before it is not done: then
+ * nothing changes. Descriptors that no action took are closed when `state` is not 1. */
 uint32_t vmm_backend_message(vmm_backend *connection, const uint8_t *message, size_t message_size, size_t descriptors);
 
-/* The region that was asked for lies at this place, which is the connection's until UNMAP_ALL or its close. 0, or 1 if it
- * is refused: then it is the caller's again. */
+/* The region that was asked for lies at this place, which is the connection's until UNMAP_ALL or its close. 0, or 1
+ * if it is refused: then it is the caller's again. */
 uint32_t vmm_backend_mapped(vmm_backend *connection, vmm_place place);
 
 /* What was asked for was done, or could not be: then the connection ends. */
 void vmm_backend_done(vmm_backend *connection);
 void vmm_backend_failed(vmm_backend *connection);
 
-/* The driver of a ring notified; so many bytes of replies were sent; the disk has another size; the connection ended. */
+/* The driver of a ring notified; so many bytes of replies were sent; the disk has another size; the connection
+ * ended. */
 void vmm_backend_kick(vmm_backend *connection, uint32_t ring);
 void vmm_backend_sent(vmm_backend *connection, size_t count);
 void vmm_backend_resize(vmm_backend *connection, uint64_t sectors);
 void vmm_backend_hang_up(vmm_backend *connection);
 
-/* Takes ends of parts, and gives what is to be done, as far as there is room: 280 bytes of output, an action and a piece are
- * enough to go on. If nothing else is left, rings have two turns. */
-void vmm_backend_run(vmm_backend *connection, const vmm_backend_end *ends, size_t ends_size, vmm_backend_action *actions,
-                     size_t actions_size, vmm_backend_piece *pieces, size_t pieces_size, uint8_t *output,
-                     size_t output_size, vmm_backend_counts *counts);
+/* Takes ends of parts, and gives what is to be done, as far as there is room: 280 bytes of output, an action and a
+ * piece are enough to go on. If nothing else is left, rings have two turns. */
+void vmm_backend_run(vmm_backend *connection, const vmm_backend_end *ends, size_t ends_size,
+                     vmm_backend_action *actions, size_t actions_size, vmm_backend_piece *pieces, size_t pieces_size,
+                     uint8_t *output, size_t output_size, vmm_backend_counts *counts);
 
 void vmm_backend_state(vmm_backend *connection, vmm_vhost_negotiated *state);
 
