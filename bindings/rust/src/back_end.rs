@@ -517,9 +517,6 @@ impl BackEnd {
     #[inline]
     pub fn run(&mut self, ends: &[PartEnd], room: &mut Room) {
         self.device.run(ends, room);
-        if room.state() == State::Free {
-            self.before.clear();
-        }
         let counts = &room.counts;
         if room.actions[..counts.actions]
             .iter()
@@ -527,6 +524,9 @@ impl BackEnd {
         {
             // Actions before it name no region, and the library has let go of all.
             self.before = std::mem::take(&mut self.regions);
+        }
+        if room.state() == State::Free {
+            self.before.clear();
         }
     }
 }
