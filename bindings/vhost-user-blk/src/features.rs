@@ -83,7 +83,7 @@ pub fn offer(options: &Options) -> Offer {
     if options.queues == 1 {
         features &= !MQ;
     }
-    if !options.is_behind_iommu {
+    if options.by_state_machine {
         features &= !ACCESS_PLATFORM;
     }
     Offer {

@@ -202,9 +202,9 @@ impl Program<'_> {
             watchdog,
             options,
         } = self;
-        Ok(match options.is_behind_iommu {
-            true => Connection::new(socket, epoll, disk, hangups, options, watchdog)?.run(),
-            false => Device::new(socket, epoll, disk, hangups, options, watchdog)?.run(),
+        Ok(match options.by_state_machine {
+            true => Device::new(socket, epoll, disk, hangups, options, watchdog)?.run(),
+            false => Connection::new(socket, epoll, disk, hangups, options, watchdog)?.run(),
         })
     }
 

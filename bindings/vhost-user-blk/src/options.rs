@@ -8,7 +8,7 @@ use std::time::Duration;
 
 pub const USAGE: &str = "\
 usage: vhost-user-blk --socket PATH --image FILE [--read-only] [--write-through] [--queues N] [--iotlb-limit N]
-           [--iommu] [--stats SECONDS] [--no-lock]
+           [--state-machine] [--stats SECONDS] [--no-lock]
        vhost-user-blk --fd N --image FILE ..
        vhost-user-blk --print-capabilities | --version | --help
 
@@ -23,7 +23,7 @@ has then. A value may also follow a =, as in --fd=3.
   --read-only       the guest can only read
   --write-through   FLUSH is not offered: each write is stable before it completes
   --queues N        the number of queues, 1 to 256; the default is 1
-  --iommu           for a guest whose IOMMU the disk lies behind: ACCESS_PLATFORM is offered
+  --state-machine   on trial: the library's state machine decides, and ACCESS_PLATFORM is not offered
   --iotlb-limit N   how many ranges the table of I/O addresses keeps, 8 to 65536; the default is 65536
   --stats SECONDS   prints requests, bytes and errors this often, and at the end of a connection
   --no-lock         serves FILE even if another program has locked it, and does not lock it
@@ -63,7 +63,7 @@ pub struct Options {
     pub read_only: bool,
     pub write_through: bool,
     pub queues: u32,
-    pub is_behind_iommu: bool,
+    pub by_state_machine: bool,
     /// How many ranges the I/O table keeps.
     pub iotlb_limit: usize,
     pub stats: Option<Duration>,
@@ -118,7 +118,7 @@ struct Read {
     stats: Option<u32>,
     read_only: bool,
     write_through: bool,
-    iommu: bool,
+    state_machine: bool,
     no_lock: bool,
 }
 
@@ -128,7 +128,7 @@ impl Read {
         let flag = match name {
             "--read-only" => &mut self.read_only,
             "--write-through" => &mut self.write_through,
-            "--iommu" => &mut self.iommu,
+            "--state-machine" => &mut self.state_machine,
             "--no-lock" => &mut self.no_lock,
             _ => return false,
         };
@@ -162,7 +162,7 @@ impl Read {
             read_only: self.read_only,
             write_through: self.write_through,
             queues: self.queues.unwrap_or(1),
-            is_behind_iommu: self.iommu,
+            by_state_machine: self.state_machine,
             iotlb_limit: self.iotlb_limit.unwrap_or(65_536) as usize,
             stats: self.stats.map(|seconds| Duration::from_secs(seconds.into())),
             is_locked: !self.no_lock,
@@ -211,7 +211,7 @@ mod tests {
             read_only: false,
             write_through: false,
             queues: 1,
-            is_behind_iommu: false,
+            by_state_machine: false,
             iotlb_limit: 65_536,
             stats: None,
             is_locked: true,
@@ -241,10 +241,10 @@ mod tests {
     fn words_are_those_of_back_ends() {
         let it = options(&["--socket-path=a=b", "--blk-file=/i", "--read-only", "--no-lock"]);
         assert_eq!((it.source, it.image), (Source::Path("a=b".into()), "/i".into()));
-        assert!(it.read_only && !it.is_locked && !it.is_behind_iommu);
-        let it = options(&["--fd=3", "--image", "--x=y", "--queues=2", "--write-through", "--iommu"]);
+        assert!(it.read_only && !it.is_locked && !it.by_state_machine);
+        let it = options(&["--fd=3", "--image", "--x=y", "--queues=2", "--write-through", "--state-machine"]);
         assert_eq!((it.source, it.image), (Source::Descriptor(3), "--x=y".into()));
-        assert_eq!((it.queues, it.write_through, it.is_behind_iommu), (2, true, true));
+        assert_eq!((it.queues, it.write_through, it.by_state_machine), (2, true, true));
         let it = options(&["--fd", "2147483647", "--blk-file", "i"]);
         assert_eq!(it.source, Source::Descriptor(i32::MAX));
         // Words that are no options do not matter then.

@@ -42,39 +42,9 @@ fn begin_endless(program: &Program, front: &mut FrontEnd) {
     program.wait_for_work();
 }
 
-// A ring is stopped after the requests that are under way.
-#[test]
-fn a_stop_waits_for_requests() {
-    let program = Program::start_on_a_hole("stop_waits", 1 << 30, &[]);
-    let mut front = started(&program, USUAL);
-    for head in 0..16 {
-        front.put_long(head, 0, 0, &[(8 * MIB, 4 * MIB); 50]);
-    }
-    for place in 0..16 {
-        front.publish(0, place);
-    }
-    front.kick(0);
-    program.wait_for_work();
-    let base = front.stop_ring(0);
-    assert_eq!(u32::from(front.used_idx(0)), base);
-    for head in 0..base {
-        assert_eq!(front.take_used(0), (head, 200 * MIB as u32 + 1));
-    }
-    program.rest();
-    assert_eq!(u32::from(front.used_idx(0)), base);
-}
-
-#[test]
-fn a_signal_comes_between_parts() {
-    let program = Program::start_on_a_hole("endless", 4 << 30, &[]);
-    let mut front = started(&program, USUAL);
-    begin_endless(&program, &mut front);
-    expect_end(&program);
-}
-
 #[test]
 fn a_message_and_a_signal_come_between_parts() {
-    let program = Program::start_on_a_hole("endless_iommu", 4 << 30, &["--iommu"]);
+    let program = Program::start_on_a_hole("endless", 4 << 30, &[]);
     let mut front = started(&program, USUAL);
     // The same head may not be published while it is in flight: these come one after another.
     begin_endless(&program, &mut front);
@@ -88,11 +58,6 @@ fn a_message_and_a_signal_come_between_parts() {
     front.restart_ring(0, 0);
     front.kick(0);
     program.wait_for_work();
-    expect_end(&program);
-}
-
-// A program that works ends soon after SIGTERM.
-fn expect_end(program: &Program) {
     let (before, pid) = (work_of(program.pid()), program.pid());
     // SAFETY: it takes numbers, of a child that was not waited for.
     unsafe { libc::kill(pid, libc::SIGTERM) };
@@ -125,7 +90,7 @@ fn work_of(pid: i32) -> u64 {
 
 #[test]
 fn another_ring_comes_between_parts() {
-    let program = Program::start_on_a_hole("endless_ring", 4 << 30, &["--iommu", "--queues", "2"]);
+    let program = Program::start_on_a_hole("endless_ring", 4 << 30, &["--queues", "2"]);
     let mut front = started(&program, USUAL | 1 << 12);
     front.start_ring(64, 0);
     begin_endless(&program, &mut front);
@@ -141,7 +106,7 @@ fn another_ring_comes_between_parts() {
 // A ring gives back the request that it is in the middle of, and takes it up as the driver has it then.
 #[test]
 fn a_long_request_is_given_back() {
-    let program = Program::start_on_a_hole("given_back", 4 << 30, &["--iommu"]);
+    let program = Program::start_on_a_hole("given_back", 4 << 30, &[]);
     let mut front = started(&program, USUAL);
     let half = RAM as u64 / 2;
     for turn in 0..4_u16 {
@@ -317,21 +282,15 @@ fn a_turn_has_so_many_bytes() {
 
 #[test]
 fn a_chain_has_so_many_segments() {
-    let [program, behind] = [("segments", &[][..]), ("segments_iommu", &["--iommu"])]
-        .map(|(name, words)| Program::start_on_a_hole(name, 1 << 20, words));
-    for (program, count, is_served) in [
-        (&program, 1024, true),
-        (&program, 2000, true),
-        (&behind, 1024, true),
-        (&behind, 1025, false),
-    ] {
-        let mut front = started(program, USUAL);
+    let program = Program::start_on_a_hole("segments", 1 << 20, &[]);
+    for (count, is_served) in [(1024, true), (1025, false)] {
+        let mut front = started(&program, USUAL);
         let data = vec![(8 * MIB, 512); count - 2];
         let status = front.put_long(1, 0, 0, &data);
         front.publish(0, 1);
         front.kick(0);
         if is_served {
-            assert_eq!(front.take_used(0), (1, 512 * (count as u32 - 2) + 1));
+            assert_eq!(front.take_used(0), (1, 512 * 1022 + 1));
             assert_eq!(front.read(status, 1), [0]);
             continue;
         }
@@ -405,12 +364,8 @@ fn gathered(front: &FrontEnd, data: &[(usize, usize)]) -> Vec<u8> {
 fn parts_make_a_whole() {
     for (name, features, words) in [
         ("parts", USUAL, &[][..]),
-        ("parts_behind", USUAL | ACCESS_PLATFORM, &["--iommu"]),
-        (
-            "parts_behind_8",
-            USUAL | ACCESS_PLATFORM,
-            &["--iommu", "--iotlb-limit", "8"],
-        ),
+        ("parts_behind", USUAL | ACCESS_PLATFORM, &[]),
+        ("parts_behind_8", USUAL | ACCESS_PLATFORM, &["--iotlb-limit", "8"]),
     ] {
         let len = 4 * MIB;
         let program = Program::start(name, len, words);
@@ -449,24 +404,16 @@ fn parts_make_a_whole() {
     }
 }
 
-// A segment without memory ends a request of several parts: what came before it was read or written. A part that has
-// one is not served at all, but with `--iommu` up to there.
+// A segment without memory ends a request of several parts: what came before it was read or written.
 #[test]
 fn a_part_without_memory_fails() {
-    for (name, words) in [("no_memory", &[][..]), ("no_memory_iommu", &["--iommu"])] {
-        fails_without_memory(name, words);
-    }
-}
-
-fn fails_without_memory(name: &str, words: &[&str]) {
     let len = 4 * MIB;
-    let program = Program::start(name, len, words);
+    let program = Program::start("no_memory", len, &[]);
     let mut front = started(&program, USUAL);
-    let (first, bad) = (200_000, 32 * MIB);
-    let good = if words.is_empty() { 0 } else { first };
+    let (good, bad) = (200_000, 32 * MIB);
     for kind in [0, 1] {
         front.write(8 * MIB, &vec![3; MIB]);
-        let data = [(8 * MIB, first), (bad, 100_000), (8 * MIB, MIB - 300_000)];
+        let data = [(8 * MIB, good), (bad, 100_000), (8 * MIB, MIB - 300_000)];
         let status = front.put_long(1, kind, 8, &data[..]);
         front.publish(0, 1);
         front.kick(0);
@@ -553,7 +500,7 @@ fn segments_need_not_end_with_the_data() {
 #[test]
 fn a_long_request_waits_for_a_mapping() {
     let len = 4 * MIB;
-    let program = Program::start("waits_long", len, &["--iommu"]);
+    let program = Program::start("waits_long", len, &[]);
     let mut front = started(&program, USUAL | ACCESS_PLATFORM);
     let missing = SHIFT + 9 * MIB as u64 + 0x1_0000;
     let to = front.io().pages.remove(&missing).unwrap();

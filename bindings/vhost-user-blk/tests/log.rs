@@ -65,12 +65,9 @@ fn pages_of(segments: &[(usize, usize)]) -> BTreeSet<u64> {
 
 #[test]
 fn the_pages_that_are_written_are_marked() {
-    for (name, features, words) in [
-        ("log_plain", USUAL, &[][..]),
-        ("log_table", USUAL | ACCESS_PLATFORM, &["--iommu", "--iotlb-limit", "8"]),
-    ] {
+    for (name, features) in [("log_plain", USUAL), ("log_table", USUAL | ACCESS_PLATFORM)] {
         for event_idx in [0, EVENT_IDX] {
-            let program = Program::start(&format!("{name}{event_idx}"), LEN, words);
+            let program = Program::start(&format!("{name}{event_idx}"), LEN, &["--iotlb-limit", "8"]);
             let features = features | event_idx;
             let mut front = started(&program, features);
             // What was written before is not marked.
@@ -104,7 +101,7 @@ fn the_pages_that_are_written_are_marked() {
 #[test]
 fn marks_are_of_what_was_reached() {
     let features = USUAL | ACCESS_PLATFORM;
-    let program = Program::start("log_reached", LEN, &["--iommu"]);
+    let program = Program::start("log_reached", LEN, &[]);
     let mut front = started(&program, features);
     front.read_disk(0, 1, 512);
     let log = begin(&mut front, features, LOG_LEN);
@@ -149,7 +146,7 @@ fn writes_are_marked_as_long_as_it_was_asked_for() {
 // A mark comes before the request comes back: one that cannot be marked does not.
 #[test]
 fn a_log_that_is_too_short_ends_the_connection() {
-    let program = Program::start("log_short_iommu", LEN, &["--iommu"]);
+    let program = Program::start("log_short", LEN, &[]);
     // A read, a write, and a flush, each with its status in a page without a bit.
     for (kind, len) in [(0, 512), (1, 512), (4, 0)] {
         let mut front = started(&program, USUAL);
@@ -160,25 +157,6 @@ fn a_log_that_is_too_short_ends_the_connection() {
         front.kick(0);
         assert!(front.is_let_go());
         assert_eq!(front.used_idx(0), 0, "a request of the kind {kind} came back");
-    }
-}
-
-// Without an IOMMU it is known at once that the log has no bits for some pages of the memory.
-#[test]
-fn a_log_has_bits_for_all_memory() {
-    let program = Program::start("log_short", LEN, &[]);
-    let pages = RAM as u64 / PAGE / 8;
-    for (len, is_enough) in [(pages, true), (pages - 1, false)] {
-        let mut front = started(&program, USUAL);
-        let log = memfd((LOG_AT + LOG_LEN) as usize);
-        front.send(SET_LOG_BASE, 0, &longs(&[len, LOG_AT]), &[&log]);
-        assert!(front.reply(SET_LOG_BASE).is_empty());
-        front.send(SET_FEATURES, 0, &(USUAL | LOG_ALL).to_le_bytes(), &[]);
-        if is_enough {
-            front.read_disk(0, 1, 512);
-        } else {
-            assert!(front.is_let_go());
-        }
     }
 }
 
@@ -312,7 +290,7 @@ fn marks_are_by_guest_addresses() {
 
 #[test]
 fn what_was_not_written_is_not_marked() {
-    let program = Program::start("log_fails", LEN, &["--iommu"]);
+    let program = Program::start("log_fails", LEN, &[]);
     let (mut front, log) = far_started(&program);
     let used = pages(&[front.used_ring(0)]);
     let nowhere = FAR - MIB;
@@ -352,10 +330,7 @@ fn what_was_not_written_is_not_marked() {
 // Behind a table each page of I/O addresses leads to another one of guest memory.
 #[test]
 fn marks_are_of_what_segments_reached() {
-    for (name, words) in [
-        ("log_segments", &["--iommu"][..]),
-        ("log_segments_8", &["--iommu", "--iotlb-limit", "8"]),
-    ] {
+    for (name, words) in [("log_segments", &[][..]), ("log_segments_8", &["--iotlb-limit", "8"])] {
         let features = USUAL | ACCESS_PLATFORM;
         let program = Program::start(name, LEN, words);
         let mut front = started(&program, features);
@@ -391,7 +366,7 @@ fn marks_are_of_what_segments_reached() {
 // What was written of a request that is given back is marked.
 #[test]
 fn what_is_given_back_is_marked() {
-    let program = Program::start_on_a_hole("log_given_back", 4 << 30, &["--iommu"]);
+    let program = Program::start_on_a_hole("log_given_back", 4 << 30, &[]);
     let mut front = started(&program, USUAL);
     front.write(8 * MIB, &vec![5; 4 * MIB]);
     let log = begin(&mut front, USUAL, LOG_LEN);
@@ -409,7 +384,7 @@ fn what_is_given_back_is_marked() {
 #[test]
 fn what_came_before_a_miss_is_marked() {
     let features = USUAL | ACCESS_PLATFORM;
-    let program = Program::start("log_waits", LEN, &["--iommu"]);
+    let program = Program::start("log_waits", LEN, &[]);
     let mut front = started(&program, features);
     let log = begin(&mut front, features, LOG_LEN);
     front.read_disk(0, 1, 512);
@@ -434,7 +409,7 @@ fn what_came_before_a_miss_is_marked() {
 #[test]
 fn marks_begin_in_the_middle_of_a_request() {
     let features = USUAL | ACCESS_PLATFORM;
-    let program = Program::start("log_begins", LEN, &["--iommu"]);
+    let program = Program::start("log_begins", LEN, &[]);
     let mut front = started(&program, features);
     let missing = SHIFT + 9 * MIB as u64;
     let data = [(8 * MIB, 1024), (9 * MIB, 4096)];
@@ -521,7 +496,7 @@ fn pages_after_one_without_a_mapping_are_marked() {
 // The address that a used ring has in the log may be another one than its own.
 #[test]
 fn a_used_ring_is_marked_at_its_address_in_the_log() {
-    let program = Program::start("log_address", LEN, &["--iommu"]);
+    let program = Program::start("log_address", LEN, &[]);
     let mut front = started(&program, USUAL);
     let log = begin(&mut front, USUAL, LOG_LEN);
     let other = 9 * MIB as u64;

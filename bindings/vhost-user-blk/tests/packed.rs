@@ -471,10 +471,7 @@ fn a_driver_that_breaks_a_rule_is_told() {
 
 #[test]
 fn requests_go_through_the_table() {
-    for (name, words) in [
-        ("packed_iotlb_8", &["--iommu", "--iotlb-limit", "8"][..]),
-        ("packed_iotlb", &["--iommu"]),
-    ] {
+    for (name, words) in [("packed_iotlb_8", &["--iotlb-limit", "8"][..]), ("packed_iotlb", &[])] {
         for event_idx in [0, EVENT_IDX] {
             let program = Program::start(&format!("{name}_{event_idx}"), LEN, words);
             let mut driver = Driver::start(&program, PACKED | ACCESS_PLATFORM | event_idx, 11);
@@ -502,7 +499,7 @@ fn requests_go_through_the_table() {
 #[test]
 fn a_ring_that_waits_can_be_stopped() {
     use std::io::Write;
-    let program = Program::start("packed_waits", LEN, &["--iommu", "--iotlb-limit", "8"]);
+    let program = Program::start("packed_waits", LEN, &["--iotlb-limit", "8"]);
     let mut driver = Driver::start(&program, PACKED | ACCESS_PLATFORM, 5);
     for turn in 0..7 {
         driver.request(turn, 0, 1, 512);
@@ -536,7 +533,7 @@ fn a_ring_that_waits_can_be_stopped() {
 
 #[test]
 fn a_notification_while_it_waits_is_not_lost() {
-    let program = Program::start("packed_notified", LEN, &["--iommu"]);
+    let program = Program::start("packed_notified", LEN, &[]);
     let mut driver = Driver::start(&program, PACKED | ACCESS_PLATFORM, 8);
     // The first interrupt needs no look at the driver's area, so that this is not mapped yet.
     driver.request(0, 0, 1, 512);
@@ -572,8 +569,7 @@ fn the_pages_that_are_written_are_marked() {
         (0, 1024, 200),
         (ACCESS_PLATFORM, 1024, 200),
     ] {
-        let words: &[&str] = if table == 0 { &[] } else { &["--iommu"] };
-        let program = Program::start(&format!("packed_log_{table}_{size}"), LEN, words);
+        let program = Program::start(&format!("packed_log_{table}_{size}"), LEN, &[]);
         let features = PACKED | table;
         let mut driver = Driver::start(&program, features, size);
         for _ in 0..before {

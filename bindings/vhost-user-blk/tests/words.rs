@@ -34,7 +34,7 @@ fn expect_usage(text: &str) {
         "--read-only",
         "--write-through",
         "--queues N",
-        "--iommu",
+        "--state-machine",
         "--iotlb-limit N",
         "--stats SECONDS",
         "--no-lock",

@@ -80,10 +80,8 @@ impl Walk {
         let disk = numbers.bytes(SECTORS as usize * SECTOR);
         let is_translated = seed % 2 == 1;
         let limit = numbers.of(&["8", "16", "64", ROOMY, ROOMY, ROOMY]);
-        let mut words = vec!["--queues", "2", "--iotlb-limit", limit];
-        let is_write_through = numbers.one_in(5);
-        words.extend(is_write_through.then_some("--write-through"));
-        words.extend((is_translated || seed % 8 == 0).then_some("--iommu"));
+        let words = ["--queues", "2", "--iotlb-limit", limit, "--write-through"];
+        let upto = if numbers.one_in(5) { 5 } else { 4 };
         let folder = Program::prepare_with(name, &disk);
         let bad_from = (SECTORS - BROKEN) * SECTOR as u64;
         let faults = if numbers.one_in(3) {
@@ -91,14 +89,14 @@ impl Walk {
         } else {
             None
         };
-        println!("{words:?}, with faults: {}", faults.is_some());
-        let served = start(&folder, &words, faults.as_ref());
+        println!("{:?}, with faults: {}", &words[..upto], faults.is_some());
+        let served = start(&folder, &words[..upto], faults.as_ref());
         let memory = Memory::new(seed / 2 % 2 == 1);
         let link = connect(&served);
         let mut walk = Walk {
             places: Places::new(&memory, is_translated),
             io: None,
-            model: Model::new(disk, NAME, is_translated, is_write_through),
+            model: Model::new(disk, NAME, is_translated, upto == 5),
             is_roomy: limit == ROOMY,
             is_strict: numbers.one_in(2),
             numbers,
