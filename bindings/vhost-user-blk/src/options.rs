@@ -242,7 +242,14 @@ mod tests {
         let it = options(&["--socket-path=a=b", "--blk-file=/i", "--read-only", "--no-lock"]);
         assert_eq!((it.source, it.image), (Source::Path("a=b".into()), "/i".into()));
         assert!(it.read_only && !it.is_locked && !it.by_state_machine);
-        let it = options(&["--fd=3", "--image", "--x=y", "--queues=2", "--write-through", "--state-machine"]);
+        let it = options(&[
+            "--fd=3",
+            "--image",
+            "--x=y",
+            "--queues=2",
+            "--write-through",
+            "--state-machine",
+        ]);
         assert_eq!((it.source, it.image), (Source::Descriptor(3), "--x=y".into()));
         assert_eq!((it.queues, it.write_through, it.by_state_machine), (2, true, true));
         let it = options(&["--fd", "2147483647", "--blk-file", "i"]);

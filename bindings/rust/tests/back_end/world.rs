@@ -69,16 +69,20 @@ pub struct World<'a> {
     features: u64,
 }
 
+fn offer() -> Offer {
+    Offer {
+        features: FEATURES,
+        protocol_features: OF_PROTOCOL,
+        queues: 2,
+        max_queue_size: 16,
+        writable_from: 0,
+        writable_len: 0,
+    }
+}
+
 impl<'a> World<'a> {
     pub fn new(numbers: &'a mut Numbers, all: &'a mut Files, counts: &'a mut Counts) -> World<'a> {
-        let offer = Offer {
-            features: FEATURES,
-            protocol_features: OF_PROTOCOL,
-            queues: 2,
-            max_queue_size: 16,
-            writable_from: 0,
-            writable_len: 0,
-        };
+        let offer = offer();
         let disk = Disk {
             sectors: SECTORS,
             seg_max: 126,
