@@ -98,7 +98,8 @@ fn functions() -> Vec<String> {
 
 #[test]
 fn programs_of_c_call_each_function_of_the_header() {
-    let programs = ["calls.c", "backend.c", "shared.c", "version.c"].map(|name| text(&format!("../c/{name}")));
+    let programs =
+        ["calls.c", "backend.c", "block.c", "shared.c", "version.c"].map(|name| text(&format!("../c/{name}")));
     // Those that the others are made of.
     let parts = ["vmm_asked", "vmm_of_kind", "vmm_at", "vmm_on", "vmm_call", "vmm_lend"];
     let names = functions();
