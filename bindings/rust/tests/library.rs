@@ -73,6 +73,7 @@ fn all_crates_below_are_watched() {
     assert_eq!(
         crates_of(&tool()),
         [
+            "vhost_backend",
             "vhost_calls",
             "vhost_iotlb",
             "vhost_message",

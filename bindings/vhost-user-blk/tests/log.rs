@@ -475,24 +475,6 @@ fn a_mark_costs_nothing_of_the_other_pages() {
     assert!(many < 2 * few, "{few} and {many}");
 }
 
-// Of a used ring in three pages the second one is not reached, and so it is not mapped.
-#[test]
-fn pages_after_one_without_a_mapping_are_marked() {
-    let program = Program::start("log_gap", LEN, &[]);
-    let features = USUAL | EVENT_IDX | ACCESS_PLATFORM;
-    let mut front = program.connect();
-    front.negotiate(features);
-    front.set_memory();
-    front.translate(SHIFT);
-    front.start_ring(1024, 0);
-    let log = begin(&mut front, features, LOG_LEN);
-    front.read_disk(0, 1, 512);
-    program.rest();
-    let (used, marked) = (front.used_ring(0) / PAGE, taken(&log));
-    let is_marked = |page: u64| marked.contains(&(used + page));
-    assert!(is_marked(0) && !is_marked(1) && is_marked(2), "{marked:x?}");
-}
-
 // The address that a used ring has in the log may be another one than its own.
 #[test]
 fn a_used_ring_is_marked_at_its_address_in_the_log() {
