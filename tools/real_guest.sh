@@ -147,8 +147,8 @@ build_backend() {
 start_backend() {
     rm -f "$room/socket$part"
     # shellcheck disable=SC2086
-    "$VHOST_USER_BLK" --socket "$room/socket$part" --image "$room/disk.img" --stats 5 ${part:+--no-lock} $backend \
-        >> "$room/backend" 2>&1 &
+    "$VHOST_USER_BLK" --socket "$room/socket$part" --image "$room/disk.img" --stats 5 ${part:+--no-lock} \
+        ${iommu:+--iommu} $backend >> "$room/backend" 2>&1 &
     backend_pid=$!
     echo "$backend_pid" > "$room/pid"
     starts=$((starts + 1))
@@ -568,7 +568,7 @@ compare() {
         grep -aq '^I/O table: [1-9][0-9]* misses' "$room/backend" || echo "no mapping was asked for" >> "$room/why"
     fi
     case $device in
-    packed=on*) grep -aq '^ring .* packed, base' "$room/backend" || echo "no ring was packed" >> "$room/why" ;;
+    packed=on*) grep -aq '^features: .*RING_PACKED' "$room/backend" || echo "no ring was packed" >> "$room/why" ;;
     esac
     if [ "$starts" = 2 ] && [ -z "$ending" ]; then
         grep -aq '^log: [1-9]' "$room/backend" || echo "no page was logged" >> "$room/why"

@@ -38,7 +38,7 @@ static uint32_t tell(size_t descriptors) {
 
 /* Whether a run gives exactly one action, of this kind. */
 static int gives(uint32_t kind) {
-    vmm_backend_run(&connection, NULL, 0, actions, ROOM, pieces, 16, output, OUTPUT, &counts);
+    vmm_backend_run(&connection, NULL, 0, 1, actions, ROOM, pieces, 16, output, OUTPUT, &counts);
     return counts.actions == 1 && actions[0].kind == kind;
 }
 
@@ -86,7 +86,7 @@ static int memory(void) {
     if (tell(1) != 0 || tell(1) != 1) {
         return 20;
     }
-    vmm_backend_run(&connection, NULL, 0, actions, ROOM, pieces, 16, output, OUTPUT, &counts);
+    vmm_backend_run(&connection, NULL, 0, 1, actions, ROOM, pieces, 16, output, OUTPUT, &counts);
     if (counts.actions != 2 || actions[0].kind != VMM_BACKEND_UNMAP_ALL || actions[1].kind != VMM_BACKEND_MAP ||
         counts.state != 1) {
         return 21;
@@ -100,7 +100,7 @@ static int memory(void) {
     if (vmm_backend_mapped(&connection, place) != 0) {
         return 23;
     }
-    vmm_backend_run(&connection, NULL, 0, actions, ROOM, pieces, 16, output, OUTPUT, &counts);
+    vmm_backend_run(&connection, NULL, 0, 1, actions, ROOM, pieces, 16, output, OUTPUT, &counts);
     vmm_backend_state(&connection, &state);
     return counts.actions == 0 && counts.state == 0 && state.regions == 1 ? 0 : 24;
 }
@@ -114,7 +114,7 @@ static int ring(void) {
         return 30;
     }
     vmm_backend_done(&connection);
-    vmm_backend_run(&connection, NULL, 0, actions, ROOM, pieces, 16, output, OUTPUT, &counts);
+    vmm_backend_run(&connection, NULL, 0, 1, actions, ROOM, pieces, 16, output, OUTPUT, &counts);
     if (counts.state != 0) {
         return 31;
     }

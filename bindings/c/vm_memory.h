@@ -844,7 +844,7 @@ typedef struct vmm_backend_disk {
  * SERVE: a part of the request `id` of `ring`: `way` is 1 if `len` bytes of the disk, from `place` on, are read
  * into the next `count` pieces, 2 if they are written from there, 3 if what was written is made stable, and 4 if
  * the first `len` bytes of the name are put into the pieces. If `more` is 1, the part goes on with the next action
- * that serves this request, and has one end, after the last.
+ * that serves this request, and has one end, after the last. `left` parts of the request come after it if none fails.
  * INTERRUPT, ERROR: `ring` is signalled by the descriptor of its interrupts or errors, if it has one.
  * MARK: `len` bits of the log, from the one of page `place` on, are set, each by an atomic OR.
  * END: the connection is over. `way` is 1 if a message was refused for the code `id`, 2 if what it asked for
@@ -852,7 +852,7 @@ typedef struct vmm_backend_disk {
  * after vmm_backend_hang_up.
  * STOPPED: the ring is stopped, and its descriptor of kicks is let go. */
 typedef struct vmm_backend_action {
-    uint32_t kind, ring, id, way, count, more;
+    uint32_t kind, ring, id, way, count, more, left;
     uint64_t place, len, guest, user;
 } vmm_backend_action;
 
@@ -881,8 +881,8 @@ typedef struct vmm_backend_end {
 } vmm_backend_end;
 
 /* How many ends a run took, and how many actions, pieces and bytes of output it gave. If `more` is 1, another run
- * may give more. `state`: 0 if a message can be taken, 1 if one is under way, 2 if the connection is over, and 3 if
- * nothing of it is under way any more. */
+ * may give more. `state`: 0 if a message is taken, 1 if something is left to be done before, 2 if the connection is
+ * over, and 3 if nothing of it is under way any more. */
 typedef struct vmm_backend_counts {
     size_t ends, actions, pieces, bytes;
     uint32_t more, state;
@@ -912,8 +912,9 @@ void vmm_backend_resize(vmm_backend *connection, uint64_t sectors);
 void vmm_backend_hang_up(vmm_backend *connection);
 
 /* Takes ends of parts, and gives what is to be done, as far as there is room: 280 bytes of output, an action and a
- * piece are enough to go on. If nothing else is left, rings have two turns. */
-void vmm_backend_run(vmm_backend *connection, const vmm_backend_end *ends, size_t ends_size,
+ * piece are enough to go on. What the run before it gave was done: a chain is returned after the pages of its request
+ * were marked. If nothing else is left, rings have so many turns. */
+void vmm_backend_run(vmm_backend *connection, const vmm_backend_end *ends, size_t ends_size, uint32_t turns,
                      vmm_backend_action *actions, size_t actions_size, vmm_backend_piece *pieces, size_t pieces_size,
                      uint8_t *output, size_t output_size, vmm_backend_counts *counts);
 

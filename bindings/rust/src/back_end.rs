@@ -11,7 +11,7 @@
 //! // GET_FEATURES, of the version 1 and without a payload.
 //! assert!(back_end.message(&[1, 0, 0, 0, 1, 0, 0, 0, 0, 0, 0, 0], 0));
 //! let mut room = Room::new();
-//! back_end.run(&[], &mut room);
+//! back_end.run(&[], 1, &mut room);
 //! let Some(Action::Send { bytes }) = room.actions().next() else { panic!("it is answered") };
 //! assert_eq!(bytes[12..], (1_u64 << 32).to_le_bytes());
 //! # Ok::<(), vm_memory_proved::vhost_user::Refusal>(())
@@ -21,6 +21,7 @@ use crate::ffi::Device;
 use crate::mapping::Mapping;
 use crate::shared::{check, SharedBlockError};
 use crate::vhost_user::{Offer, Refusal};
+use std::collections::TryReserveError;
 use std::fs::File;
 use std::os::fd::BorrowedFd;
 use std::os::unix::fs::MetadataExt;
@@ -97,6 +98,8 @@ pub struct Part<'a> {
     pub pieces: &'a [Piece],
     /// It goes on with the next part that is served for this request, and both have one end.
     pub goes_on: bool,
+    /// How many parts of the request come after this one, if none fails.
+    pub left: u32,
 }
 
 /// What is kept of a descriptor that came.
@@ -215,6 +218,7 @@ pub(crate) mod raw {
         pub(crate) way: u32,
         pub(crate) count: u32,
         pub(crate) more: u32,
+        pub(crate) left: u32,
         pub(crate) place: u64,
         pub(crate) len: u64,
         pub(crate) guest: u64,
@@ -255,14 +259,23 @@ impl Room {
         Room::with(256, 4096, 4096)
     }
 
+    /// The same, or an error if an allocation fails.
+    pub fn try_new() -> Result<Room, TryReserveError> {
+        Room::try_with(256, 4096, 4096)
+    }
+
     /// Room for at least 8 actions, 16 pieces and 280 bytes.
     pub fn with(actions: usize, pieces: usize, bytes: usize) -> Room {
-        Room {
-            actions: vec![raw::Action::default(); actions.max(8)],
-            pieces: vec![Piece::default(); pieces.max(16)],
-            output: vec![0; bytes.max(280)],
+        Room::try_with(actions, pieces, bytes).expect("there is memory")
+    }
+
+    fn try_with(actions: usize, pieces: usize, bytes: usize) -> Result<Room, TryReserveError> {
+        Ok(Room {
+            actions: filled(actions.max(8))?,
+            pieces: filled(pieces.max(16))?,
+            output: filled(bytes.max(280))?,
             counts: raw::Counts::default(),
-        }
+        })
     }
 
     /// What the last run asks for, in order.
@@ -293,6 +306,13 @@ impl Room {
             _ => State::AtRest,
         }
     }
+}
+
+fn filled<T: Clone + Default>(count: usize) -> Result<Vec<T>, TryReserveError> {
+    let mut all = Vec::new();
+    all.try_reserve_exact(count)?;
+    all.resize(count, T::default());
+    Ok(all)
 }
 
 /// The actions of a run, one after another.
@@ -368,6 +388,7 @@ impl<'a> Actions<'a> {
             len: raw.len,
             pieces,
             goes_on: raw.more == 1,
+            left: raw.left,
         }
     }
 }
@@ -513,10 +534,20 @@ impl BackEnd {
         self.device.hang_up();
     }
 
-    /// Takes the ends of parts, and puts what is to be done into the room, as far as it goes. Rings have two turns.
+    /// The features that the front end accepted.
+    pub fn features(&self) -> u64 {
+        self.device.state().features
+    }
+
+    /// The features of the protocol that the front end accepted.
+    pub fn protocol_features(&self) -> u64 {
+        self.device.state().protocol_features
+    }
+
+    /// Takes the ends of parts, and puts what is to be done into the room, as far as it goes. Rings have so many turns.
     #[inline]
-    pub fn run(&mut self, ends: &[PartEnd], room: &mut Room) {
-        self.device.run(ends, room);
+    pub fn run(&mut self, ends: &[PartEnd], turns: u32, room: &mut Room) {
+        self.device.run(ends, turns, room);
         let counts = &room.counts;
         if room.actions[..counts.actions]
             .iter()

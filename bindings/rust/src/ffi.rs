@@ -128,6 +128,7 @@ unsafe extern "C" {
         back_end: *mut Handle,
         ends: *const PartEnd,
         ends_count: usize,
+        turns: u32,
         actions: *mut RawAction,
         actions_count: usize,
         pieces: *mut Piece,
@@ -136,6 +137,8 @@ unsafe extern "C" {
         output_size: usize,
         counts: *mut Counts,
     );
+
+    fn vmm_backend_state(back_end: *mut Handle, state: *mut Negotiated);
 
     fn vmm_backend_close(back_end: *mut Handle);
 }
@@ -439,10 +442,10 @@ impl Drop for Connection {
 /// An open back end. It is closed when it is dropped.
 ///
 /// In each call the declaration fits the library's function, and the handle is that of an open back end, as each call
-/// leaves it. No other call of it runs: only this thread has it, and the library calls nothing back. Other pointers and
-/// lengths are those of references that are borrowed for the call.
+/// leaves it. No other call of it runs: only this thread has it, as it is not `Sync`, and the library calls nothing
+/// back. Other pointers and lengths are those of references that are borrowed for the call.
 pub(crate) struct Device {
-    handle: Handle,
+    handle: Cell<Handle>,
 }
 
 // SAFETY: the back end owns all that its handle points to, shares none of it, and is tied to no thread: the library's
@@ -456,12 +459,15 @@ impl Device {
         // SAFETY: the declaration fits the library's function, a handle that is null is a closed one, as it asks, and
         // the other pointers and the length are those of references.
         let code = unsafe { vmm_backend_open(&mut handle, offer, config.as_ptr(), config.len(), disk) };
-        done(code, Device { handle })
+        done(code, ())?;
+        Ok(Device {
+            handle: Cell::new(handle),
+        })
     }
 
     pub(crate) fn message(&mut self, message: &[u8], descriptors: usize) -> u32 {
         // SAFETY: see `Device`.
-        unsafe { vmm_backend_message(&mut self.handle, message.as_ptr(), message.len(), descriptors) }
+        unsafe { vmm_backend_message(self.handle.as_ptr(), message.as_ptr(), message.len(), descriptors) }
     }
 
     /// Lends the bytes of a mapping. If that is refused they are the caller's again. Else the library has them until a
@@ -474,41 +480,48 @@ impl Device {
         // SAFETY: see `Device`. The place is not null, and has as many bytes as it says, at least one and no more than
         // an `isize` counts. Nothing in this process has a reference to them, and they stay mapped as long as the
         // library has them: `BackEnd` keeps the mapping.
-        unsafe { vmm_backend_mapped(&mut self.handle, place) }
+        unsafe { vmm_backend_mapped(self.handle.as_ptr(), place) }
     }
 
     pub(crate) fn done(&mut self) {
         // SAFETY: see `Device`.
-        unsafe { vmm_backend_done(&mut self.handle) }
+        unsafe { vmm_backend_done(self.handle.as_ptr()) }
     }
 
     pub(crate) fn failed(&mut self) {
         // SAFETY: see `Device`.
-        unsafe { vmm_backend_failed(&mut self.handle) }
+        unsafe { vmm_backend_failed(self.handle.as_ptr()) }
     }
 
     pub(crate) fn kick(&mut self, ring: u32) {
         // SAFETY: see `Device`.
-        unsafe { vmm_backend_kick(&mut self.handle, ring) }
+        unsafe { vmm_backend_kick(self.handle.as_ptr(), ring) }
     }
 
     pub(crate) fn sent(&mut self, bytes: usize) {
         // SAFETY: see `Device`.
-        unsafe { vmm_backend_sent(&mut self.handle, bytes) }
+        unsafe { vmm_backend_sent(self.handle.as_ptr(), bytes) }
     }
 
     pub(crate) fn resize(&mut self, sectors: u64) {
         // SAFETY: see `Device`.
-        unsafe { vmm_backend_resize(&mut self.handle, sectors) }
+        unsafe { vmm_backend_resize(self.handle.as_ptr(), sectors) }
     }
 
     pub(crate) fn hang_up(&mut self) {
         // SAFETY: see `Device`.
-        unsafe { vmm_backend_hang_up(&mut self.handle) }
+        unsafe { vmm_backend_hang_up(self.handle.as_ptr()) }
+    }
+
+    pub(crate) fn state(&self) -> Negotiated {
+        let mut state = Negotiated::default();
+        // SAFETY: see `Device`.
+        unsafe { vmm_backend_state(self.handle.as_ptr(), &mut state) };
+        state
     }
 
     #[inline]
-    pub(crate) fn run(&mut self, ends: &[PartEnd], room: &mut Room) {
+    pub(crate) fn run(&mut self, ends: &[PartEnd], turns: u32, room: &mut Room) {
         let Room {
             actions,
             pieces,
@@ -518,9 +531,10 @@ impl Device {
         // SAFETY: see `Device`.
         unsafe {
             vmm_backend_run(
-                &mut self.handle,
+                self.handle.as_ptr(),
                 ends.as_ptr(),
                 ends.len(),
+                turns,
                 actions.as_mut_ptr(),
                 actions.len(),
                 pieces.as_mut_ptr(),
@@ -536,6 +550,6 @@ impl Device {
 impl Drop for Device {
     fn drop(&mut self) {
         // SAFETY: see `Device`. This is the handle's last use.
-        unsafe { vmm_backend_close(&mut self.handle) }
+        unsafe { vmm_backend_close(self.handle.get_mut()) }
     }
 }

@@ -1,10 +1,9 @@
 //! A connection whose messages and rings are decided by the library's state machine: this does its actions, in order.
 //!
-//! The guest has no IOMMU. What a mapping shows is the file that was named, parts of requests end before the next run,
-//! and their ends are told once.
+//! The guest has no IOMMU. What a mapping shows is the file that was named, and each part of a request has one end,
+//! which is told once.
 
 use crate::channel::{Answer, Channel};
-use crate::connection::{CHANNEL, ENDING, HANGUPS, POLL, RINGS, SOCKET};
 use crate::descriptor::{self, Kick, Kind};
 use crate::disk::{Disk, Hangups};
 use crate::end::End;
@@ -22,11 +21,20 @@ use std::os::fd::{AsFd, OwnedFd};
 use std::os::unix::net::UnixStream;
 use std::time::{Duration, Instant};
 use vm_memory_proved::back_end::{Action, BackEnd, Kept, Over, Region, Room, State};
-use vm_memory_proved::vhost_user::HEADER_LEN;
 
-// The numbers of messages that say which features were accepted.
-const SET_FEATURES: u32 = 2;
-const SET_PROTOCOL_FEATURES: u32 = 16;
+/// The numbers of descriptors: of the one that ends the program, of the socket, and of the one that says that the image
+/// may have another size. The back end's own channel and the rings come after them.
+pub const ENDING: u64 = 0;
+pub const SOCKET: u64 = 1;
+pub const HANGUPS: u64 = 2;
+pub const CHANNEL: u64 = 3;
+pub const RINGS: u64 = 4;
+
+/// How often a ring is looked at whose driver has no descriptor to notify by.
+pub const POLL: Duration = Duration::from_millis(1);
+
+// The turns that rings may take in a run. They take none while parts wait, so that a message waits for few requests.
+const TURNS: u32 = 2;
 
 // What a front end gave for a ring.
 #[derive(Default)]
@@ -61,8 +69,7 @@ pub struct Device<'a> {
     rings: Vec<Ring>,
     channel: Option<Channel>,
     log: Option<Log>,
-    // The features that were accepted, those of the protocol, and both as they were said last.
-    features: [u64; 2],
+    // The features that were accepted, and those of the protocol, as they were said last.
     said: [u64; 2],
     parts: Parts<'a>,
 }
@@ -90,7 +97,7 @@ impl<'a> Device<'a> {
             stats: options.stats,
             guarded: None,
             back_end: BackEnd::new(&offer, &config, &features::disk(disk))?,
-            room: Some(Box::default()),
+            room: Some(Box::new(Room::try_new()?)),
             has_more: false,
             state: State::Free,
             incoming: Incoming::new(),
@@ -100,9 +107,8 @@ impl<'a> Device<'a> {
             rings,
             channel: None,
             log: None,
-            features: [0; 2],
             said: [0; 2],
-            parts: Parts::new(disk),
+            parts: Parts::new(disk, options.queues),
         })
     }
 
@@ -140,7 +146,7 @@ impl<'a> Device<'a> {
     }
 
     fn time_to_wait(&self, next: Option<Instant>) -> Option<Duration> {
-        if self.has_more || !self.parts.ends.is_empty() {
+        if self.has_more || !self.parts.ends.is_empty() || self.parts.are_waiting() {
             return Some(Duration::ZERO);
         }
         let left = next.map(|time| time.saturating_duration_since(Instant::now()));
@@ -197,15 +203,7 @@ impl<'a> Device<'a> {
         }
         self.request = self.incoming.request();
         let (bytes, len, descriptors) = self.incoming.take();
-        let message = &bytes[..len];
-        let place = [SET_FEATURES, SET_PROTOCOL_FEATURES]
-            .iter()
-            .position(|it| *it == self.request);
-        if let (Some(place), Some(features)) = (place, message[HEADER_LEN..].first_chunk()) {
-            self.features[place] = u64::from_le_bytes(*features);
-            self.parts.are_flushed = self.features[0] & features::FLUSH == 0;
-        }
-        let is_taken = self.back_end.message(message, descriptors.len());
+        let is_taken = self.back_end.message(&bytes[..len], descriptors.len());
         assert!(is_taken, "no message is under way");
         self.descriptors = descriptors.into_iter().map(Some).collect();
         self.state = State::Busy;
@@ -234,7 +232,7 @@ impl<'a> Device<'a> {
             return;
         }
         self.back_end.resize(self.disk.sectors());
-        let has_config = self.features[1] & features::CONFIG != 0;
+        let has_config = self.back_end.protocol_features() & features::CONFIG != 0;
         if let Some(channel) = self.channel.as_ref().filter(|_| has_config) {
             if let Err(error) = channel.say_changed() {
                 say!("the front end is not told of the size: {error}");
@@ -255,7 +253,8 @@ impl<'a> Device<'a> {
 
     fn go_on(&mut self) -> Result<(), End> {
         let mut room = self.room.take().expect("its actions were done");
-        self.back_end.run(&self.parts.ends, &mut room);
+        let turns = if self.parts.are_waiting() { 0 } else { TURNS };
+        self.back_end.run(&self.parts.ends, turns, &mut room);
         self.parts.ends.drain(..room.ends_taken());
         self.has_more = room.has_more();
         self.state = room.state();
@@ -270,21 +269,24 @@ impl<'a> Device<'a> {
 
     fn do_all(&mut self, room: &Room) -> Result<(), End> {
         for action in room.actions() {
-            if self.is_lost() {
-                return Err(End::MemoryLost);
-            }
+            self.expect_memory()?;
             self.act(action)?;
         }
-        self.parts.go_on(&self.back_end, room.has_more());
-        match self.is_lost() {
+        self.expect_memory()?;
+        self.parts.end_run();
+        while self.parts.serve_next(&self.back_end) {
+            self.expect_memory()?;
+        }
+        Ok(())
+    }
+
+    // No file lost bytes that were accessed.
+    fn expect_memory(&self) -> Result<(), End> {
+        let is_lost = self.parts.is_lost() || self.guarded.as_ref().is_some_and(Guarded::is_lost);
+        match is_lost {
             true => Err(End::MemoryLost),
             false => Ok(()),
         }
-    }
-
-    // Whether a file lost bytes that were accessed.
-    fn is_lost(&self) -> bool {
-        self.parts.is_lost() || self.guarded.as_ref().is_some_and(Guarded::is_lost)
     }
 
     #[inline]
@@ -429,9 +431,10 @@ impl<'a> Device<'a> {
     }
 
     fn say_start(&mut self, index: u32) {
-        if self.said != self.features {
-            self.said = self.features;
-            say!("{}", features::names(self.features[0], self.features[1]));
+        let now = [self.back_end.features(), self.back_end.protocol_features()];
+        if self.said != now {
+            self.said = now;
+            say!("{}", features::names(now[0], now[1]));
         }
         say!("ring {index} is started");
     }

@@ -83,7 +83,7 @@ pub fn offer(options: &Options) -> Offer {
     if options.queues == 1 {
         features &= !MQ;
     }
-    if options.by_state_machine {
+    if !options.iommu {
         features &= !ACCESS_PLATFORM;
     }
     Offer {

@@ -5,28 +5,26 @@
 #![deny(unsafe_op_in_unsafe_fn)]
 
 mod channel;
-mod connection;
 mod descriptor;
 mod device;
 mod disk;
 mod end;
 mod features;
 mod incoming;
+mod iommu;
 mod log;
-mod memory;
 mod options;
 mod output;
 mod parts;
-mod serve;
 mod signal;
 mod stats;
 #[allow(unsafe_code)]
 mod system;
 
-use connection::{Connection, ENDING, HANGUPS, SOCKET};
-use device::Device;
+use device::{Device, ENDING, HANGUPS, SOCKET};
 use disk::{Disk, Hangups};
 use end::End;
+use iommu::Connection;
 use options::{Asked, Options, Source, CAPABILITIES, USAGE, VERSION};
 use signal::Watchdog;
 use std::error::Error;
@@ -202,9 +200,9 @@ impl Program<'_> {
             watchdog,
             options,
         } = self;
-        Ok(match options.by_state_machine {
-            true => Device::new(socket, epoll, disk, hangups, options, watchdog)?.run(),
-            false => Connection::new(socket, epoll, disk, hangups, options, watchdog)?.run(),
+        Ok(match options.iommu {
+            false => Device::new(socket, epoll, disk, hangups, options, watchdog)?.run(),
+            true => Connection::new(socket, epoll, disk, hangups, options, watchdog)?.run(),
         })
     }
 

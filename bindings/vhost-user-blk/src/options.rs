@@ -7,8 +7,8 @@ use std::path::PathBuf;
 use std::time::Duration;
 
 pub const USAGE: &str = "\
-usage: vhost-user-blk --socket PATH --image FILE [--read-only] [--write-through] [--queues N] [--iotlb-limit N]
-           [--state-machine] [--stats SECONDS] [--no-lock]
+usage: vhost-user-blk --socket PATH --image FILE [--read-only] [--write-through] [--queues N] [--iommu]
+           [--iotlb-limit N] [--stats SECONDS] [--no-lock]
        vhost-user-blk --fd N --image FILE ..
        vhost-user-blk --print-capabilities | --version | --help
 
@@ -23,8 +23,8 @@ has then. A value may also follow a =, as in --fd=3.
   --read-only       the guest can only read
   --write-through   FLUSH is not offered: each write is stable before it completes
   --queues N        the number of queues, 1 to 256; the default is 1
-  --state-machine   on trial: the library's state machine decides, and ACCESS_PLATFORM is not offered
-  --iotlb-limit N   how many ranges the table of I/O addresses keeps, 8 to 65536; the default is 65536
+  --iommu           the guest may have an IOMMU: ACCESS_PLATFORM is offered
+  --iotlb-limit N   with --iommu: how many I/O ranges are kept, 8 to 65536; the default is 65536
   --stats SECONDS   prints requests, bytes and errors this often, and at the end of a connection
   --no-lock         serves FILE even if another program has locked it, and does not lock it
   --print-capabilities
@@ -63,7 +63,8 @@ pub struct Options {
     pub read_only: bool,
     pub write_through: bool,
     pub queues: u32,
-    pub by_state_machine: bool,
+    /// The guest may have an IOMMU.
+    pub iommu: bool,
     /// How many ranges the I/O table keeps.
     pub iotlb_limit: usize,
     pub stats: Option<Duration>,
@@ -118,7 +119,7 @@ struct Read {
     stats: Option<u32>,
     read_only: bool,
     write_through: bool,
-    state_machine: bool,
+    iommu: bool,
     no_lock: bool,
 }
 
@@ -128,7 +129,7 @@ impl Read {
         let flag = match name {
             "--read-only" => &mut self.read_only,
             "--write-through" => &mut self.write_through,
-            "--state-machine" => &mut self.state_machine,
+            "--iommu" => &mut self.iommu,
             "--no-lock" => &mut self.no_lock,
             _ => return false,
         };
@@ -156,13 +157,16 @@ impl Read {
             (None, None) => return Err("--socket is missing".into()),
             (Some(_), Some(_)) => return Err("--fd takes the place of --socket".into()),
         };
+        if self.iotlb_limit.is_some() && !self.iommu {
+            return Err("--iotlb-limit needs --iommu".into());
+        }
         Ok(Options {
             source,
             image: self.image.ok_or("--image is missing")?,
             read_only: self.read_only,
             write_through: self.write_through,
             queues: self.queues.unwrap_or(1),
-            by_state_machine: self.state_machine,
+            iommu: self.iommu,
             iotlb_limit: self.iotlb_limit.unwrap_or(65_536) as usize,
             stats: self.stats.map(|seconds| Duration::from_secs(seconds.into())),
             is_locked: !self.no_lock,
@@ -211,17 +215,19 @@ mod tests {
             read_only: false,
             write_through: false,
             queues: 1,
-            by_state_machine: false,
+            iommu: false,
             iotlb_limit: 65_536,
             stats: None,
             is_locked: true,
         };
         assert_eq!(options(&asked), usual);
-        let more = ["--read-only", "--queues", "256", "--stats", "5", "--iotlb-limit", "8"];
+        let more = "--read-only --queues 256 --stats 5 --iommu --iotlb-limit 8";
+        let more: Vec<_> = more.split(' ').collect();
         let wanted = Options {
             read_only: true,
             queues: 256,
             stats: Some(Duration::from_secs(5)),
+            iommu: true,
             iotlb_limit: 8,
             ..usual
         };
@@ -241,17 +247,10 @@ mod tests {
     fn words_are_those_of_back_ends() {
         let it = options(&["--socket-path=a=b", "--blk-file=/i", "--read-only", "--no-lock"]);
         assert_eq!((it.source, it.image), (Source::Path("a=b".into()), "/i".into()));
-        assert!(it.read_only && !it.is_locked && !it.by_state_machine);
-        let it = options(&[
-            "--fd=3",
-            "--image",
-            "--x=y",
-            "--queues=2",
-            "--write-through",
-            "--state-machine",
-        ]);
+        assert!(it.read_only && !it.is_locked && !it.iommu);
+        let it = options(&["--fd=3", "--image", "--x=y", "--queues=2", "--write-through", "--iommu"]);
         assert_eq!((it.source, it.image), (Source::Descriptor(3), "--x=y".into()));
-        assert_eq!((it.queues, it.write_through, it.by_state_machine), (2, true, true));
+        assert_eq!((it.queues, it.write_through, it.iommu), (2, true, true));
         let it = options(&["--fd", "2147483647", "--blk-file", "i"]);
         assert_eq!(it.source, Source::Descriptor(i32::MAX));
         // Words that are no options do not matter then.
@@ -278,6 +277,10 @@ mod tests {
             (
                 &["--iotlb-limit", "7"],
                 "--iotlb-limit takes a number from 8 to 65536, not 7",
+            ),
+            (
+                &["--socket", "s", "--image", "i", "--iotlb-limit", "8"],
+                "--iotlb-limit needs --iommu",
             ),
             (&["--stats", "x"], "--stats takes a number from 1 to 86400, not x"),
             (&["--fd=2"], "--fd takes a number from 3 to 2147483647, not 2"),

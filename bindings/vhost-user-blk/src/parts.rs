@@ -1,7 +1,7 @@
 //! Parts of requests: bytes go between the disk and guest memory, where that is mapped.
 //!
-//! Requests are served one after another. A request of more than one part goes on before the next one begins, so they
-//! are returned in order: after this program was killed the used index says which comes next.
+//! The requests of a ring are served one after another: one of several parts ends before the next one begins. So they
+//! are returned in order, and after this program was killed the used index says which comes next.
 
 use crate::disk::{Disk, NAME_LEN};
 use crate::stats::Stats;
@@ -14,22 +14,23 @@ pub struct Parts<'a> {
     disk: &'a Disk,
     /// Those that were served, and not told to the library.
     pub ends: Vec<PartEnd>,
-    /// A write of the driver goes on with a part that makes it stable.
-    pub are_flushed: bool,
-    // The request that may go on with another part, and how many runs asked for none since then.
-    current: Option<(u32, u32)>,
-    runs: u32,
-    // How many bytes of a part were moved, and whether it failed, if the rest of it has not come.
-    begun: Option<(u64, bool)>,
-    // Those of the requests after it.
+    // Of each ring the request that goes on with another part.
+    current: Vec<Option<Current>>,
+    // Those of later requests, in order.
     waiting: VecDeque<Waiting>,
     vectors: Vec<libc::iovec>,
     pub stats: Stats,
     is_lost: bool,
 }
 
-// How many bytes a part has if its request has more of them.
-const PART: u64 = 1 << 20;
+#[derive(Clone, Copy)]
+struct Current {
+    id: u32,
+    // How many bytes of a part were moved, and whether it failed, if the rest of it has not come.
+    begun: Option<(u64, bool)>,
+    // How many runs gave nothing of it since one took the end of its last part.
+    runs: u32,
+}
 
 // A part that waits.
 struct Waiting {
@@ -38,14 +39,12 @@ struct Waiting {
 }
 
 impl<'a> Parts<'a> {
-    pub fn new(disk: &'a Disk) -> Parts<'a> {
+    /// Nothing is served of so many rings.
+    pub fn new(disk: &'a Disk, rings: u32) -> Parts<'a> {
         Parts {
             disk,
             ends: Vec::new(),
-            are_flushed: true,
-            current: None,
-            runs: 0,
-            begun: None,
+            current: vec![None; rings as usize],
             waiting: VecDeque::new(),
             vectors: Vec::new(),
             stats: Stats::default(),
@@ -58,12 +57,17 @@ impl<'a> Parts<'a> {
         self.is_lost
     }
 
+    /// Whether parts wait for the request before theirs.
+    pub fn are_waiting(&self) -> bool {
+        !self.waiting.is_empty()
+    }
+
     /// Serves a part, or keeps it until its turn comes.
     #[inline]
     pub fn take(&mut self, back_end: &BackEnd, part: &Part<'_>) {
-        let is_next = match self.current {
-            Some(it) => it == (part.ring, part.id),
-            None => self.waiting.is_empty(),
+        let is_next = match self.current[part.ring as usize] {
+            Some(it) => it.id == part.id,
+            None => self.waiting.iter().all(|it| it.part.ring != part.ring),
         };
         if is_next {
             return self.serve(back_end, part);
@@ -74,57 +78,58 @@ impl<'a> Parts<'a> {
         });
     }
 
-    /// Serves what waits, unless the request before it goes on. It does not if all ends were told, and no run asks for
-    /// more of it, of which the last one may have had no room for that.
-    #[inline]
-    pub fn go_on(&mut self, back_end: &BackEnd, has_more: bool) {
-        if self.current.is_some() && self.begun.is_none() && self.ends.is_empty() {
-            self.runs += 1;
-            if self.runs > 1 || !has_more {
-                self.current = None;
-            }
-        }
-        while self.current.is_none() {
-            let Some(Waiting { part, pieces }) = self.waiting.pop_front() else {
-                return;
+    /// A run is over. What follows from an end is given by the run that takes it, or if that had no room, by the next
+    /// one. If it is not, the next part has no memory, and the library has ended the request.
+    pub fn end_run(&mut self) {
+        for (ring, current) in (0..).zip(&mut self.current) {
+            let is_taken = || self.ends.iter().all(|end| end.ring != ring);
+            let Some(it) = current.as_mut().filter(|it| it.begun.is_none() && is_taken()) else {
+                continue;
             };
-            let pieces = &pieces;
-            self.serve(back_end, &Part { pieces, ..part });
+            it.runs += 1;
+            if it.runs > 1 {
+                *current = None;
+            }
         }
     }
 
-    // Whether the request of a part, which is over, may have more of them.
-    fn may_go_on(&self, part: &Part<'_>, bytes: u64) -> bool {
-        match part.way {
-            Way::Read => bytes == PART,
-            Way::Write => bytes == PART || self.are_flushed,
-            Way::Flush | Way::Name => false,
-        }
+    /// Serves a part that waited, and returns whether there was one whose turn has come.
+    #[inline]
+    pub fn serve_next(&mut self, back_end: &BackEnd) -> bool {
+        let is_next = |it: &Waiting| self.current[it.part.ring as usize].is_none_or(|now| now.id == it.part.id);
+        let place = self.waiting.iter().position(is_next);
+        let Some(Waiting { part, pieces }) = place.and_then(|place| self.waiting.remove(place)) else {
+            return false;
+        };
+        let pieces = &pieces;
+        self.serve(back_end, &Part { pieces, ..part });
+        true
     }
 
     fn serve(&mut self, back_end: &BackEnd, part: &Part<'_>) {
-        if self.current.is_none() {
+        let (ring, id) = (part.ring, part.id);
+        let current = self.current[ring as usize];
+        if current.is_none() {
             self.count(part.way);
         }
-        let (before, has_failed) = self.begun.take().unwrap_or_default();
-        let done = if has_failed {
-            Ok(0)
-        } else {
-            self.move_bytes(back_end, part)
+        let (before, has_failed) = current.and_then(|it| it.begun).unwrap_or_default();
+        let done = match has_failed {
+            true => Ok(0),
+            false => self.move_bytes(back_end, part),
         };
         let failed = has_failed || done.is_err();
         let bytes = before + done.unwrap_or_default();
-        let goes_on = part.goes_on || (!failed && self.may_go_on(part, bytes));
-        self.current = goes_on.then_some((part.ring, part.id));
-        self.runs = 0;
+        let begun = part.goes_on.then_some((bytes, failed));
+        // A request ends with its last part, or with one that failed.
+        let goes_on = part.goes_on || (part.left > 0 && !failed);
+        self.current[ring as usize] = goes_on.then_some(Current { id, begun, runs: 0 });
         if part.goes_on {
-            self.begun = Some((bytes, failed));
             return;
         }
         self.stats.errors += u64::from(failed);
         self.ends.push(PartEnd {
-            ring: part.ring,
-            id: part.id,
+            ring,
+            id,
             failed: failed.into(),
             bytes: bytes as u32,
         });

@@ -1,5 +1,5 @@
 //! What one guest can take: how long its requests keep the program from messages, from other rings and from its end,
-//! and which chains it may make.
+//! and which chains it may make. Without --iommu messages wait for requests: long.rs.
 
 mod front_end;
 
@@ -44,7 +44,7 @@ fn begin_endless(program: &Program, front: &mut FrontEnd) {
 
 #[test]
 fn a_message_and_a_signal_come_between_parts() {
-    let program = Program::start_on_a_hole("endless", 4 << 30, &[]);
+    let program = Program::start_on_a_hole("endless", 4 << 30, IOMMU);
     let mut front = started(&program, USUAL);
     // The same head may not be published while it is in flight: these come one after another.
     begin_endless(&program, &mut front);
@@ -58,39 +58,13 @@ fn a_message_and_a_signal_come_between_parts() {
     front.restart_ring(0, 0);
     front.kick(0);
     program.wait_for_work();
-    let (before, pid) = (work_of(program.pid()), program.pid());
-    // SAFETY: it takes numbers, of a child that was not waited for.
-    unsafe { libc::kill(pid, libc::SIGTERM) };
-    let begun = Instant::now();
-    while !has_ended(pid) {
-        assert!(begun.elapsed() < LONG, "it does not end");
-        sleep(Duration::from_millis(1));
-    }
-    let took = work_of(pid) - before;
+    let took = work_of_its_end(&program);
     assert!(took < SOON, "{took}");
-}
-
-fn words_of(pid: i32) -> Vec<String> {
-    let text = fs::read_to_string(format!("/proc/{pid}/stat")).unwrap();
-    // The name of the program stands in parentheses, and its state after them.
-    let rest = text.rsplit_once(") ").unwrap().1.to_owned();
-    rest.split(' ').map(str::to_owned).collect()
-}
-
-fn has_ended(pid: i32) -> bool {
-    words_of(pid)[0] == "Z"
-}
-
-// How long a processor worked for a process, also for one that ended, in nanoseconds: the system counts hundredths.
-fn work_of(pid: i32) -> u64 {
-    let words = words_of(pid);
-    let ticks: u64 = words[11..13].iter().map(|it| it.parse::<u64>().unwrap()).sum();
-    ticks * 10_000_000
 }
 
 #[test]
 fn another_ring_comes_between_parts() {
-    let program = Program::start_on_a_hole("endless_ring", 4 << 30, &["--queues", "2"]);
+    let program = Program::start_on_a_hole("endless_ring", 4 << 30, &["--iommu", "--queues", "2"]);
     let mut front = started(&program, USUAL | 1 << 12);
     front.start_ring(64, 0);
     begin_endless(&program, &mut front);
@@ -106,7 +80,7 @@ fn another_ring_comes_between_parts() {
 // A ring gives back the request that it is in the middle of, and takes it up as the driver has it then.
 #[test]
 fn a_long_request_is_given_back() {
-    let program = Program::start_on_a_hole("given_back", 4 << 30, &[]);
+    let program = Program::start_on_a_hole("given_back", 4 << 30, IOMMU);
     let mut front = started(&program, USUAL);
     let half = RAM as u64 / 2;
     for turn in 0..4_u16 {
@@ -282,9 +256,14 @@ fn a_turn_has_so_many_bytes() {
 
 #[test]
 fn a_chain_has_so_many_segments() {
-    let program = Program::start_on_a_hole("segments", 1 << 20, &[]);
-    for (count, is_served) in [(1024, true), (1025, false)] {
-        let mut front = started(&program, USUAL);
+    let programs = [("segments", &[][..]), ("segments_iommu", IOMMU)];
+    let [program, with_iommu] = programs.map(|(name, words)| Program::start_on_a_hole(name, 1 << 20, words));
+    for (program, count, is_served) in [
+        (&program, 1024, true),
+        (&with_iommu, 1024, true),
+        (&with_iommu, 1025, false),
+    ] {
+        let mut front = started(program, USUAL);
         let data = vec![(8 * MIB, 512); count - 2];
         let status = front.put_long(1, 0, 0, &data);
         front.publish(0, 1);
@@ -364,8 +343,9 @@ fn gathered(front: &FrontEnd, data: &[(usize, usize)]) -> Vec<u8> {
 fn parts_make_a_whole() {
     for (name, features, words) in [
         ("parts", USUAL, &[][..]),
-        ("parts_behind", USUAL | ACCESS_PLATFORM, &[]),
-        ("parts_behind_8", USUAL | ACCESS_PLATFORM, &["--iotlb-limit", "8"]),
+        ("parts_refused", USUAL, IOMMU),
+        ("parts_behind", USUAL | ACCESS_PLATFORM, IOMMU),
+        ("parts_behind_8", USUAL | ACCESS_PLATFORM, IOMMU_8),
     ] {
         let len = 4 * MIB;
         let program = Program::start(name, len, words);
@@ -404,16 +384,20 @@ fn parts_make_a_whole() {
     }
 }
 
-// A segment without memory ends a request of several parts: what came before it was read or written.
+// A segment without memory ends a request. With --iommu what came before it was read or written.
 #[test]
 fn a_part_without_memory_fails() {
-    let len = 4 * MIB;
-    let program = Program::start("no_memory", len, &[]);
-    let mut front = started(&program, USUAL);
-    let (good, bad) = (200_000, 32 * MIB);
+    for (name, words, good) in [("no_memory", &[][..], 0), ("no_memory_iommu", IOMMU, 200_000)] {
+        expect_failures(&Program::start(name, 4 * MIB, words), good);
+    }
+}
+
+fn expect_failures(program: &Program, good: usize) {
+    let mut front = started(program, USUAL);
+    let bad = 32 * MIB;
     for kind in [0, 1] {
         front.write(8 * MIB, &vec![3; MIB]);
-        let data = [(8 * MIB, good), (bad, 100_000), (8 * MIB, MIB - 300_000)];
+        let data = [(8 * MIB, 200_000), (bad, 100_000), (8 * MIB, MIB - 300_000)];
         let status = front.put_long(1, kind, 8, &data[..]);
         front.publish(0, 1);
         front.kick(0);
@@ -427,7 +411,7 @@ fn a_part_without_memory_fails() {
             assert!(front.read(8 * MIB + good, 9) == [3; 9]);
         } else {
             assert!(image[4096..4096 + good] == vec![3; good]);
-            assert!(image[4096 + good..] == image_of(len)[4096 + good..]);
+            assert!(image[4096 + good..] == image_of(4 * MIB)[4096 + good..]);
         }
     }
 }
@@ -500,7 +484,7 @@ fn segments_need_not_end_with_the_data() {
 #[test]
 fn a_long_request_waits_for_a_mapping() {
     let len = 4 * MIB;
-    let program = Program::start("waits_long", len, &[]);
+    let program = Program::start("waits_long", len, IOMMU);
     let mut front = started(&program, USUAL | ACCESS_PLATFORM);
     let missing = SHIFT + 9 * MIB as u64 + 0x1_0000;
     let to = front.io().pages.remove(&missing).unwrap();

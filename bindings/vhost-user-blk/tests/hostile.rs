@@ -330,7 +330,15 @@ fn speak(program: &Program, messages: &[Message], things: &Things, numbers: &mut
 
 #[test]
 fn no_front_end_ends_the_program() {
-    let mut program = Program::start("hostile", LEN, &[]);
+    survive_front_ends(Program::start("hostile", LEN, &[]));
+}
+
+#[test]
+fn no_front_end_ends_the_program_with_iommu() {
+    survive_front_ends(Program::start("hostile_iommu", LEN, IOMMU));
+}
+
+fn survive_front_ends(mut program: Program) {
     let things = Things::new(&program);
     let mut numbers = Numbers(0x9e37_79b9_7f4a_7c15);
     let (mut early, mut served, mut packed, mut sent) = (None, 0, 0, 0);

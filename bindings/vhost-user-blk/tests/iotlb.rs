@@ -28,9 +28,9 @@ fn data_page(front: &FrontEnd) -> u64 {
 #[test]
 fn requests_go_through_the_table() {
     for (name, words) in [
-        ("iotlb_8", &["--iotlb-limit", "8"][..]),
-        ("iotlb_64", &["--iotlb-limit", "64"]),
-        ("iotlb", &[]),
+        ("iotlb_8", IOMMU_8),
+        ("iotlb_64", &["--iommu", "--iotlb-limit", "64"]),
+        ("iotlb", IOMMU),
     ] {
         let program = Program::start(name, LEN, words);
         let mut front = started(&program, BEHIND | EVENT_IDX);
@@ -69,7 +69,7 @@ fn requests_go_through_the_table() {
 
 #[test]
 fn nothing_goes_through_what_was_taken_back() {
-    let program = Program::start("invalidated", LEN, &[]);
+    let program = Program::start("invalidated", LEN, IOMMU);
     let mut front = started(&program, BEHIND);
     front.read_disk(0, 3, 512);
     let (data, page) = (front.places(0, 0).0, data_page(&front));
@@ -91,7 +91,7 @@ fn nothing_goes_through_what_was_taken_back() {
 
 #[test]
 fn what_the_front_end_does_not_map_fails() {
-    let program = Program::start("unmapped", LEN, &["--iotlb-limit", "8"]);
+    let program = Program::start("unmapped", LEN, IOMMU_8);
     let mut front = started(&program, BEHIND);
     let page = data_page(&front);
     // The front end has no mapping of the data, for a read and for a write of the disk.
@@ -117,7 +117,7 @@ fn what_the_front_end_does_not_map_fails() {
 // Without a channel nobody can be asked: the ring fails, and does not wait.
 #[test]
 fn a_ring_without_a_channel_fails() {
-    let program = Program::start("no_channel", LEN, &[]);
+    let program = Program::start("no_channel", LEN, IOMMU);
     let mut front = program.connect();
     front.negotiate(BEHIND);
     front.set_memory();
@@ -133,7 +133,7 @@ fn a_ring_without_a_channel_fails() {
 // The channel closes while a mapping is awaited: the request fails. A new channel is asked.
 #[test]
 fn a_channel_that_closes_answers_no() {
-    let program = Program::start("closed_channel", LEN, &[]);
+    let program = Program::start("closed_channel", LEN, IOMMU);
     let mut front = started(&program, BEHIND);
     front.read_disk(0, 1, 512);
     let (page, data) = (data_page(&front), front.places(0, 0).0 as u64);
@@ -153,7 +153,7 @@ fn a_channel_that_closes_answers_no() {
 // A request came back before the one that waits, and then the ring stops: the driver is interrupted.
 #[test]
 fn a_ring_that_stops_as_it_waits_interrupts() {
-    let program = Program::start("waiting_interrupt", LEN, &[]);
+    let program = Program::start("waiting_interrupt", LEN, IOMMU);
     let mut front = started(&program, BEHIND);
     front.read_disk(0, 1, 512);
     program.rest();
@@ -173,7 +173,7 @@ fn a_ring_that_stops_as_it_waits_interrupts() {
 // The page of the header and the status may only be read. The request comes back without a byte that was not written.
 #[test]
 fn a_status_that_is_forbidden_is_not_written() {
-    let program = Program::start("no_status", LEN, &[]);
+    let program = Program::start("no_status", LEN, IOMMU);
     let mut front = started(&program, BEHIND);
     let (data, status) = front.places(0, 0);
     let place = status as u64 / PAGE * PAGE;
@@ -195,7 +195,7 @@ fn a_status_that_is_forbidden_is_not_written() {
 // A page that may only be read lies before one that nobody asked for yet.
 #[test]
 fn a_page_that_is_forbidden_is_not_asked_for_again() {
-    let program = Program::start("forbidden", LEN, &[]);
+    let program = Program::start("forbidden", LEN, IOMMU);
     let mut front = started(&program, BEHIND);
     let page = data_page(&front);
     for at in [0, PAGE] {
@@ -234,7 +234,7 @@ fn reply_to_miss(front: &mut FrontEnd, value: u64) {
 
 #[test]
 fn a_ring_that_waits_can_be_stopped() {
-    let program = Program::start("waits", LEN, &["--iotlb-limit", "8"]);
+    let program = Program::start("waits", LEN, IOMMU_8);
     // The index of the second one that waits is the last.
     for base in [0, 0xfffe_u16] {
         let mut front = started(&program, BEHIND);
@@ -266,7 +266,7 @@ fn a_ring_that_waits_can_be_stopped() {
 
 #[test]
 fn a_device_that_is_stopped_has_no_mappings() {
-    let program = Program::start("emptied", LEN, &[]);
+    let program = Program::start("emptied", LEN, IOMMU);
     let mut front = started(&program, BEHIND);
     front.read_disk(0, 1, 512);
     front.io().misses.clear();
@@ -288,7 +288,7 @@ fn a_device_that_is_stopped_has_no_mappings() {
 
 #[test]
 fn a_mapping_outside_of_memory_is_refused() {
-    let program = Program::start("outside", LEN, &[]);
+    let program = Program::start("outside", LEN, IOMMU);
     let mut front = started(&program, BEHIND);
     let outside = iotlb(SHIFT, PAGE, USER + RAM as u64, READ, 2);
     assert!(!front.is_done(IOTLB_MSG, &outside, &[]));
@@ -311,7 +311,7 @@ fn a_mapping_outside_of_memory_is_refused() {
 
 #[test]
 fn two_rings_share_a_table() {
-    let program = Program::start("two_rings", LEN, &["--queues", "2", "--iotlb-limit", "8"]);
+    let program = Program::start("two_rings", LEN, &["--iommu", "--queues", "2", "--iotlb-limit", "8"]);
     let mut front = started(&program, BEHIND | 1 << 12);
     front.start_ring(64, 0);
     for turn in 0..30 {
@@ -343,7 +343,7 @@ fn map_pages(front: &mut FrontEnd, first: u64, count: u64) {
 // A table that keeps eight ranges gives up twelve of twenty.
 #[test]
 fn evictions_are_said() {
-    let program = Program::start("evictions", LEN, &["--iotlb-limit", "8", "--stats", "86400"]);
+    let program = Program::start("evictions", LEN, &["--iommu", "--iotlb-limit", "8", "--stats", "86400"]);
     let mut front = program.connect();
     front.negotiate(BEHIND);
     front.set_memory();
@@ -355,7 +355,7 @@ fn evictions_are_said() {
 // A front end maps what nobody asked for: the program does not keep more than 65,536 ranges.
 #[test]
 fn a_table_has_a_limit() {
-    let program = Program::start("table_limit", LEN, &[]);
+    let program = Program::start("table_limit", LEN, IOMMU);
     let mut front = started(&program, BEHIND);
     front.read_disk(0, 1, 512);
     map_pages(&mut front, 0, 70_000);
@@ -368,7 +368,7 @@ fn a_table_has_a_limit() {
 
 #[test]
 fn an_update_costs_nothing_of_the_other_ranges() {
-    let program = Program::start("table_cost", LEN, &["--iotlb-limit", "2048"]);
+    let program = Program::start("table_cost", LEN, &["--iommu", "--iotlb-limit", "2048"]);
     let mut front = started(&program, BEHIND);
     front.read_disk(0, 1, 512);
     map_pages(&mut front, 0, 2048);

@@ -2,6 +2,7 @@
 
 mod front_end;
 
+use front_end::log::*;
 use front_end::*;
 use std::collections::BTreeSet;
 use std::fs::File;
@@ -13,61 +14,15 @@ use std::time::Instant;
 
 const LEN: usize = 1 << 20;
 const MIB: usize = 1 << 20;
-const SHIFT: u64 = 0x8000_0000;
-// A bit for each page of the memory.
-const LOG_LEN: u64 = RAM as u64 / PAGE / 8;
-// Where it begins in its file.
-const LOG_AT: u64 = 3 * PAGE;
-
-fn started(program: &Program, features: u64) -> FrontEnd {
-    let mut front = program.connect();
-    front.negotiate(features);
-    front.set_memory();
-    if features & ACCESS_PLATFORM != 0 {
-        front.translate(SHIFT);
-    }
-    front.start_ring(64, 0);
-    front
-}
-
-// Shares a log and has writes be marked there, while the ring runs.
-fn begin(front: &mut FrontEnd, features: u64, len: u64) -> OwnedFd {
-    let log = memfd((LOG_AT + len.max(LOG_LEN)) as usize);
-    front.send(SET_LOG_BASE, 0, &longs(&[len, LOG_AT]), &[&log]);
-    assert!(front.reply(SET_LOG_BASE).is_empty());
-    assert!(front.is_done(SET_FEATURES, &(features | LOG_ALL).to_le_bytes(), &[]));
-    for index in 0..front.rings.len() {
-        let addresses = front.addresses(index, true);
-        assert!(front.is_done(SET_VRING_ADDR, &addresses, &[]));
-    }
-    log
-}
-
-// The pages that are marked, which are cleared.
-fn taken(log: &OwnedFd) -> BTreeSet<u64> {
-    let file = File::from(again(log));
-    let mut bytes = vec![0; (file.metadata().unwrap().len() - LOG_AT) as usize];
-    file.read_exact_at(&mut bytes, LOG_AT).unwrap();
-    file.write_all_at(&vec![0; bytes.len()], LOG_AT).unwrap();
-    let is_set = |page: &u64| bytes[(page / 8) as usize] >> (page % 8) & 1 == 1;
-    (0..8 * bytes.len() as u64).filter(is_set).collect()
-}
-
-fn pages(addresses: &[u64]) -> BTreeSet<u64> {
-    addresses.iter().map(|address| address / PAGE).collect()
-}
-
-// The pages of the bytes of segments.
-fn pages_of(segments: &[(usize, usize)]) -> BTreeSet<u64> {
-    let of = |&(addr, len): &(usize, usize)| (addr..addr + len).map(|it| it as u64 / PAGE);
-    segments.iter().flat_map(of).collect()
-}
-
 #[test]
 fn the_pages_that_are_written_are_marked() {
-    for (name, features) in [("log_plain", USUAL), ("log_table", USUAL | ACCESS_PLATFORM)] {
+    for (name, features, words) in [
+        ("log_plain", USUAL, &[][..]),
+        ("log_refused", USUAL, IOMMU),
+        ("log_table", USUAL | ACCESS_PLATFORM, IOMMU_8),
+    ] {
         for event_idx in [0, EVENT_IDX] {
-            let program = Program::start(&format!("{name}{event_idx}"), LEN, &["--iotlb-limit", "8"]);
+            let program = Program::start(&format!("{name}{event_idx}"), LEN, words);
             let features = features | event_idx;
             let mut front = started(&program, features);
             // What was written before is not marked.
@@ -99,25 +54,6 @@ fn the_pages_that_are_written_are_marked() {
 }
 
 #[test]
-fn marks_are_of_what_was_reached() {
-    let features = USUAL | ACCESS_PLATFORM;
-    let program = Program::start("log_reached", LEN, &[]);
-    let mut front = started(&program, features);
-    front.read_disk(0, 1, 512);
-    let log = begin(&mut front, features, LOG_LEN);
-    // The page of the data leads elsewhere, and is taken back at once.
-    let (data, status) = front.places(0, 0);
-    let other = 10 << 20;
-    front.remap(SHIFT + data as u64, Some((other, WRITE)));
-    program.rest();
-    taken(&log);
-    assert_eq!(front.request(0, 0, 5, 512), (0, 513));
-    front.remap(SHIFT + data as u64, None);
-    let used = front.used_ring(0);
-    assert_eq!(taken(&log), pages(&[other, status as u64, used]));
-}
-
-#[test]
 fn writes_are_marked_as_long_as_it_was_asked_for() {
     let program = Program::start("log_ends", LEN, &[]);
     let mut front = started(&program, USUAL);
@@ -146,7 +82,7 @@ fn writes_are_marked_as_long_as_it_was_asked_for() {
 // A mark comes before the request comes back: one that cannot be marked does not.
 #[test]
 fn a_log_that_is_too_short_ends_the_connection() {
-    let program = Program::start("log_short", LEN, &[]);
+    let program = Program::start("log_short", LEN, IOMMU);
     // A read, a write, and a flush, each with its status in a page without a bit.
     for (kind, len) in [(0, 512), (1, 512), (4, 0)] {
         let mut front = started(&program, USUAL);
@@ -158,6 +94,24 @@ fn a_log_that_is_too_short_ends_the_connection() {
         assert!(front.is_let_go());
         assert_eq!(front.used_idx(0), 0, "a request of the kind {kind} came back");
     }
+}
+
+// Without --iommu the whole memory needs bits as soon as writes are logged.
+#[test]
+fn a_log_has_a_bit_for_each_page() {
+    let program = Program::start("log_bit", LEN, &[]);
+    for (len, is_enough) in [(LOG_LEN - 1, false), (LOG_LEN, true)] {
+        let mut front = started(&program, USUAL);
+        let log = memfd((LOG_AT + LOG_LEN) as usize);
+        front.send(SET_LOG_BASE, 0, &longs(&[len, LOG_AT]), &[&log]);
+        assert!(front.reply(SET_LOG_BASE).is_empty());
+        front.send(SET_FEATURES, 0, &(USUAL | LOG_ALL).to_le_bytes(), &[]);
+        match is_enough {
+            true => drop(front.read_disk(0, 1, 512)),
+            false => assert!(front.is_let_go()),
+        }
+    }
+    program.expect_said("the log has no bit for a page");
 }
 
 // A log whose file loses its bytes ends the connection, and not the program: the first log, the next one, one that was
@@ -213,38 +167,6 @@ fn far_started(program: &Program) -> (FrontEnd, OwnedFd) {
     (front, log)
 }
 
-// A request of a kind with these data and this place of the status. It returns its length and the pages that it marked.
-fn marked(
-    program: &Program,
-    front: &mut FrontEnd,
-    log: &OwnedFd,
-    chain: &[(usize, usize, bool)],
-) -> (u32, BTreeSet<u64>) {
-    front.put_segments(1, chain);
-    front.publish(0, 1);
-    front.kick(0);
-    let (head, written) = front.take_used(0);
-    assert_eq!(head, 1);
-    program.rest();
-    (written, taken(log))
-}
-
-fn put_header(front: &FrontEnd, kind: u32, sector: u64) {
-    front.write(
-        HEADERS,
-        &[&kind.to_le_bytes()[..], &[0; 4], &sector.to_le_bytes()].concat(),
-    );
-}
-
-fn chain_of(data: &[(usize, usize)], status: usize) -> Vec<(usize, usize, bool)> {
-    let data = data.iter().map(|&(addr, len)| (addr, len, true));
-    [(HEADERS, 16, false)]
-        .into_iter()
-        .chain(data)
-        .chain([(status, 1, true)])
-        .collect()
-}
-
 #[test]
 fn marks_are_by_guest_addresses() {
     let program = Program::start("log_far", LEN, &[]);
@@ -290,21 +212,38 @@ fn marks_are_by_guest_addresses() {
 
 #[test]
 fn what_was_not_written_is_not_marked() {
-    let program = Program::start("log_fails", LEN, &[]);
-    let (mut front, log) = far_started(&program);
+    for (name, words) in [("log_fails", &[][..]), ("log_fails_iommu", IOMMU)] {
+        expect_marks_of_failures(&Program::start(name, LEN, words), !words.is_empty());
+    }
+}
+
+// Without --iommu all that a request may write is marked, and a part of it of which a byte has no memory is not begun.
+fn expect_marks_of_failures(program: &Program, is_exact: bool) {
+    let (mut front, log) = far_started(program);
     let used = pages(&[front.used_ring(0)]);
     let nowhere = FAR - MIB;
     put_header(&front, 0, 3);
     // A segment without memory, in the first part and in a later one, and one that ends without memory.
     for (good, bad) in [(5000, nowhere), (200_000, nowhere), (200_000, FAR + HALF - 5000)] {
         let (data, status) = ([(FAR + 77, good), (bad, 300_000 - good), (FAR, 7200)], FAR + 4 * MIB);
-        let (written, found) = marked(&program, &mut front, &log, &chain_of(&data, status));
+        let (written, found) = marked(program, &mut front, &log, &chain_of(&data, status));
         let reached = if bad == nowhere { 0 } else { 5000 };
-        assert_eq!(written as usize, good + reached);
         let wanted = &pages_of(&[(FAR + 77, good), (bad, reached), (status, 1)]) | &used;
-        assert_eq!(found, wanted);
+        if is_exact {
+            assert_eq!(written as usize, good + reached);
+            assert_eq!(found, wanted);
+        } else {
+            assert_eq!(written, 0);
+            assert!(found.is_subset(&(&(&wanted | &pages_of(&data)) | &pages_of(&[(status, 1)]))));
+            assert!(found.is_superset(&(&pages_of(&[(status, 1)]) | &used)));
+        }
         assert_eq!(front.read(HALF + 4 * MIB, 1), [1]);
     }
+    expect_marks_of_refusals(program, (front, log), is_exact);
+}
+
+fn expect_marks_of_refusals(program: &Program, (mut front, log): (FrontEnd, OwnedFd), is_exact: bool) {
+    let (used, nowhere) = (pages(&[front.used_ring(0)]), FAR - MIB);
     // A write of the disk, a flush and a request that is refused write their status alone, one without a place for it
     // nothing, and neither does one whose place has no memory.
     for (kind, sector, chain) in [
@@ -316,117 +255,21 @@ fn what_was_not_written_is_not_marked() {
     ] {
         put_header(&front, kind, sector);
         let chain = [&[(HEADERS, 16, false)], chain].concat();
-        let (_, found) = marked(&program, &mut front, &log, &chain);
+        let (_, found) = marked(program, &mut front, &log, &chain);
         let (addr, len, _) = chain[chain.len() - 1];
         let status = if addr == nowhere {
             BTreeSet::new()
         } else {
             pages_of(&[(addr, len)])
         };
-        assert_eq!(found, &status | &used, "{kind} {sector}");
+        let written = chain.iter().filter(|it| it.2).map(|it| (it.0, it.1));
+        let may = match is_exact {
+            true => status.clone(),
+            false => pages_of(&written.collect::<Vec<_>>()),
+        };
+        assert!(found.is_superset(&(&status | &used)), "{kind} {sector}");
+        assert!(found.is_subset(&(&may | &used)), "{kind} {sector}");
     }
-}
-
-// Behind a table each page of I/O addresses leads to another one of guest memory.
-#[test]
-fn marks_are_of_what_segments_reached() {
-    for (name, words) in [("log_segments", &[][..]), ("log_segments_8", &["--iotlb-limit", "8"])] {
-        let features = USUAL | ACCESS_PLATFORM;
-        let program = Program::start(name, LEN, words);
-        let mut front = started(&program, features);
-        let log = begin(&mut front, features, LOG_LEN);
-        let to = |page: usize| 12 * MIB + 4096 * (page * 37 % 256);
-        for page in 0..256 {
-            let from = SHIFT + (8 * MIB + 4096 * page) as u64;
-            front.io().pages.insert(from, (to(page) as u64, READ | WRITE));
-        }
-        let used = pages(&[front.used_ring(0)]);
-        put_header(&front, 0, 3);
-        for data in [
-            &[(8 * MIB + 4000, 200), (8 * MIB + 9 * 4096 + 5, 824)][..],
-            &[
-                (8 * MIB + 100, 5000),
-                (8 * MIB + 300_009, 300_000),
-                (8 * MIB + 700_000, 55_960),
-            ],
-        ] {
-            let (status, count) = (8 * MIB + 255 * 4096 + 7, data.iter().map(|it| it.1).sum::<usize>());
-            program.rest();
-            taken(&log);
-            let (written, found) = marked(&program, &mut front, &log, &chain_of(data, status));
-            assert_eq!(written as usize, count + 1);
-            let reached = |page: u64| to(page as usize - 2048) as u64 / PAGE;
-            let segments = &pages_of(data) | &pages_of(&[(status, 1)]);
-            let wanted: BTreeSet<u64> = segments.into_iter().map(reached).collect();
-            assert_eq!(found, &wanted | &used);
-        }
-    }
-}
-
-// What was written of a request that is given back is marked.
-#[test]
-fn what_is_given_back_is_marked() {
-    let program = Program::start_on_a_hole("log_given_back", 4 << 30, &[]);
-    let mut front = started(&program, USUAL);
-    front.write(8 * MIB, &vec![5; 4 * MIB]);
-    let log = begin(&mut front, USUAL, LOG_LEN);
-    front.put_endless(1);
-    front.publish(0, 1);
-    front.kick(0);
-    program.wait_for_work();
-    assert_eq!(front.stop_ring(0), 0);
-    let found = taken(&log);
-    assert_eq!(front.read(8 * MIB, 4 * MIB), vec![0; 4 * MIB]);
-    assert_eq!(found, &pages_of(&[(8 * MIB, 4 * MIB)]) | &pages(&[front.used_ring(0)]));
-}
-
-// What a request wrote before it waits for a mapping is marked, wherever these addresses lead later.
-#[test]
-fn what_came_before_a_miss_is_marked() {
-    let features = USUAL | ACCESS_PLATFORM;
-    let program = Program::start("log_waits", LEN, &[]);
-    let mut front = started(&program, features);
-    let log = begin(&mut front, features, LOG_LEN);
-    front.read_disk(0, 1, 512);
-    program.rest();
-    taken(&log);
-    let missing = SHIFT + 8 * MIB as u64 + 70 * PAGE;
-    let pages_there: Vec<_> = (0..80).map(|page| (8 * MIB + 4096 * page, 4096)).collect();
-    front.put_long(1, 0, 0, &pages_there);
-    front.publish(0, 1);
-    front.kick(0);
-    front.hold(missing);
-    for page in 0..70 {
-        front.remap(SHIFT + 8 * MIB as u64 + page * PAGE, None);
-    }
-    assert_eq!(front.stop_ring(0), 1);
-    let found = taken(&log);
-    assert_eq!(found, &pages_of(&pages_there[..70]) | &pages(&[front.used_ring(0)]));
-    assert!(front.read(8 * MIB, 70 * 4096) == image_of(LEN)[..70 * 4096]);
-}
-
-// Writes are marked from the middle of a request on. The first page of its data was written before.
-#[test]
-fn marks_begin_in_the_middle_of_a_request() {
-    let features = USUAL | ACCESS_PLATFORM;
-    let program = Program::start("log_begins", LEN, &[]);
-    let mut front = started(&program, features);
-    let missing = SHIFT + 9 * MIB as u64;
-    let data = [(8 * MIB, 1024), (9 * MIB, 4096)];
-    let status = front.put_long(1, 0, 7, &data);
-    front.publish(0, 1);
-    front.kick(0);
-    front.hold(missing);
-    let log = begin(&mut front, features, LOG_LEN);
-    front.answer(missing);
-    assert_eq!(front.take_used(0), (1, 5121));
-    program.rest();
-    assert_eq!(
-        taken(&log),
-        &pages_of(&[data[1], (status, 1)]) | &pages(&[front.used_ring(0)])
-    );
-    let bytes = [front.read(8 * MIB, 1024), front.read(9 * MIB, 4096)].concat();
-    assert!(bytes == image_of(LEN)[7 * 512..7 * 512 + 5120]);
 }
 
 // A front end with a log, and so many bytes of memory that no request touches.
@@ -475,21 +318,25 @@ fn a_mark_costs_nothing_of_the_other_pages() {
     assert!(many < 2 * few, "{few} and {many}");
 }
 
-// The address that a used ring has in the log may be another one than its own.
+// The address that a used ring has in the log may be another one than its own, which counts without --iommu.
 #[test]
 fn a_used_ring_is_marked_at_its_address_in_the_log() {
-    let program = Program::start("log_address", LEN, &[]);
-    let mut front = started(&program, USUAL);
-    let log = begin(&mut front, USUAL, LOG_LEN);
-    let other = 9 * MIB as u64;
-    let mut ring = front.addresses(0, true);
-    ring[32..40].copy_from_slice(&other.to_le_bytes());
-    assert!(front.is_done(SET_VRING_ADDR, &ring, &[]));
-    program.rest();
-    taken(&log);
-    front.read_disk(0, 1, 512);
-    program.rest();
-    assert!(taken(&log).contains(&(other / PAGE)));
+    for (name, words) in [("log_own_address", &[][..]), ("log_address", IOMMU)] {
+        let program = Program::start(name, LEN, words);
+        let mut front = started(&program, USUAL);
+        let log = begin(&mut front, USUAL, LOG_LEN);
+        let other = 9 * MIB as u64;
+        let mut ring = front.addresses(0, true);
+        ring[32..40].copy_from_slice(&other.to_le_bytes());
+        assert!(front.is_done(SET_VRING_ADDR, &ring, &[]));
+        program.rest();
+        taken(&log);
+        front.read_disk(0, 1, 512);
+        program.rest();
+        let found = taken(&log);
+        assert!(found.contains(&(front.used_ring(0) / PAGE)));
+        assert!(words.is_empty() || found.contains(&(other / PAGE)));
+    }
 }
 
 // Several back ends mark pages in one log: each changes its own bits.

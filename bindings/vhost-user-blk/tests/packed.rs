@@ -302,7 +302,7 @@ fn a_ring_goes_on_where_it_stopped() {
 // A ring that is stopped in the middle of a long request begins it again, as the driver has it then.
 #[test]
 fn a_long_request_is_given_back() {
-    let program = Program::start_on_a_hole("packed_long", 4 << 30, &[]);
+    let program = Program::start_on_a_hole("packed_long", 4 << 30, IOMMU);
     let mut driver = Driver::start(&program, PACKED, 1000);
     driver.request(1, 0, 1, 512);
     let base = driver.base();
@@ -322,6 +322,21 @@ fn a_long_request_is_given_back() {
     driver.front.restart_at(0, base);
     assert_eq!(driver.take(), (2, 513));
     assert_eq!(driver.front.stop_ring(0), driver.base());
+}
+
+#[test]
+fn a_long_request_ends_before_its_ring_stops() {
+    let program = Program::start_on_a_hole("packed_ends", 4 << 30, &[]);
+    let mut driver = Driver::start(&program, PACKED, 1000);
+    let mut chain = driver.chain(0, 0, 2, 4 << 20);
+    chain.splice(1..2, [(8 << 20, 4 << 20, WRITTEN); 64]);
+    driver.publish(2, &chain);
+    driver.kick();
+    program.wait_for_work();
+    let base = driver.front.stop_ring(0);
+    assert!(driver.is_back());
+    assert_eq!(driver.take(), (2, (256 << 20) + 1));
+    assert_eq!(base, driver.base());
 }
 
 #[test]
@@ -471,7 +486,7 @@ fn a_driver_that_breaks_a_rule_is_told() {
 
 #[test]
 fn requests_go_through_the_table() {
-    for (name, words) in [("packed_iotlb_8", &["--iotlb-limit", "8"][..]), ("packed_iotlb", &[])] {
+    for (name, words) in [("packed_iotlb_8", IOMMU_8), ("packed_iotlb", IOMMU)] {
         for event_idx in [0, EVENT_IDX] {
             let program = Program::start(&format!("{name}_{event_idx}"), LEN, words);
             let mut driver = Driver::start(&program, PACKED | ACCESS_PLATFORM | event_idx, 11);
@@ -499,7 +514,7 @@ fn requests_go_through_the_table() {
 #[test]
 fn a_ring_that_waits_can_be_stopped() {
     use std::io::Write;
-    let program = Program::start("packed_waits", LEN, &["--iotlb-limit", "8"]);
+    let program = Program::start("packed_waits", LEN, IOMMU_8);
     let mut driver = Driver::start(&program, PACKED | ACCESS_PLATFORM, 5);
     for turn in 0..7 {
         driver.request(turn, 0, 1, 512);
@@ -533,7 +548,7 @@ fn a_ring_that_waits_can_be_stopped() {
 
 #[test]
 fn a_notification_while_it_waits_is_not_lost() {
-    let program = Program::start("packed_notified", LEN, &[]);
+    let program = Program::start("packed_notified", LEN, IOMMU);
     let mut driver = Driver::start(&program, PACKED | ACCESS_PLATFORM, 8);
     // The first interrupt needs no look at the driver's area, so that this is not mapped yet.
     driver.request(0, 0, 1, 512);
@@ -563,13 +578,14 @@ fn taken(log: &OwnedFd) -> BTreeSet<u64> {
 // Of the larger ring a quarter was never asked for.
 #[test]
 fn the_pages_that_are_written_are_marked() {
-    for (table, size, before) in [
-        (0, 64, 1),
-        (ACCESS_PLATFORM, 64, 1),
-        (0, 1024, 200),
-        (ACCESS_PLATFORM, 1024, 200),
+    for (table, words, size, before) in [
+        (0, &[][..], 64, 1),
+        (0, IOMMU, 64, 1),
+        (ACCESS_PLATFORM, IOMMU, 64, 1),
+        (0, &[], 1024, 200),
+        (ACCESS_PLATFORM, IOMMU, 1024, 200),
     ] {
-        let program = Program::start(&format!("packed_log_{table}_{size}"), LEN, &[]);
+        let program = Program::start(&format!("packed_log_{table}_{size}"), LEN, words);
         let features = PACKED | table;
         let mut driver = Driver::start(&program, features, size);
         for _ in 0..before {

@@ -22,18 +22,15 @@ fn started(program: &Program, features: u64) -> FrontEnd {
 
 #[test]
 fn requests_reach_the_image() {
-    reach_the_image("requests", &[]);
+    // A driver may refuse ACCESS_PLATFORM.
+    for (name, words) in [("requests", &[][..]), ("requests_refused", IOMMU)] {
+        // The last 100 bytes are no part of the disk.
+        reach_the_image(&Program::start(name, LEN + 100, words));
+    }
 }
 
-#[test]
-fn the_state_machine_reaches_the_image() {
-    reach_the_image("state_machine", &["--state-machine"]);
-}
-
-fn reach_the_image(name: &str, options: &[&str]) {
-    // The last 100 bytes are no part of the disk.
-    let program = Program::start(name, LEN + 100, options);
-    let mut front = started(&program, USUAL);
+fn reach_the_image(program: &Program) {
+    let mut front = started(program, USUAL);
     assert_eq!(front.read_disk(0, 7, 1024), image_of(LEN)[7 * 512..9 * 512]);
     front.write_disk(0, SECTORS - 1, &[0xab; 512]);
     assert_eq!(front.read_disk(0, SECTORS - 1, 512), [0xab; 512]);
@@ -80,9 +77,20 @@ fn a_large_image_is_written_in_place() {
 
 #[test]
 fn the_configuration_tells_the_disk() {
-    let program = Program::start("configuration", LEN, &["--queues", "3"]);
-    let mut front = program.connect();
-    assert_eq!(front.ask_u64(GET_FEATURES), 0x7_7400_1246);
+    let three = ["--queues", "3"];
+    let with_iommu = [&three, IOMMU].concat();
+    for (name, words, features) in [
+        ("configuration", &three[..], 0x5_7400_1246),
+        ("configuration_iommu", &with_iommu, 0x7_7400_1246),
+    ] {
+        let program = Program::start(name, LEN, words);
+        let mut front = program.connect();
+        assert_eq!(front.ask_u64(GET_FEATURES), features);
+        expect_configuration(front);
+    }
+}
+
+fn expect_configuration(mut front: FrontEnd) {
     assert_eq!(front.ask_u64(GET_PROTOCOL_FEATURES), 0x22b);
     front.negotiate(USUAL | 1 << 12);
     assert_eq!(front.ask_u64(GET_QUEUE_NUM), 3);

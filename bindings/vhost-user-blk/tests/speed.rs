@@ -6,7 +6,7 @@ use front_end::*;
 use std::fs::File;
 use std::hint::black_box;
 use std::io::{Read, Write};
-use std::os::fd::{AsFd, AsRawFd};
+use std::os::fd::{AsFd, AsRawFd, OwnedFd};
 use std::os::unix::fs::FileExt;
 use std::time::Duration;
 use vm_memory_proved::block::{DeviceLimits, Request};
@@ -160,28 +160,40 @@ fn put(front: &FrontEnd, depth: usize) {
 
 // What a processor works for each request in the program.
 fn whole(program: &Program, front: &mut FrontEnd, depth: usize) -> f64 {
-    least(|| {
-        let begun = program.processor_time();
-        for round in 0..REQUESTS / depth {
-            for i in 0..depth {
-                let data = front.places(0, 3 * i as u16).0;
-                front.write(data - 0x1000 + 8, &(place(round * depth + i) / 512).to_le_bytes());
-            }
-            publish(front, depth);
-            front.kick(0);
-            while front.used_idx(0) != front.rings[0].next_avail {
-                can_read(&front.rings[0].call, Duration::from_millis(100));
-                take(&front.rings[0].call);
-            }
+    least(|| round(program, front, depth))
+}
+
+// What it works for all requests of a round.
+fn round(program: &Program, front: &mut FrontEnd, depth: usize) -> u64 {
+    let begun = program.processor_time();
+    for round in 0..REQUESTS / depth {
+        for i in 0..depth {
+            let data = front.places(0, 3 * i as u16).0;
+            front.write(data - 0x1000 + 8, &(place(round * depth + i) / 512).to_le_bytes());
         }
-        program.processor_time() - begun
-    })
+        publish(front, depth);
+        front.kick(0);
+        while front.used_idx(0) != front.rings[0].next_avail {
+            can_read(&front.rings[0].call, Duration::from_millis(100));
+            take(&front.rings[0].call);
+        }
+    }
+    program.processor_time() - begun
 }
 
 #[test]
 #[ignore = "it measures"]
 fn processor_time_of_a_request() {
-    let program = Program::start("speed", LEN, &[]);
+    measure(&Program::start("speed", LEN, &[]));
+    println!("with --iommu:");
+    measure(&Program::start("speed_iommu", LEN, IOMMU));
+    println!(
+        "the two calls on eventfds of a thread that sleeps between them: {:.0}",
+        eventfds_asleep()
+    );
+}
+
+fn measure(program: &Program) {
     let file = File::open(&program.image).unwrap();
     let mut front = program.connect();
     front.negotiate(USUAL);
@@ -190,7 +202,7 @@ fn processor_time_of_a_request() {
     println!("batch | pread | library | eventfd | sum | program | program / sum");
     for depth in [1, 4, 16, 64] {
         put(&front, depth);
-        let whole = whole(&program, &mut front, depth);
+        let whole = whole(program, &mut front, depth);
         front.rings[0].next_used = front.used_idx(0);
         let [file, library, counter] = [pread(&file), request(&mut front, depth), eventfds()];
         let sum = file + library + counter;
@@ -201,8 +213,61 @@ fn processor_time_of_a_request() {
         let of_sum = whole / sum;
         println!("{depth} | {file:.0} | {library:.0} | {counter:.0} | {sum:.0} | {whole:.0} | {of_sum:.2}");
     }
-    println!(
-        "the two calls on eventfds of a thread that sleeps between them: {:.0}",
-        eventfds_asleep()
-    );
+}
+
+// ---- both ways of the program
+
+// Guest memory of 16 GiB, which is a hole but for its beginning.
+const LARGE: u64 = 16 << 30;
+
+// A program and its front end, whose memory is large, and its log.
+fn large(name: &str, words: &[&str]) -> (Program, FrontEnd, OwnedFd) {
+    let program = Program::start(name, LEN, words);
+    let mut front = program.connect();
+    front.negotiate(USUAL);
+    let file = memfd(LARGE as usize);
+    front.move_memory(&file, 0);
+    assert!(front.is_done(SET_MEM_TABLE, &FrontEnd::table(&[(0, LARGE, 0)]), &[&file]));
+    let bytes = LARGE / PAGE / 8;
+    let log = memfd(bytes as usize);
+    front.send(SET_LOG_BASE, 0, &longs(&[bytes, 0]), &[&log]);
+    assert!(front.reply(SET_LOG_BASE).is_empty());
+    front.start_ring(256, 0);
+    let addresses = front.addresses(0, true);
+    assert!(front.is_done(SET_VRING_ADDR, &addresses, &[]));
+    (program, front, log)
+}
+
+// A round while writes are logged, or are not. Each begins with a log that has no bit set.
+fn logged_round(it: &mut (Program, FrontEnd, OwnedFd), depth: usize, is_logged: bool) -> u64 {
+    let (program, front, log) = it;
+    let features = if is_logged { USUAL | LOG_ALL } else { USUAL };
+    assert!(front.is_done(SET_FEATURES, &features.to_le_bytes(), &[]));
+    File::from(again(log))
+        .write_all_at(&vec![0; (LARGE / PAGE / 8) as usize], 0)
+        .unwrap();
+    let work = round(program, front, depth);
+    front.rings[0].next_used = front.used_idx(0);
+    work
+}
+
+#[test]
+#[ignore = "it measures"]
+fn processor_time_of_a_logged_request() {
+    let mut all = [large("speed_large", &[]), large("speed_large_old", IOMMU)];
+    println!("batch | program | with a log | more | with --iommu | with a log | more | program / --iommu");
+    for depth in [1, 64] {
+        let mut least = [u64::MAX; 4];
+        all.iter().for_each(|it| put(&it.1, depth));
+        for _ in 0..ROUNDS {
+            for (number, least) in least.iter_mut().enumerate() {
+                *least = logged_round(&mut all[number / 2], depth, number % 2 == 1).min(*least);
+            }
+        }
+        let [plain, logged, old, old_logged] = least.map(|it| it as f64 / REQUESTS as f64);
+        let (more, old_more, part) = (logged - plain, old_logged - old, plain / old);
+        println!(
+            "{depth} | {plain:.0} | {logged:.0} | {more:.0} | {old:.0} | {old_logged:.0} | {old_more:.0} | {part:.2}"
+        );
+    }
 }

@@ -34,7 +34,7 @@ fn expect_usage(text: &str) {
         "--read-only",
         "--write-through",
         "--queues N",
-        "--state-machine",
+        "--iommu",
         "--iotlb-limit N",
         "--stats SECONDS",
         "--no-lock",
@@ -68,6 +68,10 @@ fn wrong_words_are_named_with_the_usage() {
         (
             &["--iotlb-limit", ""],
             "--iotlb-limit takes a number from 8 to 65536, not ",
+        ),
+        (
+            &["--socket", "s", "--image", "disk.img", "--iotlb-limit", "8"],
+            "--iotlb-limit needs --iommu",
         ),
         (&["--stats", "1", "--stats", "1"], "--stats comes twice"),
     ] {

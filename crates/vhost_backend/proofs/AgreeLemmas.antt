@@ -39,14 +39,14 @@ at_most_one false = omega arith
 -- ---- chains that are given back
 
 module _ (q : BlockQueueState) (id : ℕ) where
-  none_asked : asked_count (with_asked q id None) id ≡ 0
+  pub none_asked : asked_count (with_asked q id None) id ≡ 0
   none_asked = elim (cases_lt id (length q.asked)) [
     | inl below ↦ ap (λ o. one_if (is_some o)) (get_or-set_same q.asked id None None below)
     | inr past ↦ ap (λ o. one_if (is_some o)) (get_or_past (set q.asked id None) id None
         (omega (arith, past, length-set q.asked id None)))
   ]
 
-  other_asked : (i : ℕ) (o : Option Asked) → (i ≡ id → ⊥) → asked_count (with_asked q i o) id ≡ asked_count q id
+  pub other_asked : (i : ℕ) (o : Option Asked) → (i ≡ id → ⊥) → asked_count (with_asked q i o) id ≡ asked_count q id
   other_asked i o differs =
       ap (λ o. one_if (is_some o)) (get_or-set_other q.asked i id o None (λ e. differs (sym e)))
 
@@ -81,12 +81,13 @@ given_count q (chain ∷ cs) id = elim (cases_eq chain.id id) [
     other differs = rw (other_asked q id chain.id None differs, ne_eqb chain.id id differs) refl
 
 -- as many of each id are under way as are returned and stay under way
-settles : (q : BlockQueueState) (t : Step)
-    → ((id : ℕ) → asked_count q id ≡ length (of_id id (returned t.1)) + busy t.0 id) → FindsAll q t
-settles q t count = (
-  λ id. given_count q (returned t.1) id
-      ∙ by (length (of_id id (returned t.1))) (asked_count q id) (busy t.0 id) (count id) (at_most_one (is_some (asked_at q id))),
-  λ id some. found (is_some (asked_at q id)) (length (of_id id (returned t.1))) (busy t.0 id) (count id) some,
+pub all_found : (q : BlockQueueState) (r : RingState) (cs : List Chain)
+    → ((id : ℕ) → asked_count q id ≡ length (of_id id cs) + busy r id)
+    → Agrees (given q cs) r × ((id : ℕ) → 0 < length (of_id id cs) → is_some (asked_at q id) ≡ true)
+all_found q r cs count = (
+  λ id. given_count q cs id
+      ∙ by (length (of_id id cs)) (asked_count q id) (busy r id) (count id) (at_most_one (is_some (asked_at q id))),
+  λ id some. found (is_some (asked_at q id)) (length (of_id id cs)) (busy r id) (count id) some,
 )
   where
     by : (n a b : ℕ) → a ≡ n + b → a ≤ 1 → (if n == 0 then a else 0) ≡ b
@@ -105,9 +106,13 @@ settles q t count = (
     found true n b same some = refl
     found false n b same some = absurd (omega (arith, same, some))
 
+settles : (q : BlockQueueState) (t : Step)
+    → ((id : ℕ) → asked_count q id ≡ length (of_id id (returned t.1)) + busy t.0 id) → FindsAll q t
+settles q t = all_found q t.0 (returned t.1)
+
 -- ---- what a step of a ring takes and returns
 
-busy_length : (id : ℕ) (r : RingState) → length (under_way r id) ≡ busy r id
+pub busy_length : (id : ℕ) (r : RingState) → length (under_way r id) ≡ busy r id
 busy_length id r = go (request_at r id)
   where
     go : (o : Option ring_request.Request) → length (chain_under_way id o) ≡ one_if (is_some o)
@@ -246,7 +251,7 @@ module _ {H : Type 0} (step : H → (s : MemoryStep) → Returned s → H → Ty
       read (Err error) place is =
           let bad : None ≡ Some e = ap event_of (sym (ap (λ t. t.0) is)) ∙ event in absurd (cc)
       read (Ok request) place is =
-          let short = shortened request in
+          let short = shortened (length q.asked) (length p.1) request in
           let a : Asked = record { chain = p.1; request = short } in
           let b = popped p.0 short in
           let it : event_of b ≡ Some e = ap event_of (sym (ap (λ t. t.0) is)) ∙ event in
@@ -288,8 +293,13 @@ module _ {H : Type 0} (step : H → (s : MemoryStep) → Returned s → H → Ty
       subst (Grows e) (sym kept) (pops_grow old (pop.Broken error) mid_q mid pops e (sym is))
   after_grows old pop.Later mid_q mid pops e new_q new (is, kept, still) = absurd (cc)
 
+  pub turn_grows : (old : H) (e : RingEvent) (new_q : BlockQueueState) (new : H)
+      → HappensNext step terms q old (Some e) new_q new → (id : ℕ)
+      → asked_count new_q id ≡ asked_count q id + length (of_id id (taken r (On e)))
+  turn_grows old e new_q new (found, mid_q, mid, pops, after) = after_grows old found mid_q mid pops e new_q new after
+
   pub turns : (old : H) (e : RingEvent) (new_q : BlockQueueState) (new : H)
       → HappensNext step terms q old (Some e) new_q new → FindsAll new_q (stepped r (On e))
-  turns old e new_q new (found, mid_q, mid, pops, after) =
-      let grows = after_grows old found mid_q mid pops e new_q new after in
+  turns old e new_q new next =
+      let grows = turn_grows old e new_q new next in
       settles new_q (stepped r (On e)) (λ id. omega (arith, grows id, counts r id (On e), agrees id))

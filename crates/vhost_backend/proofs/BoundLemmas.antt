@@ -6,7 +6,7 @@ use Rattle.std.proofs.lemmas.List.Sums.{sum_by-cons}
 use Rattle.vhost_backend.specs.Line.{settled, without}
 use Rattle.vhost_backend.specs.Ring.{RingState, Step, after_turn, step, wants}
 use Rattle.vhost_backend.specs.Ring as ring
-use Rattle.vhost_backend.specs.Rings.{Happens, RingsState, happens, held, holding, is_free, is_turn, left_of, less, new_rings, next_turn, nothing, now_held, on_ring, released, turn_of, turn_taken, turn_used, with_step}
+use Rattle.vhost_backend.specs.Rings.{Happens, RingsState, happens, held, holding, is_free, is_turn, left_of, less, new_rings, next_turn, nothing, now_held, on_ring, released, turn_of, turn_taken, turn_used, unless_of, with_step}
 use Rattle.vhost_backend.specs.Turns.{after_all, is_go_on, popped, popped_by}
 use Rattle.vhost_backend.specs.declared.request.Chain.{Chain}
 use Rattle.vhost_backend.specs.declared.ring.RingEvent.{RingEvent}
@@ -54,6 +54,14 @@ same_leaves old new is = rw is (omega arith, omega arith)
 over_leaves : (old : Option Turn) → Leaves old [] None
 over_leaves old = (omega arith, omega arith)
 
+unless_leaves : (t : Option Turn) (i : ℕ) → Leaves t [] (unless_of t i)
+unless_leaves None i = over_leaves None
+unless_leaves (Some t) i = go (t.ring == i)
+  where
+    go : (b : Bool) → Leaves (Some t) [] (if b then None else Some t)
+    go true = over_leaves (Some t)
+    go false = same_leaves (Some t) (Some t) refl
+
 less_leaves : (t : Option Turn) (i bytes : ℕ) → is_turn t i ≡ true → Leaves t (bytes ∷ []) (less t bytes)
 less_leaves None i bytes is = absurd (cc)
 less_leaves (Some t) i bytes is =
@@ -63,9 +71,9 @@ less_leaves (Some t) i bytes is =
     (omega arith, there, omega arith, refl)
 
 module _ (s : RingsState) where
-  quiet : (i : ℕ) (r : RingState) (e : RingEvent) → Leaves s.turn [] (turn_used s.turn e)
-      → Leaves s.turn [] (with_step (record s { turn = turn_used s.turn e }) i (step r e)).0.turn
-  quiet i r e leaves = rw (step_turn (record s { turn = turn_used s.turn e }) i (step r e)) leaves
+  quiet : (i : ℕ) (r : RingState) (e : RingEvent) → Leaves s.turn [] (turn_used s.turn i e)
+      → Leaves s.turn [] (with_step (record s { turn = turn_used s.turn i e }) i (step r e)).0.turn
+  quiet i r e leaves = rw (step_turn (record s { turn = turn_used s.turn i e }) i (step r e)) leaves
 
   same : Leaves s.turn [] s.turn
   same = same_leaves s.turn s.turn refl
@@ -94,7 +102,7 @@ module _ (s : RingsState) where
   ring_leaves i Start None is = same
   ring_leaves i Start (Some r) is = quiet i r Start same
   ring_leaves i Stop None is = same
-  ring_leaves i Stop (Some r) is = quiet i r Stop same
+  ring_leaves i Stop (Some r) is = quiet i r Stop (unless_leaves s.turn i)
   ring_leaves i (Enable on) None is = same
   ring_leaves i (Enable on) (Some r) is = quiet i r (Enable on) same
   ring_leaves i Break None is = same

@@ -143,7 +143,7 @@ module _ (o j : ℕ) where
     where
       go : (b : Bool) → admits s.turn k e ≡ b → stands_in j (on_ring s k (Some q) e).0.line ≡ true
           → Fair o (before j s.line) [] (before j (on_ring s k (Some q) e).0.line)
-      go true may now = rw may (fair_step (record s { turn = turn_used s.turn e }) k (step q e) was (rw may at now))
+      go true may now = rw may (fair_step (record s { turn = turn_used s.turn k e }) k (step q e) was (rw may at now))
       go false may now = rw may (fair_same o (before j s.line) (before j s.line) refl)
 
   fair_again : (old between new later : List ℕ) → Fair o old between new → Fair o new [] later

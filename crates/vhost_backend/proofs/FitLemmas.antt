@@ -92,8 +92,8 @@ module _ (s : RingsState) (h : Hold) (is : s.hold ≡ h) where
   ring_hold i e = go (slice_get s.rings i)
     where
       one : (r : RingState) (b : Bool) → HoldStep h (if b
-          then with_step (record s { turn = turn_used s.turn e }) i (step r e) else (s, nothing i))
-      one r true = step_hold (record s { turn = turn_used s.turn e }) i (step r e) refl
+          then with_step (record s { turn = turn_used s.turn i e }) i (step r e) else (s, nothing i))
+      one r true = step_hold (record s { turn = turn_used s.turn i e }) i (step r e) refl
       one r false = still_step s h (nothing i) is refl
 
       go : (o : Option RingState) → HoldStep h (on_ring s i o e)
@@ -169,9 +169,9 @@ module _ (s : RingsState) where
   event_count (event.Ring i e) = go (slice_get s.rings i)
     where
       one : (r : RingState) (b : Bool) → length (if b
-          then with_step (record s { turn = turn_used s.turn e }) i (step r e) else (s, nothing i)).0.rings
+          then with_step (record s { turn = turn_used s.turn i e }) i (step r e) else (s, nothing i)).0.rings
           ≡ length s.rings
-      one r true = step_count (record s { turn = turn_used s.turn e }) i (step r e) refl
+      one r true = step_count (record s { turn = turn_used s.turn i e }) i (step r e) refl
       one r false = refl
 
       go : (o : Option RingState) → length (on_ring s i o e).0.rings ≡ length s.rings

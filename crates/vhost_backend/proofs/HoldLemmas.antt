@@ -42,15 +42,15 @@ step_to s i t = record s { rings = set s.rings i t.0; line = settled s.line i (w
 abbrev pub HasNoTurn : RingsState → Type 0
 HasNoTurn s = is_free s.hold ≡ false → s.turn ≡ None
 
-unused : (e : RingEvent) (t : Option Turn) → t ≡ None → turn_used t e ≡ None
-unused Start t is = is
-unused Stop t is = is
-unused (Enable on) t is = is
-unused Break t is = is
-unused Kick t is = is
-unused (Popped chain parts bytes) t is = rw is refl
-unused Emptied t is = refl
-unused (Ended id end) t is = is
+unused : (i : ℕ) (e : RingEvent) (t : Option Turn) → t ≡ None → turn_used t i e ≡ None
+unused i Start t is = is
+unused i Stop t is = rw is refl
+unused i (Enable on) t is = is
+unused i Break t is = is
+unused i Kick t is = is
+unused i (Popped chain parts bytes) t is = rw is refl
+unused i Emptied t is = refl
+unused i (Ended id end) t is = is
 
 held_not_free : (s : RingsState) → is_free s.hold ≡ false → is_free (held s).hold ≡ false
 held_not_free s not = go (now_held s)
@@ -78,8 +78,8 @@ module _ (s : RingsState) (not_free : is_free s.hold ≡ false) (no_turn : s.tur
       → Stays (on_ring s i o e).0
   ring_stays i e None b is = (not_free, no_turn)
   ring_stays i e (Some r) false is = rw is (not_free, no_turn)
-  ring_stays i e (Some r) true is = let old : RingsState = record s { turn = turn_used s.turn e } in rw is
-      (held_not_free (step_to old i (step r e)) not_free, step_turn old i (step r e) ∙ unused e s.turn no_turn)
+  ring_stays i e (Some r) true is = let old : RingsState = record s { turn = turn_used s.turn i e } in rw is
+      (held_not_free (step_to old i (step r e)) not_free, step_turn old i (step r e) ∙ unused i e s.turn no_turn)
 
   go_stays : (free : Bool) → free ≡ false → Stays (chosen free (next_turn s (slice_get s.line 0)) (s, nothing 0)).0
   go_stays true is = absurd (cc)
@@ -131,7 +131,7 @@ ring_free : (s : RingsState) (i : ℕ) (e : RingEvent) (o : Option RingState) (b
     → admits s.turn i e ≡ b → is_free (on_ring s i o e).0.hold ≡ true
 ring_free s i e None b free is = free
 ring_free s i e (Some r) false free is = rw is free
-ring_free s i e (Some r) true free is = let old : RingsState = record s { turn = turn_used s.turn e } in
+ring_free s i e (Some r) true free is = let old : RingsState = record s { turn = turn_used s.turn i e } in
     rw is (held_free (step_to old i (step r e)) free)
 
 taken_free : (s : RingsState) (k : ℕ) (o : Option RingState) → is_free s.hold ≡ true
@@ -213,7 +213,7 @@ on_idle s i e (Some r) b is = go b is
   where
     go : (b : Bool) → admits s.turn i e ≡ b → IsIdle (on_ring s i (Some r) e)
     go false is = rw is (λ now. absurd (cc))
-    go true is = let old : RingsState = record s { turn = turn_used s.turn e } in
+    go true is = let old : RingsState = record s { turn = turn_used s.turn i e } in
         rw is (held_idle (step_to old i (step r e)))
 
 go_idle : (s : RingsState) (b : Bool) (o : Option ℕ) → IsIdle (chosen b (next_turn s o) (s, nothing 0))
@@ -306,11 +306,11 @@ module _ (s : RingsState) (rests : Rests s) where
   ring_sleeps i e None b there is = (refl, rests)
   ring_sleeps i e (Some r) false there is = rw is (refl, rests)
   ring_sleeps i e (Some r) true there is =
-      let old : RingsState = record s { turn = turn_used s.turn e } in
+      let old : RingsState = record s { turn = turn_used s.turn i e } in
       let new : RingsState = step_to old i (step r e) in
       let (calm, still) = step_calm r (all_idle_at s.rings i r rests.1 there) s.turn i e rests.2 is in
       rw (is, held_same new rests.0)
-      (calm, (rests.0, all_idle-set s.rings i (step r e).0 rests.1 still, unused e s.turn rests.2))
+      (calm, (rests.0, all_idle-set s.rings i (step r e).0 rests.1 still, unused i e s.turn rests.2))
 
   go_sleeps : (b : Bool) (o : Option ℕ) → b ≡ false → Sleeps (chosen b (next_turn s o) (s, nothing 0))
   go_sleeps false o not = (refl, rests)
@@ -367,7 +367,7 @@ ring_waits : (s : RingsState) (i : ℕ) (e : RingEvent) (o : Option RingState) (
 ring_waits s i e None b waits is = waits
 ring_waits s i e (Some r) false waits is = rw is waits
 ring_waits s i e (Some r) true waits is =
-    rw is (held_waits (step_to (record s { turn = turn_used s.turn e }) i (step r e)))
+    rw is (held_waits (step_to (record s { turn = turn_used s.turn i e }) i (step r e)))
 
 taken_waits : (s : RingsState) (k : ℕ) (o : Option RingState) → Waits s → Waits (turn_taken s k o).0
 taken_waits s k None waits = waits
@@ -427,7 +427,7 @@ ring_counts : (s : RingsState) (i : ℕ) (e : RingEvent) (o : Option RingState) 
 ring_counts s i e None b is = same_counts s s (nothing i) refl refl
 ring_counts s i e (Some r) false is = rw is (same_counts s s (nothing i) refl refl)
 ring_counts s i e (Some r) true is =
-    let old : RingsState = record s { turn = turn_used s.turn e } in
+    let old : RingsState = record s { turn = turn_used s.turn i e } in
     rw is (held_counts s (step_to old i (step r e)) (with_step old i (step r e)).1 refl refl)
 
 taken_counts : (s : RingsState) (k : ℕ) (o : Option RingState) → Counts s 0 (turn_taken s k o)

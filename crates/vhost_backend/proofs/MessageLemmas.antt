@@ -237,7 +237,7 @@ module _ (i : ℕ) where
   quiet j e s none = go (slice_get s.rings j)
     where
       one : (r : RingState) (b : Bool) → (if b
-          then with_step (record s { turn = turn_used s.turn e }) j (step r e) else (s, nothing j)).1.actions ≡ []
+          then with_step (record s { turn = turn_used s.turn j e }) j (step r e) else (s, nothing j)).1.actions ≡ []
       one r true = none r
       one r false = refl
 
@@ -342,7 +342,7 @@ module _ (i : ℕ) where
         go true = request_done h request payload (until_of b request)
         go false = refused_done h Descriptors
 
-    step_done : (x : Happening) → ring_actions i (message.to_do b x)
+    pub step_done : (x : Happening) → ring_actions i (message.to_do b x)
         ≡ actions_of i (all_done (events_of b x) b.rings)
     step_done (Came h payload n) = go (is_free b.taken)
       where

@@ -87,15 +87,15 @@ module _ (i : ℕ) (r : RingState) where
 
   module _ (s : RingsState) (there : slice_get s.rings i ≡ Some r) where
     own_event : (e : RingEvent) (b : Bool) → Own i r (if b then On e ∷ [] else [])
-        (if b then with_step (record s { turn = turn_used s.turn e }) i (stepped r (On e)) else (s, nothing i))
-    own_event e true = own_step (record s { turn = turn_used s.turn e }) (On e) there
+        (if b then with_step (record s { turn = turn_used s.turn i e }) i (stepped r (On e)) else (s, nothing i))
+    own_event e true = own_step (record s { turn = turn_used s.turn i e }) (On e) there
     own_event e false = quiet s (nothing i) there refl
 
     other_event : (j : ℕ) (e : RingEvent) (o : Option RingState) (b : Bool) → (j ≡ i → ⊥) → admits s.turn j e ≡ b
         → Own i r [] (on_ring s j o e)
     other_event j e None b differs is = quiet s (nothing j) there refl
     other_event j e (Some q) true differs is =
-        rw is (other_step (record s { turn = turn_used s.turn e }) j (stepped q (On e)) there differs)
+        rw is (other_step (record s { turn = turn_used s.turn j e }) j (stepped q (On e)) there differs)
     other_event j e (Some q) false differs is = rw is (quiet s (nothing j) there refl)
 
     ring_event : (j : ℕ) (e : RingEvent) → Own i r (steps_of i s (event.Ring j e)) (happens s (event.Ring j e))

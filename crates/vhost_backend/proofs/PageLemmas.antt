@@ -14,7 +14,7 @@ any_right : (page : ℕ) (xs ys : List PageRange) → InAny page ys → InAny pa
 any_right page [] ys is = is
 any_right page (x ∷ xs) ys is = inr (any_right page xs ys is)
 
-any_of : (page : ℕ) (xs ys : List PageRange) → InAny page (xs ++ ys) → InAny page xs ⊎ InAny page ys
+pub any_of : (page : ℕ) (xs ys : List PageRange) → InAny page (xs ++ ys) → InAny page xs ⊎ InAny page ys
 any_of page [] ys is = inr is
 any_of page (x ∷ xs) ys (inl here) = inl (inl here)
 any_of page (x ∷ xs) ys (inr there) = elim (any_of page xs ys there) [

@@ -1,5 +1,5 @@
 -- Requests of a block device's queue that are under way.
-use Rattle.std.proofs.Common.{◌≡◌, ◌∙◌, ℕ, ◌<◌, ◌^◌, List, replicate, set, Option, Some, None, sym, subst, arith, inl, inr}
+use Rattle.std.proofs.Common.{◌≡◌, ◌∙◌, ℕ, ◌<◌, ◌^◌, nat_le, Bool, true, false, if◌then◌else◌, List, replicate, set, Option, Some, None, sym, subst, arith, inl, inr}
 use Rattle.std.specs.List.{slice_get}
 use Rattle.std.proofs.Math.ListN.{length-set}
 use Rattle.std.proofs.lemmas.Bool.{cases_eq, cases_lt, le-ltb, lt-ltb}
@@ -47,11 +47,16 @@ short_fits sectors (GetId len) fits small short = (short, omega (arith, fits))
 short_fits sectors (Refused status) fits small short = (omega arith, omega arith)
 short_fits sectors Unserved fits small short = (omega arith, omega arith)
 
-pub short_request : (sectors : ℕ) (r : Request) → FitsOn sectors r → sectors < 2 ^ 55 → Short (shortened r)
-short_request sectors r fits small = elim (cases_lt (len_of r) (2 ^ 32)) [
-  | inl below ↦ rw (lt-ltb (len_of r) (2 ^ 32) below) (short_fits sectors r fits small below)
+pub short_request : (most count sectors : ℕ) (r : Request) → FitsOn sectors r → sectors < 2 ^ 55
+    → Short (shortened most count r)
+short_request most count sectors r fits small = elim (cases_lt (len_of r) (2 ^ 32)) [
+  | inl below ↦ rw (lt-ltb (len_of r) (2 ^ 32) below) (few below (nat_le count most))
   | inr past ↦ rw (le-ltb (len_of r) (2 ^ 32) past) (omega arith, omega arith)
 ]
+  where
+    few : len_of r < 2 ^ 32 → (b : Bool) → Short (if b then r else Refused 1)
+    few below true = short_fits sectors r fits small below
+    few below false = (omega arith, omega arith)
 
 -- a queue that goes back to where it stood
 pub popped_begins : {H : Type 0} (step : H → (s : MemoryStep) → Returned s → H → Type 0) (terms : DeviceLimits)

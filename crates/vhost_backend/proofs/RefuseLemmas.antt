@@ -303,7 +303,7 @@ same_count c ids xs =
 
 -- the protocol's state and the rings are what they were, if a step refuses
 abbrev KeptBy : BackendState → RingsState → BackendState × Outcome → Type 0
-KeptBy b s t = (e : Refusal) (bytes : List ℕ) → t.1 ≡ Refused e bytes
+KeptBy b s t = (e : Refusal) (told : Header) → t.1 ≡ Refused e told
     → (t.0.connection ≡ b.connection) × (t.0.rings.rings ≡ s.rings)
 
 begun_stays : (b old : BackendState) (s : RingsState) (h : Header) (request : FrontendReq) (payload : List ℕ)
@@ -311,15 +311,15 @@ begun_stays : (b old : BackendState) (s : RingsState) (h : Header) (request : Fr
 begun_stays b old s h request payload same rings = go (served old.connection request payload)
   where
     go : (o : Result Connection Refusal) → KeptBy b s (begun_by old h request o)
-    go (Ok new) e bytes is = absurd (cc)
-    go (Err x) e bytes is = (same, (released_same old.rings old.rings.hold).0 ∙ rings)
+    go (Ok new) e told is = absurd (cc)
+    go (Err x) e told is = (same, (released_same old.rings old.rings.hold).0 ∙ rings)
 
 due_stays : (b old : BackendState) (s : RingsState) (h : Header) (request : FrontendReq) (payload : List ℕ)
     (until : Until) (due : Bool) → old.connection ≡ b.connection → old.rings.rings ≡ s.rings
     → KeptBy b s (begun_or_waits old h request payload until due)
-due_stays b old s h request payload until true same rings e bytes is =
-    begun_stays b old s h request payload same rings e bytes is
-due_stays b old s h request payload until false same rings e bytes is = absurd (cc)
+due_stays b old s h request payload until true same rings e told is =
+    begun_stays b old s h request payload same rings e told is
+due_stays b old s h request payload until false same rings e told is = absurd (cc)
 
 -- a hold leaves each ring as it is
 pub hold_rings : (s : RingsState) → (happens s event.Hold).0.rings ≡ s.rings
@@ -333,10 +333,10 @@ hold_rings s = go (is_free_hold s.hold)
 
 -- a step that refuses nothing
 nothing_refused : (b : BackendState) (s : RingsState) (t : BackendState × Outcome) → t.1 ≡ Stays → KeptBy b s t
-nothing_refused b s t stays e bytes is = let bad : Stays ≡ Refused e bytes = sym stays ∙ is in absurd (cc)
+nothing_refused b s t stays e told is = let bad : Stays ≡ Refused e told = sym stays ∙ is in absurd (cc)
 
-pub event_stays : (b : BackendState) (event : Event) (e : Refusal) (bytes : List ℕ)
-    → (let t = after_event b event in t.1.message ≡ Refused e bytes
+pub event_stays : (b : BackendState) (event : Event) (e : Refusal) (told : Header)
+    → (let t = after_event b event in t.1.message ≡ Refused e told
     → (t.0.connection ≡ b.connection) × (t.0.rings.rings ≡ (happens b.rings event).0.rings))
 event_stays b x =
     let t = happens b.rings x in
@@ -356,60 +356,60 @@ event_stays b x =
         due_stays b old s h request [] until (is_due until done) same rings
 
     go : (t : RingsState × Actions) (old : BackendState) (outer : Bool) → KeptBy b s (happened (placed old t.1) t.1)
-        → (e : Refusal) (bytes : List ℕ) → (let u = if outer
+        → (e : Refusal) (told : Header) → (let u = if outer
         then with_outcome t.1 (to_place old t.1) (happened (placed old t.1) t.1)
-        else (b, to_do (nothing 0) None Stays) in u.1.message ≡ Refused e bytes
+        else (b, to_do (nothing 0) None Stays) in u.1.message ≡ Refused e told
         → (u.0.connection ≡ b.connection) × (u.0.rings.rings ≡ s.rings))
-    go t old true kept e bytes is = kept e bytes is
-    go t old false kept e bytes is = absurd (cc)
+    go t old true kept e told is = kept e told is
+    go t old false kept e told is = absurd (cc)
 
 module _ (b : BackendState) (count : length b.connection.vrings ≡ length b.rings.rings) where
   waited_stays : (h : Header) (request : FrontendReq) (payload : List ℕ) (until : Until)
       → FitsUntil request until (length b.rings.rings) → (let t = waited b.rings until in
       let old : BackendState = record b { rings = t.0 } in (due : Bool)
       → KeptBy b b.rings (begun_or_waits (placed old t.1) h request payload until due))
-  waited_stays h request payload Now fits due e bytes refuses = let old : BackendState = record b { rings = b.rings } in
+  waited_stays h request payload Now fits due e told refuses = let old : BackendState = record b { rings = b.rings } in
       due_stays b (placed old (nothing 0)) b.rings h request payload Now due (placed_connection old (nothing 0))
-      (ap (λ s. s.rings) (placed_rings old (nothing 0))) e bytes refuses
-  waited_stays h request payload AllRings fits due e bytes refuses =
+      (ap (λ s. s.rings) (placed_rings old (nothing 0))) e told refuses
+  waited_stays h request payload AllRings fits due e told refuses =
       let t = happens b.rings event.Hold in
       let old : BackendState = record b { rings = t.0 } in
       due_stays b (placed old t.1) b.rings h request payload AllRings due (placed_connection old t.1)
-      (ap (λ s. s.rings) (placed_rings old t.1) ∙ hold_rings b.rings) e bytes refuses
-  waited_stays h request payload (Ring i) (calm, is, below) false e bytes bad = absurd (cc)
-  waited_stays h request payload (Ring i) (calm, is, below) true e bytes refuses =
+      (ap (λ s. s.rings) (placed_rings old t.1) ∙ hold_rings b.rings) e told refuses
+  waited_stays h request payload (Ring i) (calm, is, below) false e told bad = absurd (cc)
+  waited_stays h request payload (Ring i) (calm, is, below) true e told refuses =
       let t = happens b.rings (event.Ring i Stop) in
       let old : BackendState = record b { rings = t.0 } in
       cannot (placed old t.1) (placed_connection old t.1) (served (placed old t.1).connection request payload) refl refuses
     where
       cannot : {P : Type 0} (new : BackendState) → new.connection ≡ b.connection → (o : Result Connection Refusal)
-          → served new.connection request payload ≡ o → (begun_by new h request o).1 ≡ Refused e bytes → P
+          → served new.connection request payload ≡ o → (begun_by new h request o).1 ≡ Refused e told → P
       cannot new same (Ok made) is_o is_refused = absurd (cc)
       cannot new same (Err x) is_o is_refused = absurd (stops_there b.connection request payload i x is
           (rw count below) (rw (← same) is_o))
 
 pub message_stays : (c : Connection) (ids : ℕ) (xs : List Happening) (h : Header) (payload : List ℕ) (n : ℕ)
-    (e : Refusal) (bytes : List ℕ) → (let b = after xs (new_backend c ids) in
-    let t = after_message b h payload n in t.1.message ≡ Refused e bytes
+    (e : Refusal) (told : Header) → (let b = after xs (new_backend c ids) in
+    let t = after_message b h payload n in t.1.message ≡ Refused e told
     → (t.0.connection ≡ b.connection) × (t.0.rings.rings ≡ b.rings.rings))
 message_stays c ids xs h payload n =
     let b = after xs (new_backend c ids) in go b (same_count c ids xs) (is_free b.taken)
   where
     go : (b : BackendState) → length b.connection.vrings ≡ length b.rings.rings → (free : Bool) (e : Refusal)
-        (bytes : List ℕ) → (let t = if free then decoded b h payload n (request_of h payload)
-        else (b, to_do (nothing 0) None Stays) in t.1.message ≡ Refused e bytes
+        (told : Header) → (let t = if free then decoded b h payload n (request_of h payload)
+        else (b, to_do (nothing 0) None Stays) in t.1.message ≡ Refused e told
         → (t.0.connection ≡ b.connection) × (t.0.rings.rings ≡ b.rings.rings))
-    go b count false e bytes is = absurd (cc)
-    go b count true e bytes refuses = by (request_of h payload) e bytes refuses
+    go b count false e told is = absurd (cc)
+    go b count true e told refuses = by (request_of h payload) e told refuses
       where
-        by : (o : Result FrontendReq Refusal) (e : Refusal) (bytes : List ℕ) → (let t = decoded b h payload n o in
-            t.1.message ≡ Refused e bytes → (t.0.connection ≡ b.connection) × (t.0.rings.rings ≡ b.rings.rings))
-        by (Err x) e bytes is = (refl, refl)
-        by (Ok request) e bytes refuses = right (n == descriptors_of request) e bytes refuses
+        by : (o : Result FrontendReq Refusal) (e : Refusal) (told : Header) → (let t = decoded b h payload n o in
+            t.1.message ≡ Refused e told → (t.0.connection ≡ b.connection) × (t.0.rings.rings ≡ b.rings.rings))
+        by (Err x) e told is = (refl, refl)
+        by (Ok request) e told refuses = right (n == descriptors_of request) e told refuses
           where
-            right : (r : Bool) (e : Refusal) (bytes : List ℕ) → (let t = if r
+            right : (r : Bool) (e : Refusal) (told : Header) → (let t = if r
                 then taken_until b h request payload (until_of b request) else (b, refused b h Descriptors) in
-                t.1.message ≡ Refused e bytes → (t.0.connection ≡ b.connection) × (t.0.rings.rings ≡ b.rings.rings))
-            right false e bytes is = (refl, refl)
-            right true e bytes is = let until = until_of b request in waited_stays b count h request payload until
-                (until_fits b request) (is_due until (waited b.rings until).1) e bytes is
+                t.1.message ≡ Refused e told → (t.0.connection ≡ b.connection) × (t.0.rings.rings ≡ b.rings.rings))
+            right false e told is = (refl, refl)
+            right true e told is = let until = until_of b request in waited_stays b count h request payload until
+                (until_fits b request) (is_due until (waited b.rings until).1) e told is

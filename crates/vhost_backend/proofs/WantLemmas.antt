@@ -46,9 +46,9 @@ module _ (s : RingsState) where
       ]
 
 with_turn : (s : RingsState) (j : ℕ) (q : RingState) (e : RingEvent) → AreInLine s → slice_get s.rings j ≡ Some q
-    → AreInLine (with_step (record s { turn = turn_used s.turn e }) j (step q e)).0
+    → AreInLine (with_step (record s { turn = turn_used s.turn j e }) j (step q e)).0
 with_turn s j q e are is =
-    step_in_line (record s { turn = turn_used s.turn e }) j q (step q e) (λ i r differs there. are i r there) is
+    step_in_line (record s { turn = turn_used s.turn j e }) j q (step q e) (λ i r differs there. are i r there) is
 
 ring_in_line : (s : RingsState) (j : ℕ) (e : RingEvent) (o : Option RingState) (b : Bool) → AreInLine s
     → slice_get s.rings j ≡ o → admits s.turn j e ≡ b → AreInLine (on_ring s j o e).0

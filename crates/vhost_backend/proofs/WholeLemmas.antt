@@ -1,16 +1,17 @@
 -- Each call of a back end as a whole is something that happens to its connection, or nothing.
-use Rattle.std.proofs.Common.{◌≡◌, ◌∙◌, ℕ, ◌+◌, nat_lt, ◌&&◌, ◌==◌, Bool, true, false, List, [], ◌∷◌, ◌++◌, length, drop, Option, Some, None, Result, Ok, Err, MatchBool, MatchOption, MatchResult, if◌then◌else◌, refl, ap, sym, subst}
+use Rattle.std.proofs.Common.{◌≡◌, ◌∙◌, ℕ, ◌+◌, nat_lt, ◌&&◌, ◌==◌, Bool, true, false, List, [], ◌∷◌, length, drop, Option, Some, None, Result, Ok, Err, MatchBool, MatchOption, MatchResult, if◌then◌else◌, refl, ap}
 use Rattle.std.specs.List.{slice_get, slice_set}
 use Rattle.vhost_message.specs.declared.header.Header.{Header}
+use Rattle.vhost_user.specs.Reply.{refused}
 use Rattle.vhost_user.specs.declared.vring.NotRunning.{NotRunning}
 use Rattle.vhost_user.specs.declared.vring.RunningVring.{RunningVring}
 use Rattle.virtio_queue.specs.declared.error.QueueError.{QueueError}
 use Rattle.vhost_backend.specs.Backend.{BackendState, after_message, is_free, is_over, mapping_at}
-use Rattle.vhost_backend.specs.BlockBackend.{Acts, ActsFirst, Looks, Places, SetsUpAt, Steps, StepsFrom, TakesTurn, after_reach, answered, answered_at, asked_by, asked_first_by, asked_more_by, broke_if, called_by, called_up, came, counted, ended_by, finished_by, gone_on, hung_up, is_done, looked, mapped, mapped_at, messaged, notified, part_deed, replied, said_last, stepped_on, stepped_on_by, terms_of, told}
+use Rattle.vhost_backend.specs.BlockBackend.{Acts, ActsFirst, GivesBackAt, Looks, Places, Returns, SetsUpAt, Steps, StepsFrom, TakesTurn, after_reach, answered, answered_at, asked_by, asked_first_by, asked_more_by, broke_if, called_up, came, counted, ended_by, ended_with, finished_by, gone_on, hung_up, is_done, looked, mapped, mapped_at, messaged, replied, said_last, stepped_on_by, terms_of, told}
 use Rattle.vhost_backend.specs.BlockQueue.{BlockQueueState, HappensNext}
-use Rattle.vhost_backend.specs.BlockQueues.{Turns, WithQueue, based}
+use Rattle.vhost_backend.specs.BlockQueues.{Turns, based}
 use Rattle.vhost_backend.specs.BlockTurn as turn
-use Rattle.vhost_backend.specs.Messages.{Happening, Came, Done, Told, HungUp, after, stepped}
+use Rattle.vhost_backend.specs.Messages.{Came, Done, Told, HungUp, stepped}
 use Rattle.vhost_backend.specs.PageList.{capped}
 use Rattle.vhost_backend.specs.RingMemory.{MemoryStep, Returned}
 use Rattle.vhost_backend.specs.Rings.{may_pop}
@@ -25,6 +26,10 @@ use Rattle.vhost_backend.specs.declared.backend.Todo.{Todo}
 use Rattle.vhost_backend.specs.declared.deeds.Ask.{Ask}
 use Rattle.vhost_backend.specs.declared.deeds.Ask.TheVariants as ask
 use Rattle.vhost_backend.specs.declared.block_backend.BlockBackend.{BlockBackend}
+use Rattle.vhost_backend.specs.declared.block_backend.Returning.{Returning}
+use Rattle.vhost_backend.specs.declared.block_queue.Finished.{Finished}
+use Rattle.vhost_backend.specs.declared.block_queue.Finished.TheVariants as finished
+use Rattle.vhost_backend.specs.declared.request.Chain.{Chain}
 use Rattle.vhost_backend.specs.declared.deeds.Made.{Made}
 use Rattle.vhost_backend.specs.declared.deeds.Why.{Why}
 use Rattle.vhost_backend.specs.declared.deeds.Why.TheVariants as why
@@ -106,7 +111,8 @@ answered_leads w is = go w.ask is
 messaged_leads : (w : BlockBackend) (o : Outcome) → Leads w.backend (messaged w o).backend
 messaged_leads w outcome.Stays = stays w.backend
 messaged_leads w outcome.Begins = stays w.backend
-messaged_leads w (outcome.Refused e bytes) = hung_up_leads (record w { reply = bytes }) (why.Refused e)
+messaged_leads w (outcome.Refused e h) =
+    hung_up_leads (record w { reply = refused w.backend.connection h }) (why.Refused e)
 
 first_leads : (w : BlockBackend) (x : Wanted) → Leads w.backend (asked_first_by w x).0.backend
 first_leads w wanted.Nothing = stays w.backend
@@ -158,19 +164,18 @@ broke_leads w false = asked_leads w w.ask
 on_leads : (w : BlockBackend) (o : Outcome) → Leads w.backend (stepped_on_by w o).0.backend
 on_leads w outcome.Stays = broke_leads w w.broken
 on_leads w outcome.Begins = stays w.backend
-on_leads w (outcome.Refused e bytes) = messaged_leads
-    (record w { todo = record w.todo { message = outcome.Stays } }) (outcome.Refused e bytes)
+on_leads w (outcome.Refused e h) = messaged_leads
+    (record w { todo = record w.todo { message = outcome.Stays } }) (outcome.Refused e h)
 
 reach_leads : (w : BlockBackend) (r : Reached) → Leads w.backend (after_reach w r).backend
 reach_leads w reached.Fine = stays w.backend
 reach_leads w reached.Broken = stays w.backend
-reach_leads w reached.Memory = hung_up_leads w why.Memory
 
-notified_leads : (w : BlockBackend) (ring : ℕ) (r : Result Bool QueueError)
-    → Leads w.backend (notified w ring r).0.backend
-notified_leads w ring (Ok true) = stays w.backend
-notified_leads w ring (Ok false) = stays w.backend
-notified_leads w ring (Err e) = stays w.backend
+ended_with_leads : (w : BlockBackend) (ring : ℕ) (chain : Chain) (r : Finished)
+    → Leads w.backend (ended_with w ring chain r).backend
+ended_with_leads w ring chain (finished.Done len) = stays w.backend
+ended_with_leads w ring chain finished.Forgotten = hung_up_leads w why.Memory
+ended_with_leads w ring chain finished.NotUnderWay = stays w.backend
 
 -- ---- steps on memory
 
@@ -194,10 +199,10 @@ module _ {H : Type 0} (step : H → (s : MemoryStep) → Returned s → H → Ty
       → Acts step w ring a old m w' new → Leads w.backend w'.backend
   acts_leads w ring action.Pop old m w' new p = leads_by (ap (λ v. v.backend) p.0) (stays w.backend)
   acts_leads w ring (action.Serve id left) old m w' new p = leads_by (ap (λ v. v.backend) p.0) (stays w.backend)
-  acts_leads w ring (action.Return chain moved failed) old m w' new (r, qs, gives, is, made) =
-      leads_by (ap (λ v. v.backend) is) (reach_leads (record w { queues = qs }) r)
-  acts_leads w ring action.Notify old m w' new (r, qs, asks, is) =
-      leads_by (ap (λ t. t.0.backend) is) (notified_leads (record w { queues = qs }) ring r)
+  acts_leads w ring (action.Return chain moved failed) old m w' new (r, qs, finishes, is, made) =
+      leads_by (ap (λ v. v.backend) is) (ended_with_leads (record w { queues = qs }) ring chain r)
+  acts_leads w ring action.Notify old m w' new (r, qs, asks, is, made) =
+      leads_by (ap (λ v. v.backend) is) (stays w.backend)
   acts_leads w ring action.Broke old m w' new p = leads_by (ap (λ v. v.backend) p.0) (stays w.backend)
   acts_leads w ring action.Stopped old m w' new p = leads_by (ap (λ v. v.backend) p.0) (stays w.backend)
 
@@ -206,13 +211,24 @@ module _ {H : Type 0} (step : H → (s : MemoryStep) → Returned s → H → Ty
   first_act_leads w None old m w' new p = leads_by (ap (λ t. t.0.backend) p.0) (on_leads w w.todo.message)
   first_act_leads w (Some a) old m w' new p = acts_leads w w.todo.ring a old m w' new p
 
+  gives_leads : (w : BlockBackend) (t : Returning) (old : H) (w' : BlockBackend) (new : H)
+      → GivesBackAt step w t old w' new → Leads w.backend w'.backend
+  gives_leads w t old w' new (r, qs, gives, is) =
+      leads_by (ap (λ v. v.backend) is) (reach_leads (record w { queues = qs }) r)
+
+  returns_leads : (w : BlockBackend) (o : Option Returning) (old : H) (m : Made) (w' : BlockBackend) (new : H)
+      → Returns step w o old m w' new → Leads w.backend w'.backend
+  returns_leads w None old m w' new p = first_act_leads
+      (record w { todo = record w.todo { actions = drop 1 w.todo.actions } })
+      (slice_get w.todo.actions 0) old m w' new p
+  returns_leads w (Some t) old m w' new p = gives_leads (record w { returning = None }) t old w' new p.0
+
   pub steps_leads : (w : BlockBackend) (old : H) (m : Made) (w' : BlockBackend) (new : H)
       → Steps step w old m w' new → Leads w.backend w'.backend
   steps_leads w old m w' new = go w.todo.place
     where
       go : (o : Option Place) → StepsFrom step w o old m w' new → Leads w.backend w'.backend
-      go None p = first_act_leads (record w { todo = record w.todo { actions = drop 1 w.todo.actions } })
-          (slice_get w.todo.actions 0) old m w' new p
+      go None p = returns_leads w w.returning old m w' new p
       go (Some place) p =
           places_leads (record w { todo = record w.todo { place = None } }) place old w' new p.0
 

@@ -121,13 +121,13 @@ released b = record b { taken = taken.Nothing; rings = (happens b.rings event.Re
 -- it takes effect, or it is refused and changes nothing
 abbrev pub begun_by : BackendState → Header → FrontendReq → Result Connection Refusal → BackendState × Outcome
 begun_by b h request (Ok new) = (record b { connection = new; taken = taken.Begun h request }, Begins)
-begun_by b h request (Err e) = (released b, Refused e (reply.refused b.connection h))
+begun_by b h request (Err e) = (released b, Refused e h)
 
 abbrev pub begun : BackendState → Header → FrontendReq → List ℕ → BackendState × Outcome
 begun b h request payload = begun_by b h request (served b.connection request payload)
 
 abbrev pub refused : BackendState → Header → Refusal → Todo
-refused b h e = to_do (nothing 0) None (Refused e (reply.refused b.connection h))
+refused b h e = to_do (nothing 0) None (Refused e h)
 
 -- it takes effect at once, or waits
 abbrev pub begun_or_waits : BackendState → Header → FrontendReq → List ℕ → Until → Bool → BackendState × Outcome

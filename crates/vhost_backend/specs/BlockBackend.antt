@@ -1,15 +1,18 @@
 -- A block device's back end as a whole: what each event makes of it, and what is to be done, step by step.
-use Rattle.std.specs.Prelude.{◌≡◌, ℕ, ◌+◌, ◌-◌, ◌^◌, ◌==◌, ◌&&◌, not, min, nat_lt, bit_and, Bool, true, false, if◌then◌else◌, List, [], length, drop, slice_get, slice_set, Option, Some, None, is_none, is_some, Result, Ok, Err, MatchOption, MatchResult}
+use Rattle.std.specs.Prelude.{◌≡◌, ℕ, ◌+◌, ◌-◌, ◌^◌, ◌==◌, ◌&&◌, not, min, nat_lt, bit_and, Bool, true, false, if◌then◌else◌, List, [], length, drop, replicate, slice_get, Option, Some, None, is_none, is_some, Result, Ok, Err, MatchResult}
 use Rattle.std.specs.Int.{to_le_bytes, w64}
+use Rattle.std.specs.declared.alloc.Global.{Global}
 use Rattle.virtio_blk.specs.declared.request.DeviceLimits.{DeviceLimits}
 use Rattle.virtio_queue.specs.declared.error.QueueError.{QueueError}
 use Rattle.vhost_message.specs.declared.header.Header.{Header}
 use Rattle.vhost_message.specs.declared.regions.MemoryRegion.{MemoryRegion}
-use Rattle.vhost_user.specs.declared.vring.NotRunning.{NotRunning}
+use Rattle.vhost_user.specs.Connection.{connected}
+use Rattle.vhost_user.specs.Reply.{refused}
+use Rattle.vhost_user.specs.declared.backend_req_handler.Offer.{Offer}
 use Rattle.vhost_user.specs.declared.vring.RunningVring.{RunningVring}
-use Rattle.vhost_backend.specs.Backend.{BackendState, after_event, after_finish, after_message, is_free, is_over, mapping_at, over}
+use Rattle.vhost_backend.specs.Backend.{BackendState, after_event, after_finish, after_message, is_free, is_over, mapping_at, new_backend, over}
 use Rattle.vhost_backend.specs.BlockQueue.{BlockQueueState}
-use Rattle.vhost_backend.specs.BlockQueues.{Asks, Gives, SetsUp, Turns, WithQueue, based, part_of}
+use Rattle.vhost_backend.specs.BlockQueues.{Asks, FinishesAt, Gives, SetsUp, Turns, WithQueue, based, new_queues, part_of}
 use Rattle.vhost_backend.specs.Config.{config_changed}
 use Rattle.vhost_backend.specs.Kicks.{TakesKick}
 use Rattle.vhost_backend.specs.PageList.{capped}
@@ -27,7 +30,9 @@ use Rattle.vhost_backend.specs.declared.block.BlockStep.{BlockStep}
 use Rattle.vhost_backend.specs.declared.deeds.Ask.{Ask}
 use Rattle.vhost_backend.specs.declared.deeds.Ask.TheVariants as ask
 use Rattle.vhost_backend.specs.declared.block_backend.BlockBackend.{BlockBackend}
-use Rattle.vhost_backend.specs.declared.deeds.Deed.{Deed}
+use Rattle.vhost_backend.specs.declared.block_backend.Returning.{Returning}
+use Rattle.vhost_backend.specs.declared.block_queue.Finished.{Finished}
+use Rattle.vhost_backend.specs.declared.block_queue.Finished.TheVariants as finished
 use Rattle.vhost_backend.specs.declared.deeds.Deed.TheVariants as deed
 use Rattle.vhost_backend.specs.declared.deeds.Limits.{Limits}
 use Rattle.vhost_backend.specs.declared.deeds.Made.{Made}
@@ -37,17 +42,37 @@ use Rattle.vhost_backend.specs.declared.deeds.Why.TheVariants as why
 use Rattle.vhost_backend.specs.declared.block_queues.Reached.{Reached}
 use Rattle.vhost_backend.specs.declared.block_queues.Reached.TheVariants as reached
 use Rattle.vhost_backend.specs.declared.mapping.Mapping.{Mapping}
-use Rattle.vhost_backend.specs.declared.mapping.Mapping.TheVariants.{Map, UnmapAll}
-use Rattle.vhost_backend.specs.declared.request.PartEnd.{PartEnd}
-use Rattle.vhost_backend.specs.declared.ring.RingEvent.TheVariants.{Break, Ended, Kick}
+use Rattle.vhost_backend.specs.declared.mapping.Mapping.TheVariants.{Map}
+use Rattle.vhost_backend.specs.declared.request.Chain.{Chain}
+use Rattle.vhost_backend.specs.declared.ring.RingEvent.TheVariants.{Break, Kick}
 use Rattle.vhost_backend.specs.declared.ring.actions.RingAction.{RingAction}
 use Rattle.vhost_backend.specs.declared.ring.actions.RingAction.TheVariants as action
 use Rattle.vhost_backend.specs.declared.rings.Event.{Event}
 use Rattle.vhost_backend.specs.declared.rings.Event.TheVariants as event
-use Rattle.vhost_backend.specs.declared.wanted.Purpose.{Purpose}
 use Rattle.vhost_backend.specs.declared.wanted.Purpose.TheVariants.{Call}
 use Rattle.vhost_backend.specs.declared.wanted.Wanted.{Wanted}
 use Rattle.vhost_backend.specs.declared.wanted.Wanted.TheVariants as wanted
+
+-- a new one, as a new connection, with nothing to do. No chain has an id above the greatest size of a ring
+abbrev pub new_block_backend : Global → Offer → ℕ → List ℕ → Limits → BlockBackend
+new_block_backend alloc offer count config limits = record {
+  alloc = alloc;
+  backend = new_backend (connected offer count config) offer.max_queue_size;
+  queues = new_queues count offer.max_queue_size;
+  max_size = offer.max_queue_size;
+  limits = limits;
+  todo = record { ring = 0; place = None; actions = []; message = outcome.Stays };
+  returning = None;
+  broken = false;
+  ask = ask.Nothing;
+  reply = [];
+  called = None;
+  end = None;
+  kicks = replicate count false;
+  turn = 0;
+  unread = 0;
+  finished = false;
+}
 
 -- ---- what requests are held against
 
@@ -80,8 +105,8 @@ is_asked (ask.Mapped count) = false
 is_asked _ = true
 
 abbrev pub is_done : BlockBackend → Bool
-is_done w = is_none w.todo.place && (length w.todo.actions == 0) && is_quiet w.todo.message && not w.broken
-    && is_asked w.ask && (length w.reply == 0) && is_none w.called && is_none w.end
+is_done w = is_none w.todo.place && (length w.todo.actions == 0) && is_quiet w.todo.message && is_none w.returning
+    && not w.broken && is_asked w.ask && (length w.reply == 0) && is_none w.called && is_none w.end
 
 -- ---- events
 
@@ -162,7 +187,8 @@ resized w sectors = record w {
 abbrev pub messaged : BlockBackend → Outcome → BlockBackend
 messaged w outcome.Stays = w
 messaged w outcome.Begins = record w { ask = ask.First }
-messaged w (outcome.Refused e bytes) = hung_up (record w { reply = bytes }) (why.Refused e)
+messaged w (outcome.Refused e h) =
+    hung_up (record w { reply = refused w.backend.connection h }) (why.Refused e)
 
 -- what a message that took effect asks for first
 abbrev pub asked_first_by : BlockBackend → Wanted → BlockBackend × Made
@@ -227,16 +253,24 @@ stepped_on w = stepped_on_by w w.todo.message
 abbrev pub after_reach : BlockBackend → Reached → BlockBackend
 after_reach w reached.Fine = w
 after_reach w reached.Broken = record w { broken = true }
-after_reach w reached.Memory = hung_up w why.Memory
 
-abbrev pub part_deed : ℕ → ℕ → Option BlockStep → Made
-part_deed ring id None = made.Again
-part_deed ring id (Some part) = made.Deed (deed.Part ring id part)
+-- a part is served, after which its request has one less
+abbrev pub part_deed : ℕ → ℕ → ℕ → Option BlockStep → Made
+part_deed ring id left None = made.Again
+part_deed ring id left (Some part) = made.Deed (deed.Part ring id part (left - 1))
 
-abbrev pub notified : BlockBackend → ℕ → Result Bool QueueError → BlockBackend × Made
-notified w ring (Ok true) = (w, made.Deed (deed.Interrupt ring))
-notified w ring (Ok false) = (w, made.Again)
-notified w ring (Err e) = (record w { broken = true }, made.Again)
+-- the chain of a request that is over is to be returned
+abbrev pub ended_with : BlockBackend → ℕ → Chain → Finished → BlockBackend
+ended_with w ring chain (finished.Done len) =
+    record w { returning = Some (record { ring = ring; chain = chain; len = len }) }
+ended_with w ring chain finished.Forgotten = hung_up w why.Memory
+ended_with w ring chain finished.NotUnderWay = w
+
+-- a driver is interrupted unless it asks not to be: also if that cannot be read
+abbrev pub notified : ℕ → Result Bool QueueError → Made
+notified ring (Ok false) = made.Again
+notified ring (Ok true) = made.Deed (deed.Interrupt ring)
+notified ring (Err e) = made.Deed (deed.Interrupt ring)
 
 abbrev pub looked : BlockBackend → Option Todo → BlockBackend
 looked w None = w
@@ -258,24 +292,35 @@ module _ {H : Type 0} (step : H → (s : MemoryStep) → Returned s → H → Ty
   abbrev pub Acts : BlockBackend → ℕ → RingAction → H → Made → BlockBackend → H → Type 0
   Acts w ring action.Pop old m w' new = (w' ≡ w) × (m ≡ made.Again) × (new ≡ old)
   Acts w ring (action.Serve id left) old m w' new =
-      (w' ≡ w) × (m ≡ part_deed ring id (part_of id left (slice_get w.queues ring))) × (new ≡ old)
-  Acts w ring (action.Return chain moved failed) old m w' new = (r : Reached) × (qs : List BlockQueueState)
-      × WithQueue w.queues ring reached.Fine old r qs new (Gives step chain moved failed old new)
-      × (w' ≡ after_reach (record w { queues = qs }) r) × (m ≡ made.Again)
+      (w' ≡ w) × (m ≡ part_deed ring id left (part_of id left (slice_get w.queues ring))) × (new ≡ old)
+  Acts w ring (action.Return chain moved failed) old m w' new =
+      (r : Finished) × (qs : List BlockQueueState) × FinishesAt step w.queues ring chain moved failed old r qs new
+      × (w' ≡ ended_with (record w { queues = qs }) ring chain r) × (m ≡ made.Again)
   Acts w ring action.Notify old m w' new = (r : Result Bool QueueError) × (qs : List BlockQueueState)
       × WithQueue w.queues ring (Ok false) old r qs new (Asks step old new)
-      × ((w', m) ≡ notified (record w { queues = qs }) ring r)
+      × (w' ≡ record w { queues = qs }) × (m ≡ notified ring r)
   Acts w ring action.Broke old m w' new = (w' ≡ w) × (m ≡ made.Deed (deed.Tell ring)) × (new ≡ old)
   Acts w ring action.Stopped old m w' new = (w' ≡ w) × (m ≡ made.Deed (deed.Stopped ring)) × (new ≡ old)
 
-  -- a step of what follows from an event: a place, an action for a ring, and then what comes after these
+  -- a step of what follows from an event: a place, a return, an action for a ring, and then what comes after these
   abbrev pub ActsFirst : BlockBackend → Option RingAction → H → Made → BlockBackend → H → Type 0
   ActsFirst w None old m w' new = ((w', m) ≡ stepped_on w) × (new ≡ old)
   ActsFirst w (Some a) old m w' new = Acts w w.todo.ring a old m w' new
 
-  abbrev pub StepsFrom : BlockBackend → Option Place → H → Made → BlockBackend → H → Type 0
-  StepsFrom w None old m w' new = ActsFirst
+  -- a chain is returned
+  abbrev pub GivesBackAt : BlockBackend → Returning → H → BlockBackend → H → Type 0
+  GivesBackAt w t old w' new = (r : Reached) × (qs : List BlockQueueState)
+      × WithQueue w.queues t.ring reached.Fine old r qs new (Gives step t.chain t.len old new)
+      × (w' ≡ after_reach (record w { queues = qs }) r)
+
+  -- the chain of a request that is over is returned before anything else is done
+  abbrev pub Returns : BlockBackend → Option Returning → H → Made → BlockBackend → H → Type 0
+  Returns w None old m w' new = ActsFirst
       (record w { todo = record w.todo { actions = drop 1 w.todo.actions } }) (slice_get w.todo.actions 0) old m w' new
+  Returns w (Some t) old m w' new = GivesBackAt (record w { returning = None }) t old w' new × (m ≡ made.Again)
+
+  abbrev pub StepsFrom : BlockBackend → Option Place → H → Made → BlockBackend → H → Type 0
+  StepsFrom w None old m w' new = Returns w w.returning old m w' new
   StepsFrom w (Some place) old m w' new =
       Places (record w { todo = record w.todo { place = None } }) place old w' new × (m ≡ made.Again)
 

@@ -1,18 +1,64 @@
 -- A connection of a block device with its guest memory: what each call makes of it.
-use Rattle.std.specs.Prelude.{◌≡◌, ℕ, ◌+◌, ◌-◌, ◌*◌, ◌≤◌, ◌||◌, nat_lt, Bool, true, false, if◌then◌else◌, List, length, drop, slice_set, Option, Some, None, is_some, MatchOption}
+use Rattle.std.specs.Prelude.{◌≡◌, ℕ, ◌+◌, ◌-◌, ◌*◌, ◌==◌, ◌≤◌, ◌||◌, nat_lt, Bool, true, false, not, if◌then◌else◌, List, length, drop, slice_set, Option, Some, None, is_some, Result, Ok, Err, MatchOption}
 use Rattle.std.specs.List.{list_all}
+use Rattle.std.specs.declared.alloc.Global.{Global}
+use Rattle.vhost_calls.specs.Codes.{code_of_offer}
+use Rattle.vhost_calls.specs.Values.{offer_of}
+use Rattle.vhost_calls.specs.declared.values.VhostOffer.{VhostOffer}
 use Rattle.vhost_message.specs.Header.{header_in}
 use Rattle.vhost_message.specs.declared.regions.MemoryRegion.{MemoryRegion}
-use Rattle.vhost_user.specs.Connection.{Connection}
+use Rattle.vhost_user.specs.Connection.{Connection, can_offer}
 use Rattle.vhost_user.specs.Log.{log_kept, logged}
-use Rattle.vhost_backend.specs.BlockBackend.{answered, came, hung_up, mapped, region_at, resized}
-use Rattle.vhost_backend.specs.ConnectionMemory.{MemoryState, with_pages}
+use Rattle.vhost_user.specs.declared.backend_req_handler.Offer.{Offer}
+use Rattle.vhost_user.specs.declared.backend_req_handler.OfferError.{OfferError}
+use Rattle.vhost_user.specs.declared.backend_req_handler.OfferError.TheVariants.{Invalid, Memory}
+use Rattle.vhost_backend.specs.BlockBackend.{answered, came, hung_up, mapped, new_block_backend, region_at}
+use Rattle.vhost_backend.specs.ConnectionMemory.{MemoryState, no_memory, with_pages}
 use Rattle.vhost_backend.specs.PageList.{capped}
 use Rattle.vhost_backend.specs.declared.block.BlockStep.{BlockStep}
 use Rattle.vhost_backend.specs.declared.block.BlockStep.TheVariants as step
 use Rattle.vhost_backend.specs.declared.block_backend.BlockBackend.{BlockBackend}
-use Rattle.vhost_backend.specs.declared.deeds.Why.TheVariants.{HungUp, Log}
 use Rattle.vhost_backend.specs.declared.block_connection.BlockConnection.{BlockConnection}
+use Rattle.vhost_backend.specs.declared.block_connection.BlockDisk.{BlockDisk}
+use Rattle.vhost_backend.specs.declared.deeds.Limits.{Limits}
+use Rattle.vhost_backend.specs.declared.deeds.Why.TheVariants.{HungUp, Log}
+
+-- ---- new ones
+
+-- what requests are held against
+abbrev pub limits_of : BlockDisk → Limits
+limits_of disk = record {
+  sectors = disk.sectors;
+  read_only = not (disk.read_only == 0);
+  seg_max = disk.seg_max;
+  size_max = disk.size_max;
+  unread = disk.unread;
+}
+
+-- one with nothing negotiated, without memory
+abbrev pub new_connection : Global → Offer → ℕ → List ℕ → Limits → BlockConnection
+new_connection alloc offer count config limits = record {
+  backend = new_block_backend alloc offer count config limits;
+  memory = no_memory;
+  part = None;
+  lost = None;
+  marks = false;
+}
+
+-- it is made, or nothing like it can be offered, or an allocation failed
+abbrev pub Connects : Global → Offer → ℕ → List ℕ → Limits → Result BlockConnection OfferError → Type 0
+Connects alloc offer count config limits (Ok c) =
+    (can_offer offer count config ≡ true) × (c ≡ new_connection alloc offer count config limits)
+Connects alloc offer count config limits (Err Invalid) = can_offer offer count config ≡ false
+Connects alloc offer count config limits (Err Memory) = can_offer offer count config ≡ true
+
+abbrev pub Opens : Global → VhostOffer → List ℕ → BlockDisk → Result BlockConnection ℕ → Type 0
+Opens alloc offer config disk (Ok c) =
+    Connects alloc (offer_of offer) offer.queues config (limits_of disk) (Ok c)
+Opens alloc offer config disk (Err code) = (e : OfferError)
+    × Connects alloc (offer_of offer) offer.queues config (limits_of disk) (Err e) × (code ≡ code_of_offer e)
+
+-- ---- parts of one
 
 abbrev pub with_backend : BlockConnection → BlockBackend → BlockConnection
 with_backend c w = record c { backend = w }

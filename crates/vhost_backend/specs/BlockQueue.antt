@@ -1,5 +1,5 @@
 -- The queue of a ring of a block device: what a pop and a return do, step by step, and what they leave.
-use Rattle.std.specs.Prelude.{◌≡◌, ◌⊎◌, ℕ, ◌<◌, ◌^◌, Bool, true, false, not, ◌&&◌, nat_lt, if◌then◌else◌, List, [], ◌∷◌, length, replicate, slice_get, slice_index_or, slice_set, Option, Some, None, is_some, Result, Ok, Err, MatchBool, MatchOption, MatchResult}
+use Rattle.std.specs.Prelude.{◌≡◌, ◌⊎◌, ℕ, ◌<◌, ◌^◌, Bool, true, false, not, ◌&&◌, nat_le, nat_lt, if◌then◌else◌, List, [], ◌∷◌, length, replicate, slice_get, slice_index_or, slice_set, Option, Some, None, is_some, Result, Ok, Err, MatchBool, MatchOption, MatchResult}
 use Rattle.vm_memory_guest.specs.declared.region.error.GuestMemoryError.{GuestMemoryError}
 use Rattle.vm_memory_device.specs.declared.chain.Segment.{Segment}
 use Rattle.virtio_queue.specs.Any.{after_used, past}
@@ -16,6 +16,8 @@ use Rattle.vhost_backend.specs.Ring.{RingState, Step}
 use Rattle.vhost_backend.specs.RingMemory.{MemoryStep, Returned, adds_used, begins, enables, finishes, pops}
 use Rattle.vhost_backend.specs.Story.{busy, of_id, returned}
 use Rattle.vhost_backend.specs.declared.block_queue.Asked.{Asked}
+use Rattle.vhost_backend.specs.declared.block_queue.Finished.{Finished}
+use Rattle.vhost_backend.specs.declared.block_queue.Finished.TheVariants as finished
 use Rattle.vhost_backend.specs.declared.block_queue.GiveBack.{GiveBack}
 use Rattle.vhost_backend.specs.declared.block_queue.GiveBack.TheVariants as back
 use Rattle.vhost_backend.specs.declared.block_queue.Pop.{Pop}
@@ -49,9 +51,10 @@ has_place q id = nat_lt id (length q.asked) && not (is_some (asked_at q id))
 abbrev pub AllShort : List (Option Asked) → Type 0
 AllShort asked = (i : ℕ) (a : Asked) → slice_get asked i ≡ Some (Some a) → Short a.request
 
--- one with more data than a chain can have is refused
-abbrev pub shortened : Request → Request
-shortened request = if nat_lt (len_of request) (2 ^ 32) then request else Refused 1
+-- one with more data than a chain can have, or with more segments than there may be, is refused
+abbrev pub shortened : ℕ → ℕ → Request → Request
+shortened most segments request =
+    if nat_lt (len_of request) (2 ^ 32) && nat_le segments most then request else Refused 1
 
 -- ---- pops
 
@@ -72,7 +75,7 @@ popped buffer request = pop.Chain (chain_by buffer) (block_parts request) (len_o
 -- what a chain that was popped leaves: its request is under way. If its header was not read, it is the next one again
 abbrev pub begun : AnyQueue → BlockQueueState → PackedBuffer → List Segment → Result Request GuestMemoryError
     → Pop × BlockQueueState
-begun back q buffer chain (Ok request) = let short = shortened request in
+begun back q buffer chain (Ok request) = let short = shortened (length q.asked) (length chain) request in
     (popped buffer short, with_asked q buffer.id (Some (record { chain = chain; request = short })))
 begun back q buffer chain (Err e) = (pop.Later, with_queue q back)
 
@@ -139,20 +142,25 @@ module _ {H : Type 0} (step : H → (s : MemoryStep) → Returned s → H → Ty
   HappensNext terms q old a q' new = (found : Pop) × (mid_q : BlockQueueState) × (mid : H)
       × Pops terms q old found mid_q mid × AfterPop terms found mid_q mid a q' new
 
-  -- a chain is returned after the pages that its request may have changed were marked. Then those of the ring are marked
-  abbrev pub Publishes : AnyQueue → List Segment → PackedBuffer → ℕ → H → GiveBack → AnyQueue → H → Type 0
-  Publishes q chain buffer len old a q' new = (marked : H) × Marks step (chain_marks chain) old marked
-      × ((r : Result (Unit {0}) QueueError) × (stored : H) × step marked (adds_used q buffer len) r stored
-      × Marks step (return_marks q) stored new × (a ≡ gave r) × (q' ≡ after_used q buffer r))
+  -- a request is over: its status is written, and then the pages that it may have changed are marked. If an allocation
+  -- fails, the request is forgotten
+  abbrev pub FinishesRequest : BlockQueueState → Chain → ℕ → Bool → H → Finished → BlockQueueState → H → Type 0
+  FinishesRequest q chain moved failed old r q' new = MatchOption (asked_at q chain.id)
+      ((r ≡ finished.NotUnderWay) × (q' ≡ q) × (new ≡ old))
+      (λ asked. (w : Result ℕ GuestMemoryError) × (mid : H) × step old (finishes asked.chain
+      (status_of asked.request failed) (written_of asked.request moved)) w mid
+      × MatchResult w (λ len. (r ≡ finished.Done len) × (q' ≡ q) × Marks step (chain_marks asked.chain) mid new)
+      (λ e. (r ≡ finished.Forgotten) × (q' ≡ with_asked q chain.id None) × (new ≡ mid)))
 
-  -- a request is over: its status is written, and then its chain is returned
-  abbrev pub GivesBack : BlockQueueState → Chain → ℕ → Bool → H → GiveBack → BlockQueueState → H → Type 0
-  GivesBack q chain moved failed old a q' new = MatchOption (asked_at q chain.id)
-      ((a ≡ back.NotUnderWay) × (q' ≡ q) × (new ≡ old))
-      (λ asked. (r : Result ℕ GuestMemoryError) × (mid : H) × step old (finishes asked.chain
-      (status_of asked.request failed) (written_of asked.request moved)) r mid
-      × MatchResult r (λ len. Publishes q.queue asked.chain (buffer_by chain) len mid a q'.queue new
-      × (q'.asked ≡ slice_set q.asked chain.id None)) (λ e. (a ≡ back.Later) × (q' ≡ q) × (new ≡ mid)))
+  -- a chain is returned, and then the pages of its ring are marked
+  abbrev pub Publishes : AnyQueue → PackedBuffer → ℕ → H → GiveBack → AnyQueue → H → Type 0
+  Publishes q buffer len old a q' new = (r : Result (Unit {0}) QueueError) × (stored : H)
+      × step old (adds_used q buffer len) r stored
+      × Marks step (return_marks q) stored new × (a ≡ gave r) × (q' ≡ after_used q buffer r)
+
+  abbrev pub GivesBack : BlockQueueState → Chain → ℕ → H → GiveBack → BlockQueueState → H → Type 0
+  GivesBack q chain len old a q' new = Publishes q.queue (buffer_by chain) len old a q'.queue new
+      × (q'.asked ≡ slice_set q.asked chain.id None)
 
 -- ---- beside the state machine
 

@@ -1,14 +1,17 @@
 -- The queues of a block device's rings: what is done for one of them, step by step, and what it leaves.
-use Rattle.std.specs.Prelude.{◌≡◌, ℕ, ◌-◌, ◌&&◌, nat_le, nat_lt, Bool, true, false, if◌then◌else◌, List, replicate, slice_get, slice_set, Option, Some, None, Result, Ok, Err, MatchBool, MatchOption, option_map}
+use Rattle.std.specs.Prelude.{◌≡◌, ℕ, ◌&&◌, nat_le, nat_lt, Bool, true, false, if◌then◌else◌, List, replicate, slice_get, slice_set, Option, Some, None, Result, Ok, Err, MatchOption, option_map}
+use Rattle.vm_memory_device.specs.declared.chain.Segment.{Segment}
 use Rattle.virtio_blk.specs.declared.request.Request.{Request}
 use Rattle.virtio_blk.specs.declared.request.DeviceLimits.{DeviceLimits}
 use Rattle.virtio_queue.specs.Any.{after_asked, with_ready}
+use Rattle.virtio_queue.specs.Packed as packed
 use Rattle.virtio_queue.specs.declared.any.AnyQueue.{AnyQueue}
+use Rattle.virtio_queue.specs.declared.any.AnyQueue.TheVariants.{Packed}
 use Rattle.virtio_queue.specs.declared.error.QueueError.{QueueError}
 use Rattle.vhost_user.specs.declared.vring.RunningVring.{RunningVring}
 use Rattle.vhost_backend.specs.Backend.{BackendState}
 use Rattle.vhost_backend.specs.Block.{block_parts, block_step}
-use Rattle.vhost_backend.specs.BlockQueue.{BlockQueueState, GivesBack, asked_at, new_queue, with_queue}
+use Rattle.vhost_backend.specs.BlockQueue.{BlockQueueState, FinishesRequest, GivesBack, asked_at, new_queue, with_queue}
 use Rattle.vhost_backend.specs.BlockTurn.{TakesStep}
 use Rattle.vhost_backend.specs.RingMemory.{MemoryStep, Returned, needs}
 use Rattle.vhost_backend.specs.SetUp.{Fresh, base_of, is_set_up, moved_queue}
@@ -16,13 +19,19 @@ use Rattle.vhost_backend.specs.declared.backend.Finish.{Finish}
 use Rattle.vhost_backend.specs.declared.backend.Finish.TheVariants.{Done, At}
 use Rattle.vhost_backend.specs.declared.backend.Todo.{Todo}
 use Rattle.vhost_backend.specs.declared.block.BlockStep.{BlockStep}
+use Rattle.vhost_backend.specs.declared.block_queue.Finished.{Finished}
+use Rattle.vhost_backend.specs.declared.block_queue.Finished.TheVariants.{NotUnderWay}
 use Rattle.vhost_backend.specs.declared.block_queue.GiveBack.{GiveBack}
 use Rattle.vhost_backend.specs.declared.block_queue.GiveBack.TheVariants as back
 use Rattle.vhost_backend.specs.declared.block_queues.Reached.{Reached}
-use Rattle.vhost_backend.specs.declared.block_queues.Reached.TheVariants.{Fine, Broken, Memory}
+use Rattle.vhost_backend.specs.declared.block_queues.Reached.TheVariants.{Fine, Broken}
 use Rattle.vhost_backend.specs.declared.request.Chain.{Chain}
 
 -- ---- without memory
+
+-- queues that nobody has set up: so many, of a greatest size
+abbrev pub new_queues : ℕ → ℕ → List BlockQueueState
+new_queues count max_size = replicate count (new_queue (Packed (packed.new_queue max_size)) max_size)
 
 -- the request with an id that is under way in a queue
 abbrev pub request_of : BlockQueueState → ℕ → Option Request
@@ -37,6 +46,11 @@ part_at left (Some request) =
 abbrev pub part_of : ℕ → ℕ → Option BlockQueueState → Option BlockStep
 part_of id left None = None
 part_of id left (Some q) = part_at left (request_of q id)
+
+-- the descriptors of the chain with an id that is under way
+abbrev pub chain_of : ℕ → Option BlockQueueState → Option (List Segment)
+chain_of id None = None
+chain_of id (Some q) = option_map (λ asked. asked.chain) (asked_at q id)
 
 -- the base of a ring that is stopped, if its queue was set up, which it is not from then on
 abbrev pub base_left : BlockQueueState → BlockQueueState × Finish
@@ -55,9 +69,7 @@ placed q (Err e) = (Broken, q)
 
 abbrev pub given_back : GiveBack → Reached
 given_back back.Done = Fine
-given_back back.NotUnderWay = Fine
 given_back (back.Broken e) = Broken
-given_back back.Later = Memory
 
 -- nothing is done for a ring that is not there
 abbrev pub WithQueue : {H T : Type 0} → List BlockQueueState → ℕ → T → H → T → List BlockQueueState → H
@@ -73,10 +85,17 @@ module _ {H : Type 0} (step : H → (s : MemoryStep) → Returned s → H → Ty
   SetsUp q max_size vring features false old r q' new =
       ((r, q') ≡ (if is_set_up q.queue then placed q (moved_queue q.queue vring) else (Fine, q))) × (new ≡ old)
 
+  -- the request of a chain is over
+  abbrev pub Finishes : Chain → ℕ → Bool → H → H → BlockQueueState → Finished → BlockQueueState → Type 0
+  Finishes chain moved failed old new q r q' = FinishesRequest step q chain moved failed old r q' new
+
+  abbrev pub FinishesAt : List BlockQueueState → ℕ → Chain → ℕ → Bool → H → Finished → List BlockQueueState → H → Type 0
+  FinishesAt qs ring chain moved failed old r qs' new =
+      WithQueue qs ring NotUnderWay old r qs' new (Finishes chain moved failed old new)
+
   -- a chain is given back
-  abbrev pub Gives : Chain → ℕ → Bool → H → H → BlockQueueState → Reached → BlockQueueState → Type 0
-  Gives chain moved failed old new q r q' =
-      (a : GiveBack) × GivesBack step q chain moved failed old a q' new × (r ≡ given_back a)
+  abbrev pub Gives : Chain → ℕ → H → H → BlockQueueState → Reached → BlockQueueState → Type 0
+  Gives chain len old new q r q' = (a : GiveBack) × GivesBack step q chain len old a q' new × (r ≡ given_back a)
 
   -- it is asked whether the driver has to be notified
   abbrev pub Asks : H → H → BlockQueueState → Result Bool QueueError → BlockQueueState → Type 0

@@ -9,6 +9,7 @@ pub mod BlockTurn
 pub mod Config
 pub mod ConnectionMemory
 pub mod Examples
+pub mod Given
 pub mod Kicks
 pub mod Line
 pub mod Mapping
@@ -21,7 +22,11 @@ pub mod Ring
 pub mod RingMemory
 pub mod Rings
 pub mod Rows
+pub mod Run
+pub mod RunLaws
+pub mod RunSteps
 pub mod SetUp
+pub mod Sound
 pub mod Story
 pub mod Turns
 pub mod Wanted

@@ -165,7 +165,7 @@ taken_count (x ∷ xs) b = (if is_taken b x then 1 else 0) + taken_count xs (ste
 
 -- how many of them are over: refused, finished, or dropped since the connection ended
 abbrev pub is_refused : Outcome → Bool
-is_refused (Refused e bytes) = true
+is_refused (Refused e h) = true
 is_refused _ = false
 
 abbrev pub is_begun : Taken → Bool

@@ -1,5 +1,5 @@
 -- Pages that were changed, and are to be marked in the log.
-use Rattle.std.specs.Prelude.{ℕ, ◌+◌, ◌-◌, ◌/◌, ◌<◌, ◌≤◌, ◌⊎◌, ◌==◌, min, max, nat_le, Bool, ◌&&◌, ◌||◌, if◌then◌else◌, List, [], ◌∷◌, ◌++◌, length, Option, Some, None, option_to_list}
+use Rattle.std.specs.Prelude.{◌≡◌, ℕ, ◌+◌, ◌-◌, ◌/◌, ◌<◌, ◌≤◌, ◌⊎◌, ◌==◌, min, max, nat_le, Bool, ◌&&◌, ◌||◌, if◌then◌else◌, List, [], ◌∷◌, ◌++◌, length, Option, Some, None, option_to_list, MatchOption}
 use Rattle.vhost_backend.specs.declared.page_list.PageRange.{PageRange}
 use Rattle.vhost_backend.specs.declared.page_list.TheConstants.{RANGES}
 
@@ -63,3 +63,15 @@ InAny page (range ∷ rest) = InRange page range ⊎ InAny page rest
 -- it is to be marked
 abbrev pub IsToMark : ℕ → Pages → Type 0
 IsToMark page l = InAny page (l.others ++ option_to_list l.last)
+
+-- no page is
+abbrev pub NoneToMark : Pages → Type 0
+NoneToMark l = (l.last ≡ None) × (l.others ≡ [])
+
+-- the last range is taken, and the one before it is the last one then
+abbrev pub TakesRange : Pages → PageRange → Pages → Type 0
+TakesRange l range l' =
+    (l.last ≡ Some range) × (l.others ≡ l'.others ++ option_to_list l'.last) × (l'.pages ≡ l.pages)
+
+abbrev pub TakesPages : Pages → Option PageRange → Pages → Type 0
+TakesPages l r l' = MatchOption r (NoneToMark l × (l' ≡ l)) (λ range. TakesRange l range l')

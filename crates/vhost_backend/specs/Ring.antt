@@ -48,6 +48,13 @@ abbrev pub is_broken : Phase → Bool
 is_broken Broken = true
 is_broken _ = false
 
+-- it was started, and was not stopped since
+abbrev pub is_on : Phase → Bool
+is_on Started = true
+is_on Broken = true
+is_on Stopped = false
+is_on Stopping = false
+
 -- whether it may pop chains
 abbrev pub may_run : RingState → Bool
 may_run r = is_started r.phase && r.enabled

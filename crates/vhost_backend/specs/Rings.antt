@@ -4,7 +4,7 @@ use Rattle.std.specs.List.{list_all}
 use Rattle.vhost_backend.specs.Line.{settled, without}
 use Rattle.vhost_backend.specs.Ring.{RingState, Step, after_turn, is_idle, is_stopped, may_run, new_ring, pops, step, wants}
 use Rattle.vhost_backend.specs.declared.ring.RingEvent.{RingEvent}
-use Rattle.vhost_backend.specs.declared.ring.RingEvent.TheVariants.{Popped, Emptied}
+use Rattle.vhost_backend.specs.declared.ring.RingEvent.TheVariants.{Stop, Popped, Emptied}
 use Rattle.vhost_backend.specs.declared.ring.actions.RingAction.{RingAction}
 use Rattle.vhost_backend.specs.declared.rings.Actions.{Actions}
 use Rattle.vhost_backend.specs.declared.rings.Event.{Event}
@@ -78,6 +78,11 @@ abbrev pub left_of : Option Turn → ℕ
 left_of None = 0
 left_of (Some turn) = turn.left
 
+-- whether a ring has the turn, and whether it may pop a chain in it
+abbrev pub has_turn : Option Turn → ℕ → Bool
+has_turn None ring = false
+has_turn (Some turn) ring = turn.ring == ring
+
 abbrev pub is_turn : Option Turn → ℕ → Bool
 is_turn None ring = false
 is_turn (Some turn) ring = turn.ring == ring && (nat_lt 0 turn.left && nat_lt 0 turn.bytes)
@@ -88,15 +93,20 @@ admits turn ring (Popped chain parts bytes) = is_turn turn ring
 admits turn ring Emptied = is_turn turn ring
 admits turn ring _ = true
 
--- what is left of a turn after a chain that asks for some bytes, and after an event
+-- what is left of a turn after a chain that asks for some bytes, if a ring is stopped, and after an event of a ring
 abbrev pub less : Option Turn → ℕ → Option Turn
 less None bytes = None
 less (Some turn) bytes = Some (record turn { left = turn.left - 1; bytes = turn.bytes - bytes })
 
-abbrev pub turn_used : Option Turn → RingEvent → Option Turn
-turn_used turn (Popped chain parts bytes) = less turn bytes
-turn_used turn Emptied = None
-turn_used turn _ = turn
+abbrev pub unless_of : Option Turn → ℕ → Option Turn
+unless_of None ring = None
+unless_of (Some turn) ring = if turn.ring == ring then None else Some turn
+
+abbrev pub turn_used : Option Turn → ℕ → RingEvent → Option Turn
+turn_used turn ring (Popped chain parts bytes) = less turn bytes
+turn_used turn ring Emptied = None
+turn_used turn ring Stop = unless_of turn ring
+turn_used turn ring _ = turn
 
 -- after a step a ring stands in the line while it wants a turn, and a message that waits may be done
 abbrev pub settled_step : RingsState → ℕ → Bool → List RingAction → Happens
@@ -109,7 +119,7 @@ with_step s i t = settled_step (record s { rings = slice_set s.rings i t.0 }) i 
 abbrev pub on_ring : RingsState → ℕ → Option RingState → RingEvent → Happens
 on_ring s i None e = (s, nothing i)
 on_ring s i (Some r) e = if admits s.turn i e
-    then with_step (record s { turn = turn_used s.turn e }) i (step r e) else (s, nothing i)
+    then with_step (record s { turn = turn_used s.turn i e }) i (step r e) else (s, nothing i)
 
 abbrev pub on : RingsState → ℕ → RingEvent → Happens
 on s i e = on_ring s i (slice_get s.rings i) e

@@ -22,6 +22,7 @@ no_action kind = record {
   way = 0;
   count = 0;
   more = 0;
+  left = 0;
   place = 0;
   len = 0;
   guest = 0;
@@ -91,7 +92,7 @@ row_of (deed.Map region descriptor) n = Some (map_row region descriptor)
 row_of deed.Join n = None
 row_of (deed.Log size offset) n = Some (record (no_action 4) { place = offset; len = size })
 row_of (deed.Keep p is) n = Some (keep_row p is)
-row_of (deed.Part ring id part) n = None
+row_of (deed.Part ring id part left) n = None
 row_of (deed.Interrupt ring) n = Some (on_ring 7 ring)
 row_of (deed.Tell ring) n = Some (on_ring 8 ring)
 row_of (deed.Stopped ring) n = Some (on_ring 11 ring)
@@ -111,14 +112,15 @@ place_of_part (step.Write place offset len) = place
 place_of_part step.Flush = 0
 place_of_part (step.Name len) = 0
 
--- N bytes of a part in some pieces, from an offset on
-abbrev pub part_row : ℕ → ℕ → BlockStep → ℕ → ℕ → ℕ → Bool → ActionRow
-part_row ring id part offset n count more = record (no_action 6) {
+-- N bytes of a part in some pieces, from an offset on, after which its request has so many parts
+abbrev pub part_row : ℕ → ℕ → BlockStep → ℕ → ℕ → ℕ → Bool → ℕ → ActionRow
+part_row ring id part offset n count more left = record (no_action 6) {
   ring = number_of ring;
   id = id;
   way = way_of_part part;
   count = number_of count;
   more = flag_of more;
+  left = left;
   place = capped (place_of_part part + offset);
   len = n;
 }

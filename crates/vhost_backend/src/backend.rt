@@ -63,8 +63,8 @@ pub enum Outcome {
     Stays,
     /// It took effect. What it asks for is to be done now, and then it is to be finished.
     Begins,
-    /// It was refused, and changes nothing. These bytes are to be sent, if there are any.
-    Refused(Refusal, Message),
+    /// It was refused, and changes nothing. Its front end is told so, if it asked for that in this header.
+    Refused(Refusal, Header),
 }
 
 /// How a message was done.
@@ -291,17 +291,14 @@ impl Backend {
         if ring >= self.placings.len() || done.actions.is_empty() {
             return None;
         }
-        let placing = self.placings[ring];
+        let fresh = match self.placings[ring] {
+            Placing::Placed => return None,
+            Placing::Moved => false,
+            Placing::Fresh => true,
+        };
         self.placings[ring] = Placing::Placed;
         let vring = self.connection.running(ring as u32);
-        match placing {
-            Placing::Placed => None,
-            Placing::Moved => Some(Place {
-                vring,
-                fresh: false,
-            }),
-            Placing::Fresh => Some(Place { vring, fresh: true }),
-        }
+        Some(Place { vring, fresh })
     }
 
     // What has to be returned before a request takes effect.
@@ -324,8 +321,7 @@ impl Backend {
     fn refuse(&self, header: &Header, refusal: Refusal) -> Todo
         ensures { result ≡ refused self.now header.now refusal }
     {
-        let reply = self.connection.refuse(header);
-        to_do(nothing(0), None, Outcome::Refused(refusal, reply))
+        to_do(nothing(0), None, Outcome::Refused(refusal, *header))
     }
 
     // Whether a message was done, and the ring that it stopped can go on from its base.
@@ -353,7 +349,7 @@ impl Backend {
             Err(refusal) => {
                 self.taken = Taken::Nothing;
                 self.rings.handle(Event::Release);
-                Outcome::Refused(refusal, self.connection.refuse(&header))
+                Outcome::Refused(refusal, header)
             }
         }
     }
@@ -424,8 +420,13 @@ impl Backend {
         }
         let done = self.rings.handle(event);
         let place = self.place(&done);
-        let outcome = self.go_on(&done);
-        to_do(done, place, outcome)
+        match &self.taken {
+            Taken::Waits(..) => {
+                let outcome = self.go_on(&done);
+                to_do(done, place, outcome)
+            }
+            _ => to_do(done, place, Outcome::Stays),
+        }
     }
 
     // A message that waits takes effect if what it waits for was returned.

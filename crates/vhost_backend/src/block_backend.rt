@@ -1,22 +1,22 @@
 //! A back end of a block device: its connection, its rings, and their queues and requests. Events come in, and what is
 //! to be done is given one after another.
-ghost use Rattle.std.specs.Prelude.{◌≡◌, ◌-◌, ◌^◌, ◌<◌, [], true, false, None, slice_set};
-ghost use Rattle.vhost_backend.specs.BlockBackend.{Acts, Looks, Places, SetsUpAt, Steps, TakesTurn, after_reach};
-ghost use Rattle.vhost_backend.specs.BlockBackend.{answered, asked_first, asked_more, came, counted};
-ghost use Rattle.vhost_backend.specs.BlockBackend.{finished_by, gone_on, hung_up, is_done};
-ghost use Rattle.vhost_backend.specs.BlockBackend.{mapped, messaged, notified, region_at, replied, said_last};
-ghost use Rattle.vhost_backend.specs.BlockBackend.{broke_if, stepped_on, terms_of, told};
-ghost use Rattle.vhost_backend.specs.BlockQueues.{part_of};
-ghost use Rattle.vhost_backend.specs.PageList.{capped};
+ghost use Rattle.std.specs.Prelude.{◌≡◌, ◌-◌, ◌^◌, ◌<◌, [], true, false, None, MatchResult, is_some, slice_set};
+ghost use Rattle.vhost_user.specs.Connection.{can_offer};
+ghost use Rattle.vhost_user.specs.declared.backend_req_handler.OfferError.TheVariants.{Invalid, Memory};
+ghost use Rattle.vhost_backend.specs.BlockBackend.{Acts, GivesBackAt, Looks, Places, Returns, SetsUpAt, Steps};
+ghost use Rattle.vhost_backend.specs.BlockBackend.{TakesTurn, after_reach, answered, came, ended_with, finished_by};
+ghost use Rattle.vhost_backend.specs.BlockBackend.{gone_on, hung_up, is_done, mapped, new_block_backend};
+ghost use Rattle.vhost_backend.specs.BlockBackend.{region_at, resized, terms_of, told};
 ghost use Rattle.vhost_backend.specs.Rings.{has_next};
-ghost use Rattle.vhost_backend.specs.BlockBackend.{resized};
-ghost use Rattle.vhost_backend.specs.declared.deeds.Ask.TheVariants as ask;
+
+mod without_memory;
 
 use crate::backend::{Backend, Finish, Next, Outcome, Place, Todo};
 use crate::block::BlockStep;
+use crate::block_queue::Finished;
 use crate::block_queues::{BlockQueues, Reached};
 use crate::deeds::{
-    Ask, Deed, Limits, Made, Why, called_by, is_asked, is_quiet, limit_if, part_deed,
+    Ask, Deed, Limits, Made, Why, called_by, is_asked, is_quiet, limit_if, notified, part_deed,
 };
 use crate::kicks::Kicks;
 use crate::mapping::Mapping;
@@ -24,13 +24,10 @@ use crate::request::{Chain, PartEnd};
 use crate::ring::{RingAction, RingActions, RingEvent};
 use crate::ring_memory::RingMemory;
 use crate::rings::Event;
-use crate::wanted::{Purpose, Wanted};
 use std::alloc::Global;
-use std::mem;
-use vhost_message::{Header, MemoryRegion, Message, Refusal};
+use vhost_message::{Header, MemoryRegion, Message};
 use vhost_user::{Offer, OfferError, RunningVring};
 use virtio_blk::DeviceLimits;
-use virtio_queue::QueueError;
 
 // The features by which a driver keeps the bounds on the length and the number of segments.
 const SIZE_MAX: u64 = 2;
@@ -39,6 +36,16 @@ const SEG_MAX: u64 = 4;
 
 // How many sectors a disk has at most.
 const MOST_SECTORS: u64 = (1 << 55) - 1;
+
+/// A chain whose request was ended, and which is to be returned.
+#[derive(Clone, Copy, Debug)]
+pub struct Returning {
+    /// The number of its ring.
+    pub ring: usize,
+    pub chain: Chain,
+    /// How many bytes were written to it.
+    pub len: u32,
+}
 
 /// The back end's side of a connection, with the queues of its rings and what is left to be done.
 #[derive(Drop)]
@@ -50,6 +57,8 @@ pub struct BlockBackend {
     limits: Limits,
     // What is left of what followed from the last event.
     todo: Todo,
+    // The chain that is to be returned before that goes on.
+    returning: Option<Returning>,
     // The ring of that cannot be reached, and breaks after it.
     broken: bool,
     ask: Ask,
@@ -69,13 +78,20 @@ pub struct BlockBackend {
 
 impl BlockBackend {
     /// A new connection, as from `Backend::new`.
+    ///
+    /// Leaves open: `Memory` for each offer that can be made.
     pub fn new(
         alloc: Global,
         offer: Offer,
         queues: usize,
         config: &[u8],
         limits: Limits,
-    ) -> Result<BlockBackend, OfferError> {
+    ) -> Result<BlockBackend, OfferError>
+        ensures { MatchResult result (λ w. (can_offer offer queues config.now ≡ true)
+            × (w ≡ new_block_backend alloc offer queues config.now limits))
+            (λ e. (e ≡ Invalid → can_offer offer queues config.now ≡ false)
+            × (e ≡ Memory → can_offer offer queues config.now ≡ true)) }
+    {
         let Ok(max_size) = u16::try_from(offer.max_queue_size) else {
             return Err(OfferError::Invalid);
         };
@@ -95,6 +111,7 @@ impl BlockBackend {
                 actions: RingActions::none(),
                 message: Outcome::Stays,
             },
+            returning: None,
             broken: false,
             ask: Ask::Nothing,
             reply: Message::new(),
@@ -138,11 +155,20 @@ impl BlockBackend {
         self.todo.place.is_none()
             && self.todo.actions.is_empty()
             && is_quiet(&self.todo.message)
+            && self.returning.is_none()
             && !self.broken
             && is_asked(self.ask)
             && self.reply.is_empty()
             && self.called.is_none()
             && self.end.is_none()
+    }
+
+    /// Whether the next step returns a chain. What its request may have changed was marked.
+    #[inline]
+    pub fn is_returning(&self) -> bool
+        ensures { result ≡ is_some self.now.returning }
+    {
+        self.returning.is_some()
     }
 
     /// What requests are held against.
@@ -313,7 +339,6 @@ impl BlockBackend {
         match reached {
             Reached::Fine => {}
             Reached::Broken => self.broken = true,
-            Reached::Memory => self.hang_up(Why::Memory),
         }
     }
 
@@ -347,7 +372,18 @@ impl BlockBackend {
         }
     }
 
-    fn give_back<H, D: RingMemory<H>>(
+    // What comes of the end of a request: its chain is to be returned.
+    fn end_with(&mut self, ring: usize, chain: Chain, finished: Finished)
+        ensures { self.new ≡ ended_with self.old ring chain finished }
+    {
+        match finished {
+            Finished::Done(len) => self.returning = Some(Returning { ring, chain, len }),
+            Finished::Forgotten => self.hang_up(Why::Memory),
+            Finished::NotUnderWay => {}
+        }
+    }
+
+    fn end_request<H, D: RingMemory<H>>(
         &mut self,
         mem: &D,
         host: &mut H,
@@ -361,23 +397,21 @@ impl BlockBackend {
             self.new host.new }
         ensures held { D.held mem.now host.new }
     {
-        let reached = self.queues.give_back(mem, host, ring, chain, moved, failed);
-        self.reach(reached);
+        let finished = self.queues.finish(mem, host, ring, chain, moved, failed);
+        self.end_with(ring, chain, finished);
         Made::Again
     }
 
-    // What comes of the question whether a driver is to be interrupted.
-    fn notified(&mut self, ring: usize, asked: Result<bool, QueueError>) -> Made
-        ensures { (self.new, result) ≡ notified self.old ring asked }
+    // Returns the chain whose request was ended.
+    fn give_back<H, D: RingMemory<H>>(&mut self, mem: &D, host: &mut H, returning: Returning)
+        requires { D.held mem.now host.old }
+        ensures gives { GivesBackAt (D.steps mem.now) self.old returning host.old self.new host.new }
+        ensures held { D.held mem.now host.new }
     {
-        match asked {
-            Ok(true) => Made::Deed(Deed::Interrupt(ring)),
-            Ok(false) => Made::Again,
-            Err(_) => {
-                self.broken = true;
-                Made::Again
-            }
-        }
+        let reached = self
+            .queues
+            .give_back(mem, host, returning.ring, returning.chain, returning.len);
+        self.reach(reached);
     }
 
     fn notify<H, D: RingMemory<H>>(&mut self, mem: &D, host: &mut H, ring: usize) -> Made
@@ -385,8 +419,7 @@ impl BlockBackend {
         ensures acts { Acts (D.steps mem.now) self.old ring RingAction.Notify host.old result self.new host.new }
         ensures held { D.held mem.now host.new }
     {
-        let asked = self.queues.needs_notification(mem, host, ring);
-        self.notified(ring, asked)
+        notified(ring, self.queues.needs_notification(mem, host, ring))
     }
 
     // Does what is to be done for a ring, or says what the program is to do.
@@ -403,13 +436,33 @@ impl BlockBackend {
     {
         match action {
             RingAction::Pop => Made::Again,
-            RingAction::Serve(id, left) => part_deed(ring, id, self.queues.part(ring, id, left)),
+            RingAction::Serve(id, left) => {
+                part_deed(ring, id, left, self.queues.part(ring, id, left))
+            }
             RingAction::Return(chain, moved, failed) => {
-                self.give_back(mem, host, ring, chain, moved, failed)
+                self.end_request(mem, host, ring, chain, moved, failed)
             }
             RingAction::Notify => self.notify(mem, host, ring),
             RingAction::Broke => Made::Deed(Deed::Tell(ring)),
             RingAction::Stopped => Made::Deed(Deed::Stopped(ring)),
+        }
+    }
+
+    // Takes the next step, if no queue is to be told where its ring lies: a chain is returned, or something is done.
+    fn step_from<H, D: RingMemory<H>>(&mut self, mem: &D, host: &mut H) -> Made
+        requires { D.held mem.now host.old }
+        ensures steps { Returns (D.steps mem.now) self.old self.old.returning host.old result self.new host.new }
+        ensures held { D.held mem.now host.new }
+    {
+        if let Some(returning) = self.returning {
+            self.returning = None;
+            self.give_back(mem, host, returning);
+            return Made::Again;
+        }
+        let ring = self.todo.ring;
+        match self.todo.actions.take_first() {
+            Some(action) => self.act(mem, host, ring, action),
+            None => self.step_on(),
         }
     }
 
@@ -424,133 +477,7 @@ impl BlockBackend {
             self.place(mem, host, place);
             return Made::Again;
         }
-        let ring = self.todo.ring;
-        match self.todo.actions.take_first() {
-            Some(action) => self.act(mem, host, ring, action),
-            None => self.step_on(),
-        }
-    }
-
-    // ---- what is to be done without memory
-
-    // After all was done for a ring: its message, whether it breaks, and what is asked for.
-    fn step_on(&mut self) -> Made
-        ensures { (self.new, result) ≡ stepped_on self.old }
-    {
-        match mem::replace(&mut self.todo.message, Outcome::Stays) {
-            Outcome::Stays => self.go_further(),
-            outcome => {
-                self.message(outcome);
-                Made::Again
-            }
-        }
-    }
-
-    // What becomes of the message.
-    fn message(&mut self, outcome: Outcome)
-        ensures { self.new ≡ messaged self.old outcome }
-    {
-        match outcome {
-            Outcome::Stays => {}
-            Outcome::Begins => self.ask = Ask::First,
-            Outcome::Refused(refusal, reply) => {
-                self.reply = reply;
-                self.hang_up(Why::Refused(refusal));
-            }
-        }
-    }
-
-    fn go_further(&mut self) -> Made
-        ensures { (self.new, result) ≡ broke_if self.old self.old.broken }
-    {
-        if self.broken {
-            self.broken = false;
-            let ring = self.todo.ring;
-            self.todo = self.backend.handle(Event::Ring(ring, RingEvent::Break));
-            return Made::Again;
-        }
-        match self.ask {
-            Ask::First => self.ask_first(),
-            Ask::Mapped(number) => self.ask_more(number),
-            _ => self.say_last(),
-        }
-    }
-
-    // What a message that took effect asks for first.
-    fn ask_first(&mut self) -> Made
-        ensures { (self.new, result) ≡ asked_first self.old }
-    {
-        match self.backend.wanted() {
-            Wanted::Nothing => {
-                self.ask = Ask::Nothing;
-                Made::Again
-            }
-            Wanted::Memory => {
-                self.ask = Ask::Mapped(1);
-                Made::Deed(Deed::UnmapAll)
-            }
-            Wanted::Log { size, offset } => {
-                self.ask = Ask::Answer;
-                Made::Deed(Deed::Log { size, offset })
-            }
-            Wanted::Descriptor(purpose, is_there) => {
-                self.ask = Ask::Answer;
-                Made::Deed(Deed::Keep(purpose, is_there))
-            }
-            Wanted::Base(ring) => {
-                let end = self.queues.base(ring as usize);
-                self.finish(end);
-                Made::Again
-            }
-            Wanted::Finish => {
-                self.finish(Finish::Done);
-                Made::Again
-            }
-        }
-    }
-
-    fn ask_more(&mut self, number: usize) -> Made
-        ensures { (self.new, result) ≡ asked_more self.old number }
-    {
-        match self.backend.mapping(number) {
-            Some(Mapping::Map(region, descriptor)) => {
-                self.ask = Ask::Region(number);
-                Made::Deed(Deed::Map(region, descriptor))
-            }
-            _ => {
-                self.ask = Ask::Answer;
-                Made::Deed(Deed::Join)
-            }
-        }
-    }
-
-    // What is said to the front end at last.
-    fn say_last(&mut self) -> Made
-        ensures { (self.new, result) ≡ said_last self.old }
-    {
-        if !self.reply.is_empty() {
-            return self.send();
-        }
-        if let Some(ring) = self.called {
-            self.called = None;
-            return Made::Deed(Deed::Interrupt(ring));
-        }
-        if let Some(why) = self.end {
-            self.end = None;
-            return Made::Deed(Deed::End(why));
-        }
-        Made::Idle
-    }
-
-    // The bytes of the reply are sent.
-    fn send(&mut self) -> Made
-        ensures { (self.new, result) ≡ replied self.old }
-    {
-        self.unread = self.unread.saturating_add(self.reply.len());
-        if self.unread > self.limits.unread {
-            self.hang_up(Why::Unread);
-        }
-        Made::Deed(Deed::Send)
+        self.step_from(mem, host)
     }
 
     // ---- rings that were kicked, and turns

@@ -17,10 +17,10 @@ ghost use Rattle.vhost_backend.specs.declared.ring.RingEvent.TheVariants.{Emptie
 
 use crate::ring_memory::RingMemory;
 
-/// Each byte that a request may change lies in a mark that is made before its chain is returned: those of its data, as
+/// Each byte that a request may change lies in a mark that is made after its status was written: those of its data, as
 /// pieces have them, and its status. Each byte that a return or a wait stores to a ring lies in a mark that is made
-/// after it. So [`give_back`](crate::BlockQueue::give_back) and [`next_event`](crate::BlockQueue::next_event) lose no
-/// page.
+/// after it. So [`finish`](crate::BlockQueue::finish), [`give_back`](crate::BlockQueue::give_back) and
+/// [`next_event`](crate::BlockQueue::next_event) lose no page.
 pub fn no_page_is_lost()
     ensures requests { (segments : List Segment) (k : ℕ) (e : Entry) → slice_get (text (writable segments)) k ≡ Some e
         → Covered (chain_marks segments) e.address 1 }

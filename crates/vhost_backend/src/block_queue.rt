@@ -2,7 +2,7 @@
 ghost use Rattle.std.specs.Prelude.{◌≡◌, ◌^◌, ◌<◌, [], ◌∷◌, IfOk, None, false, replicate};
 ghost use Rattle.virtio_queue.specs.Any.{after_asked, at_next, with_ready};
 ghost use Rattle.vhost_backend.specs.Block.{len_of};
-ghost use Rattle.vhost_backend.specs.BlockQueue.{Publishes, event_of, gave, refused, shortened};
+ghost use Rattle.vhost_backend.specs.BlockQueue.{Publishes, buffer_by, event_of, gave, refused, shortened};
 ghost use Rattle.vhost_backend.specs.Marks.{Marks, asking_marks, chain_marks, return_marks, segment_marks};
 ghost use Rattle.vhost_backend.specs.RingMemory.{needs};
 
@@ -37,6 +37,17 @@ pub enum Pop {
     Later,
 }
 
+/// What became of the end of a request.
+#[derive(Clone, Copy, Debug)]
+pub enum Finished {
+    /// Its status was written. Its chain is to be returned with this length.
+    Done(u32),
+    /// An allocation failed: no status was written. The request is forgotten, and its chain is not to be returned.
+    Forgotten,
+    /// No chain of this id is under way.
+    NotUnderWay,
+}
+
 /// What became of a return.
 #[derive(Drop)]
 pub enum GiveBack {
@@ -44,10 +55,6 @@ pub enum GiveBack {
     Done,
     /// The ring cannot be reached: it breaks.
     Broken(QueueError),
-    /// An allocation failed. Nothing changed, and another try may do it.
-    Later,
-    /// No chain of this id is under way.
-    NotUnderWay,
 }
 
 // A queue that was refused for want of memory is tried again. Another error is a fault of its driver.
@@ -81,11 +88,11 @@ fn gave(returned: Result<(), QueueError>) -> GiveBack
     }
 }
 
-// A request whose data are those of one chain.
-fn shortened(request: Request) -> Request
-    ensures { result ≡ shortened request }
+// A request whose data are those of one chain, of which so many segments are no more than there may be.
+fn shortened(request: Request, segments: usize, most: usize) -> Request
+    ensures { result ≡ shortened most segments request }
 {
-    if len_of(request) < 1 << 32 {
+    if len_of(request) < 1 << 32 && segments <= most {
         request
     } else {
         Request::Refused {
@@ -179,24 +186,31 @@ fn mark_asking<H, D: RingMemory<H>>(mem: &D, host: &mut H, queue: &AnyQueue)
     }
 }
 
-// Returns a chain after the pages that its request may have changed were marked, and then marks those of the ring.
+// Returns a chain, and then marks the pages of the ring.
 fn publish<H, D: RingMemory<H>>(
     queue: &mut AnyQueue,
     mem: &D,
     host: &mut H,
-    chain: &Descriptors,
     buffer: PackedBuffer,
     len: u32,
 ) -> GiveBack
     requires { D.held mem.now host.old }
-    ensures publishes { Publishes (D.steps mem.now) queue.old chain.now buffer len host.old result queue.new host.new }
+    ensures publishes { Publishes (D.steps mem.now) queue.old buffer len host.old result queue.new host.new }
     ensures held { D.held mem.now host.new }
 {
-    mark_chain(mem, host, chain);
     let (first, second) = return_marks(queue);
     let returned = mem.add_used(host, queue, buffer, len);
     mark_both(mem, host, first, second);
     gave(returned)
+}
+
+fn buffer_of(chain: Chain) -> PackedBuffer
+    ensures { result ≡ buffer_by chain }
+{
+    PackedBuffer {
+        id: chain.id,
+        slots: chain.slots,
+    }
 }
 
 // Nothing under way, for so many ids.
@@ -230,8 +244,8 @@ impl Model for BlockQueue {
 impl BlockQueue {
     ghost use Rattle.std.specs.Prelude.{IfSome, option_copied, option_map};
     ghost use Rattle.vhost_backend.specs.Block.{Short};
-    ghost use Rattle.vhost_backend.specs.BlockQueue.{Asks, Begins, GivesBack, HappensNext, Pops, Waits, asked_at};
-    ghost use Rattle.vhost_backend.specs.BlockQueue.{has_place, new_queue, with_queue};
+    ghost use Rattle.vhost_backend.specs.BlockQueue.{Asks, Begins, FinishesRequest, GivesBack, HappensNext, Pops};
+    ghost use Rattle.vhost_backend.specs.BlockQueue.{Waits, asked_at, has_place, new_queue, with_asked, with_queue};
 
     /// A queue of which nothing is under way. The ids of its chains are below `ids`.
     pub fn new(alloc: Global, queue: AnyQueue, ids: usize) -> Result<BlockQueue, AllocError>
@@ -319,7 +333,8 @@ impl BlockQueue {
         }
         match mem.begin(host, terms, &chain) {
             Ok(request) => {
-                let request = shortened(request);
+                let count = chain.segments().len();
+                let request = shortened(request, count, self.asked.len());
                 if let Some(place) = self.asked.get_mut(usize::from(buffer.id)) {
                     *place = Some(Asked { chain, request });
                 }
@@ -405,39 +420,62 @@ impl BlockQueue {
         }
     }
 
-    /// Returns a chain whose request is over: writes its status, marks the pages that the request may have changed, and
-    /// then returns it, and marks the pages of the ring.
-    pub fn give_back<H, D: RingMemory<H>>(
+    /// Ends the request of a chain: writes its status, and then marks the pages that the request may have changed. It
+    /// forgets the request if an allocation fails.
+    pub fn finish<H, D: RingMemory<H>>(
         &mut self,
         mem: &D,
         host: &mut H,
         chain: Chain,
         moved: u64,
         failed: bool,
-    ) -> GiveBack
+    ) -> Finished
         requires { D.held mem.now host.old }
-        ensures returns { GivesBack (D.steps mem.now) self.old chain moved failed host.old result self.new host.new }
+        ensures finishes { FinishesRequest (D.steps mem.now) self.old chain moved failed host.old result self.new
+            host.new }
         ensures held { D.held mem.now host.new }
     {
         let Some(Some(asked)) = self.asked.get(usize::from(chain.id)) else {
-            return GiveBack::NotUnderWay;
+            return Finished::NotUnderWay;
         };
         let status = status_of(asked.request, failed);
         let written = written_of(asked.request, moved);
-        let buffer = PackedBuffer {
-            id: chain.id,
-            slots: chain.slots,
-        };
         match mem.finish(host, &asked.chain, status, written as usize) {
             Ok(len) => {
-                let given = publish(&mut self.queue, mem, host, &asked.chain, buffer, len);
-                if let Some(place) = self.asked.get_mut(usize::from(chain.id)) {
-                    *place = None;
-                }
-                given
+                mark_chain(mem, host, &asked.chain);
+                Finished::Done(len)
             }
-            Err(_) => GiveBack::Later,
+            Err(_) => {
+                self.forget(chain.id);
+                Finished::Forgotten
+            }
         }
+    }
+
+    // Forgets the request with an id.
+    fn forget(&mut self, id: u16)
+        ensures { self.new ≡ with_asked self.old id None }
+    {
+        if let Some(place) = self.asked.get_mut(usize::from(id)) {
+            *place = None;
+        }
+    }
+
+    /// Returns a chain whose request was ended, and then marks the pages of the ring.
+    pub fn give_back<H, D: RingMemory<H>>(
+        &mut self,
+        mem: &D,
+        host: &mut H,
+        chain: Chain,
+        len: u32,
+    ) -> GiveBack
+        requires { D.held mem.now host.old }
+        ensures returns { GivesBack (D.steps mem.now) self.old chain len host.old result self.new host.new }
+        ensures held { D.held mem.now host.new }
+    {
+        let given = publish(&mut self.queue, mem, host, buffer_of(chain), len);
+        self.forget(chain.id);
+        given
     }
 
     /// Whether the driver has to be notified of what was returned.

@@ -1,13 +1,16 @@
 //! The queues of a block device's rings.
 ghost use Rattle.std.specs.Prelude.{◌≡◌, ◌^◌, ◌<◌, IfOk, None, Ok, Some, false, option_copied, replicate};
-ghost use Rattle.std.specs.Prelude.{option_map, slice_get};
+ghost use Rattle.std.specs.Prelude.{MatchResult, option_map, slice_get, true};
+ghost use Rattle.virtio_queue.specs.Packed.{is_packed_size};
+ghost use Rattle.vhost_user.specs.declared.backend_req_handler.OfferError.TheVariants.{Invalid, Memory};
 ghost use Rattle.vhost_backend.specs.BlockQueue.{asked_at};
-ghost use Rattle.vhost_backend.specs.BlockQueues.{Asks, Gives, SetsUp, Turns, WithQueue, based, given_back, part_of};
+ghost use Rattle.vhost_backend.specs.BlockQueues.{Asks, FinishesAt, Gives, SetsUp, Turns, WithQueue, based};
+ghost use Rattle.vhost_backend.specs.BlockQueues.{chain_of, given_back, new_queues, part_of};
 ghost use Rattle.vhost_backend.specs.declared.block_queues.Reached.TheVariants.{Fine};
 
 use crate::backend::{Backend, Finish, Todo};
 use crate::block::{BlockStep, block_parts, block_step};
-use crate::block_queue::{BlockQueue, GiveBack};
+use crate::block_queue::{BlockQueue, Finished, GiveBack};
 use crate::request::Chain;
 use crate::ring_memory::RingMemory;
 use crate::set_up::{base_of, fresh_queue, is_set_up, moved_queue, unset_queue};
@@ -26,8 +29,6 @@ pub enum Reached {
     Fine,
     /// The ring cannot be reached: it breaks.
     Broken,
-    /// An allocation failed.
-    Memory,
 }
 
 /// The queues of the rings, each with its requests.
@@ -49,9 +50,8 @@ fn given_back(given: GiveBack) -> Reached
     ensures { result ≡ given_back given }
 {
     match given {
-        GiveBack::Done | GiveBack::NotUnderWay => Reached::Fine,
+        GiveBack::Done => Reached::Fine,
         GiveBack::Broken(_) => Reached::Broken,
-        GiveBack::Later => Reached::Memory,
     }
 }
 
@@ -87,7 +87,11 @@ fn set_up<H, D: RingMemory<H>>(
 }
 
 // Queues that nobody has set up.
-fn unset_queues(alloc: Global, count: usize, max_size: u16) -> Result<Vec<BlockQueue>, OfferError> {
+fn unset_queues(alloc: Global, count: usize, max_size: u16) -> Result<Vec<BlockQueue>, OfferError>
+    ensures { MatchResult result (λ queues. (queues.items ≡ new_queues count max_size)
+        × (0 < count → is_packed_size max_size ≡ true))
+        (λ e. (e ≡ Invalid → is_packed_size max_size ≡ false) × (e ≡ Memory → is_packed_size max_size ≡ true)) }
+{
     let mut queues = Vec::new(alloc);
     for _made in 0..count {
         let Ok(queue) = unset_queue(max_size) else {
@@ -105,7 +109,14 @@ fn unset_queues(alloc: Global, count: usize, max_size: u16) -> Result<Vec<BlockQ
 
 impl BlockQueues {
     /// Queues that nobody has set up, so many, of this greatest size.
-    pub fn new(alloc: Global, count: usize, max_size: u16) -> Result<BlockQueues, OfferError> {
+    ///
+    /// Leaves open: `Memory` for each size that queues can have.
+    pub fn new(alloc: Global, count: usize, max_size: u16) -> Result<BlockQueues, OfferError>
+        ensures { MatchResult result (λ queues. (queues ≡ new_queues count max_size)
+            × (0 < count → is_packed_size max_size ≡ true))
+            (λ e. (e ≡ Invalid → is_packed_size max_size ≡ false)
+            × (e ≡ Memory → is_packed_size max_size ≡ true)) }
+    {
         let queues = unset_queues(alloc, count, max_size)?;
         Ok(BlockQueues { queues })
     }
@@ -124,7 +135,9 @@ impl BlockQueues {
     }
 
     /// The chain with an id that is under way.
-    pub fn chain(&self, ring: usize, id: u16) -> Option<&Descriptors> {
+    pub fn chain(&self, ring: usize, id: u16) -> Option<&Descriptors>
+        ensures { option_copied result ≡ chain_of id (slice_get self.now ring) }
+    {
         match self.queues.get(ring) {
             Some(queue) => queue.chain(id),
             None => None,
@@ -168,8 +181,8 @@ impl BlockQueues {
         }
     }
 
-    /// Returns a chain of a ring, whose request is over.
-    pub fn give_back<H, D: RingMemory<H>>(
+    /// Ends the request of a chain of a ring, as `BlockQueue::finish`.
+    pub fn finish<H, D: RingMemory<H>>(
         &mut self,
         mem: &D,
         host: &mut H,
@@ -177,14 +190,34 @@ impl BlockQueues {
         chain: Chain,
         moved: u64,
         failed: bool,
-    ) -> Reached
+    ) -> Finished
         requires { D.held mem.now host.old }
-        ensures gives { WithQueue self.old ring Fine host.old result self.new host.new
-            (Gives (D.steps mem.now) chain moved failed host.old host.new) }
+        ensures finishes { FinishesAt (D.steps mem.now) self.old ring chain moved failed host.old result self.new
+            host.new }
         ensures held { D.held mem.now host.new }
     {
         match self.queues.get_mut(ring) {
-            Some(queue) => given_back(queue.give_back(mem, host, chain, moved, failed)),
+            Some(queue) => queue.finish(mem, host, chain, moved, failed),
+            None => Finished::NotUnderWay,
+        }
+    }
+
+    /// Returns a chain of a ring, whose request was ended.
+    pub fn give_back<H, D: RingMemory<H>>(
+        &mut self,
+        mem: &D,
+        host: &mut H,
+        ring: usize,
+        chain: Chain,
+        len: u32,
+    ) -> Reached
+        requires { D.held mem.now host.old }
+        ensures gives { WithQueue self.old ring Fine host.old result self.new host.new
+            (Gives (D.steps mem.now) chain len host.old host.new) }
+        ensures held { D.held mem.now host.new }
+    {
+        match self.queues.get_mut(ring) {
+            Some(queue) => given_back(queue.give_back(mem, host, chain, len)),
             None => Reached::Fine,
         }
     }

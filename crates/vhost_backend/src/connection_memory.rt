@@ -1,8 +1,13 @@
 //! The guest memory of a connection: regions over blocks at places of the program's.
 ghost use Rattle.std.specs.Prelude.{◌≡◌, ◌<◌, ◌≤◌, ◌^◌, [], length, IfOk, IfSome};
 ghost use Rattle.vm_memory_guest.specs.BlockBytes.{bytes_of};
+ghost use Rattle.vm_memory_guest.specs.Layout.{inserted};
+ghost use Rattle.vm_memory_guest.specs.Mmap.{PlacedBlock, mmap_region};
 ghost use Rattle.vhost_backend.specs.BlockBackend.{Looks, Steps};
-ghost use Rattle.vhost_backend.specs.ConnectionMemory.{memory_step, no_memory, with_pages};
+ghost use Rattle.vhost_backend.specs.ConnectionMemory.{IsBlockAt, Joins, LiesOver, Maps, block_of, forgotten};
+ghost use Rattle.vhost_backend.specs.ConnectionMemory.{memory_step, no_memory};
+ghost use Rattle.vhost_backend.specs.ConnectionMemory.{place_of, with_pages};
+ghost use Rattle.vhost_backend.specs.PageList.{TakesPages};
 
 use crate::block_backend::BlockBackend;
 use crate::deeds::Made;
@@ -31,7 +36,9 @@ pub struct RegionPiece {
 }
 
 // The number of the block that a bitmap belongs to.
-fn block_of(id: BitmapId) -> usize {
+fn block_of(id: BitmapId) -> usize
+    ensures { result ≡ block_of id }
+{
     match id {
         BitmapId::Block(block) | BitmapId::Space(block) => block,
     }
@@ -44,7 +51,10 @@ fn with_region(
     layout: &GuestMemoryMmap,
     number: usize,
     base: GuestAddress,
-) -> Option<GuestMemoryMmap> {
+) -> Option<GuestMemoryMmap>
+    ensures { IfSome result (λ new. (r : PlacedBlock) × IsBlockAt host.now number base.0 r
+        × (new ≡ inserted mmap_region layout.now r)) }
+{
     let mapping = MmapRegion::of_block(host, BlockId(number))?;
     let region = GuestRegionMmap::new(mapping, base)?;
     match Arc::new(alloc, region) {
@@ -61,7 +71,9 @@ fn layout_of(
     alloc: Global,
     host: &HostMemory<()>,
     regions: &[MemoryRegion],
-) -> Option<GuestMemoryMmap> {
+) -> Option<GuestMemoryMmap>
+    ensures { IfSome result (λ new. LiesOver host.now 0 [] regions.now new) }
+{
     let mut layout = GuestMemoryMmap::new(alloc);
     for number in 0..regions.len() {
         layout = with_region(alloc, host, &layout, number, regions[number].guest_address)?;
@@ -124,7 +136,9 @@ impl ConnectionMemory {
     }
 
     /// Forgets all regions, and the bytes that they have.
-    pub fn forget(&mut self) {
+    pub fn forget(&mut self)
+        ensures { self.new ≡ forgotten self.old }
+    {
         self.layout = GuestMemoryMmap::new(self.alloc);
         self.logged.host = HostMemory::new(self.alloc);
     }
@@ -135,6 +149,7 @@ impl ConnectionMemory {
         requires small { length (bytes_of bytes) < 2 ^ 63 }
         ensures layout { self.new.layout ≡ self.old.layout }
         ensures pages { self.new.logged.pages ≡ self.old.logged.pages }
+        ensures maps { Maps self.old (bytes_of bytes) result self.new }
     {
         if bytes.len() as u64 != region.size {
             return false;
@@ -148,7 +163,7 @@ impl ConnectionMemory {
     /// Makes guest memory of these regions, each of the bytes that came with its number. Returns whether that could be
     /// done.
     pub fn join(&mut self, regions: &[MemoryRegion]) -> bool
-        ensures { self.new.logged ≡ self.old.logged }
+        ensures { Joins self.old regions.now result self.new }
     {
         let Some(layout) = layout_of(self.alloc, &self.logged.host, regions) else {
             return false;
@@ -169,7 +184,7 @@ impl ConnectionMemory {
 
     /// Takes pages that are to be marked, if there are any.
     pub fn take_pages(&mut self) -> Option<PageRange>
-        ensures last { result ≡ self.old.logged.pages.last }
+        ensures pages { TakesPages self.old.logged.pages result self.new.logged.pages }
         ensures others { self.new ≡ with_pages self.old self.new.logged.pages }
     {
         self.logged.pages.take()
@@ -177,7 +192,7 @@ impl ConnectionMemory {
 
     /// The first bytes of a piece, as far as they lie in one region. `None` if its first byte lies in none.
     pub fn place_of(&self, piece: Piece) -> Option<RegionPiece>
-        ensures { IfSome result (λ p. p.len ≤ piece.len) }
+        ensures { result ≡ place_of self.now piece }
     {
         let address = piece.base.checked_add(piece.offset)?;
         let (region, at) = self.layout.to_region_addr(GuestAddress(address))?;

@@ -1,11 +1,12 @@
 //! What a block device's back end has the program do, step by step, and why it ends.
 ghost use Rattle.std.specs.Prelude.{◌≡◌};
-ghost use Rattle.vhost_backend.specs.BlockBackend.{called_by, is_asked, is_quiet, limit_if, part_deed};
+ghost use Rattle.vhost_backend.specs.BlockBackend.{called_by, is_asked, is_quiet, limit_if, notified, part_deed};
 
 use crate::backend::Outcome;
 use crate::block::BlockStep;
 use crate::wanted::{Purpose, Wanted};
 use vhost_message::{MemoryRegion, Refusal};
+use virtio_queue::QueueError;
 
 /// What requests are held against, and how many bytes of replies may wait.
 #[derive(Clone, Copy, Debug, PartialEq, Eq)]
@@ -54,8 +55,8 @@ pub enum Deed {
     Log { size: u64, offset: u64 },
     /// A descriptor is kept for a purpose, or none is. It is told whether that was done.
     Keep(Purpose, bool),
-    /// A part of the request of a ring with this id is served.
-    Part(usize, u16, BlockStep),
+    /// A part of the request of a ring with this id is served, after which it has so many.
+    Part(usize, u16, BlockStep, u32),
     /// The driver of a ring is interrupted.
     Interrupt(usize),
     /// The front end is told that a ring broke.
@@ -116,12 +117,22 @@ pub(crate) fn is_asked(ask: Ask) -> bool
     }
 }
 
-pub(crate) fn part_deed(ring: usize, id: u16, part: Option<BlockStep>) -> Made
-    ensures { result ≡ part_deed ring id part }
+pub(crate) fn part_deed(ring: usize, id: u16, left: u32, part: Option<BlockStep>) -> Made
+    ensures { result ≡ part_deed ring id left part }
 {
     match part {
-        Some(part) => Made::Deed(Deed::Part(ring, id, part)),
+        Some(part) => Made::Deed(Deed::Part(ring, id, part, left.saturating_sub(1))),
         None => Made::Again,
+    }
+}
+
+// A driver is interrupted unless it asks not to be: also if that cannot be read.
+pub(crate) fn notified(ring: usize, asked: Result<bool, QueueError>) -> Made
+    ensures { result ≡ notified ring asked }
+{
+    match asked {
+        Ok(false) => Made::Again,
+        _ => Made::Deed(Deed::Interrupt(ring)),
     }
 }
 

@@ -12,8 +12,8 @@ ghost use Rattle.vhost_backend.specs.declared.backend.Finish.TheVariants.{At};
 ghost use Rattle.vhost_backend.specs.declared.backend.Next.TheVariants.{Messages};
 ghost use Rattle.vhost_backend.specs.declared.backend.Outcome.TheVariants.{Begins, Stays};
 ghost use Rattle.vhost_backend.specs.declared.request.PartEnd.TheVariants.{Failed, Moved};
-ghost use Rattle.vhost_backend.specs.declared.ring.RingEvent.TheVariants.{Emptied, Enable, Ended, Kick, Popped, Start};
-ghost use Rattle.vhost_backend.specs.declared.ring.RingEvent.TheVariants.{Stop};
+ghost use Rattle.vhost_backend.specs.declared.ring.RingEvent.TheVariants.{Break, Emptied, Enable, Ended, Kick, Popped};
+ghost use Rattle.vhost_backend.specs.declared.ring.RingEvent.TheVariants.{Start, Stop};
 ghost use Rattle.vhost_backend.specs.declared.ring.actions.RingAction.TheVariants as action;
 ghost use Rattle.vhost_backend.specs.declared.rings.Event.TheVariants as event;
 
@@ -50,6 +50,13 @@ pub fn two_rings_take_turns()
     ensures { turns (event.Ring 0 Start ∷ event.Ring 0 (Enable true) ∷ event.Ring 1 Start ∷ event.Ring 1 (Enable true)
         ∷ event.GoOn ∷ event.GoOn ∷ event.GoOn ∷ event.Ring 0 Emptied ∷ event.GoOn ∷ event.GoOn ∷ event.Ring 0 Kick
         ∷ event.GoOn ∷ event.GoOn ∷ []) (new_rings 2 4) ≡ 0 ∷ 1 ∷ 0 ∷ 1 ∷ 1 ∷ 1 ∷ 0 ∷ [] }
+{}
+
+/// A ring that breaks in its turn, is stopped and is started again pops nothing before its next turn.
+pub fn a_stop_ends_a_turn()
+    ensures { turn.popped (event.Ring 0 Start ∷ event.Ring 0 (Enable true) ∷ event.GoOn ∷ event.Ring 0 Break
+        ∷ event.Ring 0 Stop ∷ event.Ring 0 Start ∷ event.Ring 0 (Popped (record { id = 0; slots = 1 }) 1 512)
+        ∷ event.GoOn ∷ event.Ring 0 (Popped (record { id = 1; slots = 1 }) 1 1024) ∷ []) (new_rings 1 4) ≡ 1024 ∷ [] }
 {}
 
 /// A turn is over after a chain that asks for 1 MiB, and a ring pops nothing in the turn of another one.

@@ -1,12 +1,14 @@
 //! What a run gives of a part of a request, as far as there is room: its pieces, and rows and bytes.
-ghost use Rattle.std.specs.Prelude.{◌≡◌, ◌<◌, ◌^◌};
+ghost use Rattle.std.specs.Prelude.{◌≡◌, ◌+◌, ◌<◌, ◌≤◌, ◌^◌, [], ◌∷◌, length, IfSome};
 ghost use Rattle.vhost_user.specs.Log.{log_kept};
 ghost use Rattle.vhost_backend.specs.BlockConnection.{bytes_in, is_covered, pages_in};
+ghost use Rattle.vhost_backend.specs.Given.{Lies, Puts, PutsPart, PutsPiece, len_of_part, place_from};
+ghost use Rattle.vhost_backend.specs.Given.{is_left, no_counts, part_action, rest_of};
 
 use crate::block::BlockStep;
 use crate::connection_memory::{ConnectionMemory, RegionPiece};
 use crate::pieces::piece_from;
-use crate::rows::{ActionRow, Counts, PieceRow};
+use crate::rows::{ActionRow, Counts, PieceRow, part_row};
 use vhost_user::{BackendReqHandler, VHOST_F_LOG_ALL};
 use vm_memory_device::Chain;
 
@@ -19,6 +21,8 @@ pub(crate) struct OpenPart {
     pub(crate) ring: usize,
     pub(crate) id: u16,
     pub(crate) step: BlockStep,
+    // How many parts its request has after it.
+    pub(crate) left: u32,
     // How many of its bytes were given.
     pub(crate) given: u32,
 }
@@ -34,7 +38,9 @@ pub(crate) enum Given {
     Full,
 }
 
-pub(crate) fn no_counts() -> Counts {
+pub(crate) fn no_counts() -> Counts
+    ensures { result ≡ no_counts }
+{
     Counts {
         ends: 0,
         actions: 0,
@@ -97,35 +103,65 @@ pub(crate) fn place_in(
     chain: &Chain,
     step: BlockStep,
     given: u32,
-) -> Option<RegionPiece> {
+) -> Option<RegionPiece>
+    requires { given < len_of_part step }
+    ensures place { result ≡ place_from memory.now chain.now step given }
+    ensures some { IfSome result (λ p. (0 < p.len) × (given + p.len ≤ len_of_part step)) }
+{
     let (writable, from, len) = bytes_of(step);
-    let left = u64::from(len.saturating_sub(given));
-    let piece = piece_from(chain, writable, from + u64::from(given), left)?;
-    let place = memory.place_of(piece)?;
-    if place.len == 0 || place.len > left {
-        return None;
-    }
-    Some(place)
+    let piece = piece_from(
+        chain,
+        writable,
+        from + u64::from(given),
+        u64::from(len - given),
+    )?;
+    memory.place_of(piece)
 }
 
-// How many bytes of a part come before a place and in it.
-pub(crate) fn past(given: u32, place: RegionPiece) -> u32 {
-    match u32::try_from(place.len) {
-        Ok(len) => given.saturating_add(len),
-        Err(_) => u32::MAX,
+// Whether bytes of a part are left after so many were given.
+pub(crate) fn is_left(part: OpenPart, given: u32) -> bool
+    ensures { result ≡ is_left part given }
+{
+    let (_, _, len) = bytes_of(part.step);
+    given < len
+}
+
+// What is left of it then.
+pub(crate) fn rest_of(part: OpenPart, given: u32) -> Option<OpenPart>
+    ensures { result ≡ rest_of part given }
+{
+    if is_left(part, given) {
+        Some(OpenPart { given, ..part })
+    } else {
+        None
     }
+}
+
+// The action for the bytes of a part from where it is, up to so many of them, which lie in so many pieces.
+pub(crate) fn part_action(part: OpenPart, given: u32, count: usize) -> ActionRow
+    ensures { result ≡ part_action part count given }
+{
+    part_row(
+        part.ring,
+        part.id,
+        part.step,
+        part.given,
+        given.saturating_sub(part.given),
+        count,
+        is_left(part, given),
+        part.left,
+    )
 }
 
 // Whether all bytes of a part lie in memory.
-pub(crate) fn lies_in_memory(memory: &ConnectionMemory, chain: &Chain, step: BlockStep) -> bool {
+pub(crate) fn lies_in_memory(memory: &ConnectionMemory, chain: &Chain, step: BlockStep) -> bool
+    ensures { Lies memory.now chain.now step result }
+{
     let (_, _, len) = bytes_of(step);
     let mut given = 0;
-    for _ in 0..len {
-        if given >= len {
-            break;
-        }
+    while given < len {
         match place_in(memory, chain, step, given) {
-            Some(place) => given = past(given, place),
+            Some(place) => given += place.len as u32,
             None => return false,
         }
     }
@@ -133,19 +169,19 @@ pub(crate) fn lies_in_memory(memory: &ConnectionMemory, chain: &Chain, step: Blo
 }
 
 // Puts a row after those that were put, if there is room.
-pub(crate) fn put_piece(pieces: &mut [PieceRow], count: &mut usize, place: RegionPiece) -> bool {
-    match pieces.get_mut(*count) {
-        Some(row) => {
-            *row = PieceRow {
-                region: place.region as u64,
-                offset: place.offset,
-                len: place.len,
-            };
-            *count += 1;
-            true
-        }
-        None => false,
+pub(crate) fn put_piece(pieces: &mut [PieceRow], count: &mut usize, place: RegionPiece) -> bool
+    ensures { PutsPiece pieces.old count.old place result pieces.new count.new }
+{
+    if *count >= pieces.len() {
+        return false;
     }
+    pieces[*count] = PieceRow {
+        region: place.region as u64,
+        offset: place.offset,
+        len: place.len,
+    };
+    *count += 1;
+    true
 }
 
 // Puts the pieces of a part, as far as there is room. Returns how many bytes of it were given by then.
@@ -155,39 +191,38 @@ pub(crate) fn put_pieces(
     part: OpenPart,
     pieces: &mut [PieceRow],
     count: &mut usize,
-) -> u32 {
+) -> u32
+    ensures { PutsPart memory.now chain.now part pieces.old count.old result pieces.new count.new }
+{
     let (_, _, len) = bytes_of(part.step);
     let mut given = part.given;
-    for _ in 0..len {
-        if given >= len {
-            break;
-        }
+    while given < len {
         let Some(place) = place_in(memory, chain, part.step, given) else {
             break;
         };
         if !put_piece(pieces, count, place) {
             break;
         }
-        given = past(given, place);
+        given += place.len as u32;
     }
     given
 }
 
 // Puts a row after those that were put.
-pub(crate) fn put_action(actions: &mut [ActionRow], count: &mut usize, row: ActionRow) {
-    if let Some(place) = actions.get_mut(*count) {
-        *place = row;
-        *count += 1;
-    }
+pub(crate) fn put_action(actions: &mut [ActionRow], count: &mut usize, row: ActionRow)
+    requires { count.old < length actions.old }
+    ensures { Puts actions.old count.old (row ∷ []) actions.new count.new }
+{
+    actions[*count] = row;
+    *count += 1;
 }
 
-// Puts bytes after those that were put. Returns whether there is room.
-pub(crate) fn put_bytes(output: &mut [u8], count: &mut usize, bytes: &[u8]) -> bool {
+// Puts bytes after those that were put.
+pub(crate) fn put_bytes(output: &mut [u8], count: &mut usize, bytes: &[u8])
+    requires { count.old + length bytes.now ≤ length output.old }
+    ensures { Puts output.old count.old bytes.now output.new count.new }
+{
     let from = *count;
-    if from > output.len() || bytes.len() > output.len() - from {
-        return false;
-    }
     output[from..from + bytes.len()].copy_from_slice(bytes);
     *count = from + bytes.len();
-    true
 }

@@ -4,10 +4,10 @@ ghost use Rattle.std.specs.Prelude.{count_by, length, slice_get, sum};
 ghost use Rattle.std.specs.List.{list_all, list_any};
 ghost use Rattle.vhost_backend.specs.Actions.{is_answer};
 ghost use Rattle.vhost_backend.specs.Line.{stands_in};
-ghost use Rattle.vhost_backend.specs.Ring.{RingState, after_end, after_stop, is_idle, is_stopping, may_run, new_ring};
-ghost use Rattle.vhost_backend.specs.Ring.{request_at, wants};
-ghost use Rattle.vhost_backend.specs.Rings.{RingsState, after_hold, all_idle, happens, has_next, is_free, is_waiting};
-ghost use Rattle.vhost_backend.specs.Rings.{left_of, may_pop, new_rings};
+ghost use Rattle.vhost_backend.specs.Ring.{RingState, after_end, after_stop, is_idle, is_on, is_stopping, may_run};
+ghost use Rattle.vhost_backend.specs.Ring.{new_ring, request_at, wants};
+ghost use Rattle.vhost_backend.specs.Rings.{RingsState, after_hold, all_idle, happens, has_next, has_turn, is_free};
+ghost use Rattle.vhost_backend.specs.Rings.{is_waiting, left_of, may_pop, new_rings};
 ghost use Rattle.vhost_backend.specs.Story.{RingStep, actions, after, all_returned_bytes, answers, busy, ends};
 ghost use Rattle.vhost_backend.specs.Story.{failures, has_start, moved, notified, of_id, owing, parts_left, popped};
 ghost use Rattle.vhost_backend.specs.Story.{returned, returned_failed, served, so_far, stepped, stops, taken};
@@ -114,7 +114,8 @@ pub fn each_end_leaves_fewer_parts()
 /// turns. So each law of a ring holds of each of these rings, and what one waits for keeps no other from going on.
 pub fn each_ring_goes_its_own_way()
     ensures becomes { (s : RingsState) (events : List Event) (i : ℕ) (ring : RingState)
-        → slice_get s.rings i ≡ Some ring → slice_get (after_all events s).rings i ≡ Some (after (story_of i events s) ring) }
+        → slice_get s.rings i ≡ Some ring
+        → slice_get (after_all events s).rings i ≡ Some (after (story_of i events s) ring) }
     ensures done { (s : RingsState) (events : List Event) (i : ℕ) (ring : RingState) → slice_get s.rings i ≡ Some ring
         → actions_of i (all_done events s) ≡ actions (story_of i events s) ring }
 {}
@@ -153,6 +154,14 @@ pub fn turns_come_to_an_end()
     ensures emptied { (s : RingsState) (i : ℕ) → may_pop s i ≡ true
         → may_pop (happens s (event.Ring i Emptied)).0 i ≡ false }
     ensures broken { (s : RingsState) (i : ℕ) → may_pop (happens s (event.Ring i Break)).0 i ≡ false }
+{}
+
+/// A ring that has a turn was started, and was not stopped since: a stop ends the turn of its ring. So a ring that is
+/// started again pops nothing before its next turn.
+pub fn a_stop_ends_the_turn()
+    ensures { (count ids : ℕ) (events : List Event) (i : ℕ) (ring : RingState)
+        → let s = after_all events (new_rings count ids) in has_turn s.turn i ≡ true
+        → slice_get s.rings i ≡ Some ring → is_on ring.phase ≡ true }
 {}
 
 /// Until the next turn at most [`TURN`] chains are popped, and all but the last of them ask for fewer bytes than

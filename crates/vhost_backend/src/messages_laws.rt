@@ -111,12 +111,12 @@ pub fn messages_wait_for_what_is_under_way()
 pub fn refused_messages_change_nothing()
     ensures comes { (c : Connection) (ids : ℕ) (xs : List Happening) (h : Header) (payload : List ℕ)
         (descriptors : ℕ)
-        (e : Refusal) (bytes : List ℕ) → let b = after xs (new_backend c ids) in
-        let t = after_message b h payload descriptors in t.1.message ≡ Refused e bytes
+        (e : Refusal) (told : Header) → let b = after xs (new_backend c ids) in
+        let t = after_message b h payload descriptors in t.1.message ≡ Refused e told
         → (t.0.connection ≡ b.connection) × (t.0.rings.rings ≡ b.rings.rings) }
 
     // The same of one that waited, beside what happened to a ring meanwhile.
-    ensures waited { (b : BackendState) (event : Event) (e : Refusal) (bytes : List ℕ)
-        → let t = after_event b event in t.1.message ≡ Refused e bytes
+    ensures waited { (b : BackendState) (event : Event) (e : Refusal) (told : Header)
+        → let t = after_event b event in t.1.message ≡ Refused e told
         → (t.0.connection ≡ b.connection) × (t.0.rings.rings ≡ (happens b.rings event).0.rings) }
 {}

@@ -1,13 +1,13 @@
 //! Pages of guest memory that were changed, and are to be marked in the front end's log.
 ghost use Rattle.std.specs.Prelude.{◌≡◌, IfOk};
-ghost use Rattle.vhost_backend.specs.PageList.{added, hull, marked, no_pages, pages_of, touch};
+ghost use Rattle.vhost_backend.specs.PageList.{TakesPages, added, hull, marked, no_pages, pages_of, touch};
 
 use std::alloc::{AllocError, Global};
 use std::marker::Model;
 use vhost_user::LOG_PAGE;
 
-/// How many ranges of pages are kept beside the last one.
-pub const RANGES: usize = 64;
+/// How many ranges of pages are kept beside the last one: as many as a chain has segments, if each lies alone.
+pub const RANGES: usize = 1024;
 
 /// Pages that lie together.
 #[derive(Clone, Copy, Debug, PartialEq, Eq)]
@@ -65,7 +65,7 @@ pub struct PageList {
 }
 
 impl Model for PageList {
-    ghost use Rattle.std.specs.Prelude.{◌≤◌, length, vec_capacity};
+    ghost use Rattle.std.specs.Prelude.{◌≡◌, ◌≤◌, None, [], length, vec_capacity};
     ghost use Rattle.vhost_backend.specs.PageList.{Pages};
     ghost use Rattle.vhost_backend.specs.declared.page_list.TheConstants.{RANGES};
 
@@ -73,11 +73,12 @@ impl Model for PageList {
 
     ghost view = { λ l. record { pages = l.pages; last = l.last; others = l.others.items } };
 
-    ghost invariant = { λ l. (length l.others.items ≤ RANGES) × (RANGES ≤ vec_capacity l.others) };
+    ghost invariant = { λ l. (length l.others.items ≤ RANGES) × (RANGES ≤ vec_capacity l.others)
+        × (l.last ≡ None → l.others.items ≡ []) };
 }
 
 impl PageList {
-    ghost use Rattle.std.specs.Prelude.{◌++◌, is_none, option_to_list};
+    ghost use Rattle.std.specs.Prelude.{is_none};
 
     /// No page, while writes are not logged.
     pub fn new(alloc: Global) -> Result<PageList, AllocError>
@@ -133,9 +134,7 @@ impl PageList {
 
     /// Takes the range that was added last, if there is one.
     pub fn take(&mut self) -> Option<PageRange>
-        ensures last { result ≡ self.old.last }
-        ensures others { self.old.others ≡ self.new.others ++ option_to_list self.new.last }
-        ensures pages { self.new.pages ≡ self.old.pages }
+        ensures { TakesPages self.old result self.new }
     {
         let last = self.last;
         self.last = self.others.pop();

@@ -1,7 +1,7 @@
 //! Rings, and whose turn it is.
 ghost use Rattle.std.specs.Prelude.{◌≡◌, ◌<◌, ◌≤◌, false, IfOk, length, vec_len, vec_capacity, if◌then◌else◌};
 ghost use Rattle.vhost_backend.specs.Line.{settled, stands_in, without};
-ghost use Rattle.vhost_backend.specs.Rings.{admits, all_idle, is_turn, less, nothing, turn_of, turn_used};
+ghost use Rattle.vhost_backend.specs.Rings.{admits, all_idle, is_turn, less, nothing, turn_of, turn_used, unless_of};
 
 use crate::ring::{Ring, RingActions, RingEvent};
 use std::alloc::{AllocError, Global};
@@ -114,13 +114,24 @@ fn less(turn: Option<Turn>, bytes: u64) -> Option<Turn>
     }
 }
 
-// What is left of a turn after an event. It is over if no chain is left to be popped.
-fn turn_used(turn: Option<Turn>, event: RingEvent) -> Option<Turn>
-    ensures { result ≡ turn_used turn event }
+// The turn of a ring that is stopped is over.
+fn unless_of(turn: Option<Turn>, ring: usize) -> Option<Turn>
+    ensures { result ≡ unless_of turn ring }
+{
+    match turn {
+        Some(turn) if turn.ring != ring => Some(turn),
+        _ => None,
+    }
+}
+
+// What is left of a turn after an event of a ring. It is over if no chain is left to be popped, or its ring is stopped.
+fn turn_used(turn: Option<Turn>, ring: usize, event: RingEvent) -> Option<Turn>
+    ensures { result ≡ turn_used turn ring event }
 {
     match event {
         RingEvent::Popped(_, _, bytes) => less(turn, bytes),
         RingEvent::Emptied => None,
+        RingEvent::Stop => unless_of(turn, ring),
         _ => turn,
     }
 }
@@ -302,7 +313,7 @@ impl Rings {
         if ring >= self.rings.len() || !admits(self.turn, ring, event) {
             return nothing(ring);
         }
-        self.turn = turn_used(self.turn, event);
+        self.turn = turn_used(self.turn, ring, event);
         let actions = self.rings[ring].handle(event);
         let wants = self.rings[ring].wants();
         self.after_step(ring, wants, actions)

@@ -27,6 +27,8 @@ pub struct ActionRow {
     pub count: u32,
     /// Whether the part goes on with the next action.
     pub more: u32,
+    /// How many parts a request has after a part.
+    pub left: u32,
     /// A place on the disk or in a file, or the number of a page.
     pub place: u64,
     /// How many bytes or pages there are.
@@ -77,7 +79,8 @@ pub struct Counts {
     pub bytes: usize,
     /// 1 if another run may give more at once.
     pub more: u32,
-    /// 0 if a message can be taken, 1 if one is under way, 2 if the connection is over, and 3 if it is at rest then.
+    /// 0 if a message is taken, 1 if something is left to be done before, 2 if the connection is over, and 3 if it is
+    /// at rest then.
     pub state: u32,
 }
 
@@ -127,6 +130,7 @@ fn no_action(kind: u32) -> ActionRow
         way: 0,
         count: 0,
         more: 0,
+        left: 0,
         place: 0,
         len: 0,
         guest: 0,
@@ -263,7 +267,8 @@ fn place_of_part(step: BlockStep) -> u64
     }
 }
 
-// A part of which `len` bytes in `count` pieces are served, from the one so far after its first.
+// A part of which `len` bytes in `count` pieces are served, from the one so far after its first. Its request has `left`
+// parts after it.
 pub(crate) fn part_row(
     ring: usize,
     id: u16,
@@ -272,8 +277,9 @@ pub(crate) fn part_row(
     len: u32,
     count: usize,
     more: bool,
+    left: u32,
 ) -> ActionRow
-    ensures { result ≡ part_row ring id step from len count more }
+    ensures { result ≡ part_row ring id step from len count more left }
 {
     ActionRow {
         ring: number_of(ring),
@@ -281,6 +287,7 @@ pub(crate) fn part_row(
         way: way_of_part(step),
         count: number_of(count),
         more: flag_of(more),
+        left,
         place: place_of_part(step).saturating_add(u64::from(from)),
         len: u64::from(len),
         ..no_action(kind::SERVE)

@@ -4,7 +4,8 @@ ghost use Rattle.std.specs.Prelude.{◌≡◌, ◌⊎◌, Some, None, IsSome, tr
 ghost use Rattle.vhost_calls.specs.Values.{connection_state};
 ghost use Rattle.vhost_backend.specs.BlockBackend.{resized};
 ghost use Rattle.vhost_backend.specs.BlockConnection.{Maps, done, ended, failed, kicked, sent, taken, with_backend};
-ghost use Rattle.vm_memory_c.specs.Block.{Stays};
+ghost use Rattle.vhost_backend.specs.Run.{RunsBy};
+ghost use Rattle.vm_memory_c.specs.Block.{OpensAt, Stays};
 
 use crate::block_handle::BlockHandle;
 use crate::raw_box::RawBox;
@@ -40,7 +41,9 @@ pub extern "C" fn vmm_backend_open(
     offer: &VhostOffer,
     config: &[u8],
     disk: &BlockDisk,
-) -> u32 {
+) -> u32
+    ensures { OpensAt alloc offer.now config.now disk.now connection.old.state result connection.new.state }
+{
     let made = match vhost_backend::open(alloc, offer, config, disk) {
         Ok(made) => made,
         Err(code) => return code,
@@ -159,22 +162,24 @@ pub extern "C" fn vmm_backend_hang_up(alloc: Global, connection: &mut BlockHandl
     put(connection, held);
 }
 
-/// Takes ends of parts, and gives what is to be done as far as there is room.
+/// Takes ends of parts, and gives what is to be done as far as there is room. What the run before it gave was done.
 #[unsafe(no_mangle)]
 pub extern "C" fn vmm_backend_run(
     alloc: Global,
     connection: &mut BlockHandle,
     ends: &[EndRow],
+    turns: u32,
     actions: &mut [ActionRow],
     pieces: &mut [PieceRow],
     output: &mut [u8],
     counts: &mut Counts,
 )
     requires { IsSome connection.old.state }
-    ensures { IsSome connection.new.state }
+    ensures { Stays connection.old.state connection.new.state
+        (λ old new. RunsBy old ends.now turns actions.new pieces.new output.new counts.new new) }
 {
     let mut held = take(alloc, connection);
-    *counts = held.run(ends, actions, pieces, output);
+    *counts = held.run(ends, turns, actions, pieces, output);
     put(connection, held);
 }
 

@@ -48,6 +48,15 @@ pub struct Served {
     pub len: u64,
     /// Which bytes of which regions: neighbours are one piece.
     pub pieces: Vec<(u64, u64, u64)>,
+    /// How many parts of the request come after it.
+    pub left: u64,
+}
+
+impl Served {
+    /// Whether the pieces are written.
+    pub fn is_written(&self) -> bool {
+        matches!(self.way, Way::Read | Way::Name)
+    }
 }
 
 /// Adds a piece, or makes the one before it longer.

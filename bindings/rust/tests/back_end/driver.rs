@@ -4,15 +4,16 @@ use super::memory::Memory;
 use crate::guest::Guest;
 use crate::ring::Numbers;
 
-/// How many bytes a file of guest memory has. Rings lie in the first page, and buffers mostly not.
-pub const FILE: u64 = 0x5000;
+/// How many bytes a file of guest memory has, and how many of them rings lie in, and buffers mostly do not.
+pub const FILE: u64 = 0x8000;
+const RINGS: u64 = 0x4000;
 pub const PAGE: u64 = 0x1000;
 
 /// How many sectors the disk has at first.
 pub const SECTORS: u64 = 1 << 16;
 
 /// Where the parts of a ring lie behind its first byte.
-pub const PARTS: [u64; 3] = [0, 0x200, 0x300];
+pub const PARTS: [u64; 3] = [0, 0x800, 0xa00];
 
 /// The bytes of guest memory: those that the device has, and those of the model.
 pub struct Bytes<'a> {
@@ -42,6 +43,16 @@ impl Bytes<'_> {
         let it = self.memory.regions.iter().find(shows)?;
         Some(it.guest + (offset - it.offset))
     }
+}
+
+/// A chain that was published.
+pub struct Published {
+    pub id: u16,
+    pub slots: u16,
+    /// What the device may write.
+    pub written: Vec<(u64, u64)>,
+    /// The ring says so.
+    pub is_honest: bool,
 }
 
 // A buffer: its guest address, its bytes, and whether the device writes there.
@@ -94,7 +105,7 @@ impl Driver {
 
     /// Makes the ring anew, and returns its base. A split ring begins at any index.
     pub fn begin(&mut self, bytes: &mut Bytes<'_>, numbers: &mut Numbers) -> u32 {
-        bytes.put(self.file, self.base, &[0; 0x400]);
+        bytes.put(self.file, self.base, &[0; PAGE as usize]);
         self.free = (0..self.size).collect();
         self.out.clear();
         self.free_slots = self.size;
@@ -174,7 +185,7 @@ impl Driver {
     // A place of so many bytes in the buffers of a file.
     fn buffer(&self, bytes: &Bytes<'_>, numbers: &mut Numbers, len: u64) -> (usize, u64, u64) {
         let file = numbers.below(2) as usize;
-        let from = if numbers.one_in(400) { 0 } else { PAGE };
+        let from = if numbers.one_in(400) { 0 } else { RINGS };
         let offset = from + numbers.below(FILE - from - len + 1);
         let address = bytes.address(file, offset).filter(|_| !numbers.one_in(300));
         (
@@ -209,7 +220,7 @@ impl Driver {
     fn rows(&self, bytes: &mut Bytes<'_>, numbers: &mut Numbers) -> Vec<Row> {
         let is_large = numbers.one_in(150);
         let count = if is_large {
-            70 + numbers.below(60)
+            70 + numbers.below(90)
         } else {
             numbers.below(5)
         };
@@ -240,8 +251,10 @@ impl Driver {
     }
 
     // Adds the status, or none, or more behind it.
-    fn end(&self, bytes: &Bytes<'_>, numbers: &mut Numbers, rows: &mut Vec<Row>) {
-        let (_, _, status) = self.buffer(bytes, numbers, 1);
+    fn end(&self, bytes: &mut Bytes<'_>, numbers: &mut Numbers, rows: &mut Vec<Row>) {
+        let (file, offset, status) = self.buffer(bytes, numbers, 1);
+        // Another value than a device writes.
+        bytes.put(file, offset, &[0xa5]);
         match numbers.below(60) {
             0 => (),
             1 => rows.push((status, 2, true)),
@@ -254,9 +267,12 @@ impl Driver {
 
     // ---- chains
 
-    /// Publishes a chain, if there is room for one.
-    pub fn publish(&mut self, bytes: &mut Bytes<'_>, numbers: &mut Numbers) {
-        let rows = self.rows(bytes, numbers);
+    /// Publishes a chain, if there is room for one: a request, or a single buffer.
+    pub fn publish(&mut self, bytes: &mut Bytes<'_>, numbers: &mut Numbers, is_request: bool) -> Option<Published> {
+        let rows = match is_request {
+            true => self.rows(bytes, numbers),
+            false => vec![(self.buffer(bytes, numbers, 1).2, 1, !numbers.one_in(4))],
+        };
         let is_long = rows.len() > usize::from(self.size) || rows.len() > 6;
         let table = if is_long || numbers.one_in(3) {
             self.table(bytes, numbers, &rows)
@@ -264,11 +280,18 @@ impl Driver {
             None
         };
         let count = if table.is_some() { 1 } else { rows.len() };
-        if self.is_packed {
-            self.publish_packed(bytes, numbers, &rows, table, count as u16);
+        let (id, slots, is_honest) = if self.is_packed {
+            self.publish_packed(bytes, numbers, &rows, table, count as u16)?
         } else {
-            self.publish_split(bytes, numbers, &rows, table, count);
-        }
+            self.publish_split(bytes, numbers, &rows, table, count)?
+        };
+        let written = rows.iter().filter(|it| it.2).map(|it| (it.0, it.1.into()));
+        Some(Published {
+            id,
+            slots,
+            written: written.collect(),
+            is_honest,
+        })
     }
 
     // Puts the rows into an indirect table, if one has room.
@@ -296,9 +319,9 @@ impl Driver {
         rows: &[Row],
         table: Option<(u64, u32)>,
         count: usize,
-    ) {
+    ) -> Option<(u16, u16, bool)> {
         if self.free.len() < count {
-            return;
+            return None;
         }
         let ids = self.free.split_off(self.free.len() - count);
         let (desc, avail) = (self.base, self.base + PARTS[1]);
@@ -325,7 +348,9 @@ impl Driver {
         let ahead = if numbers.one_in(3000) { self.size } else { 0 };
         self.next_avail = self.next_avail.wrapping_add(1);
         bytes.word(self.file, avail + 2, self.next_avail.wrapping_add(ahead));
+        let is_honest = head == ids[0] && ahead == 0;
         self.out.push((ids[0], ids, 0));
+        Some((head, 1, is_honest))
     }
 
     fn publish_packed(
@@ -335,9 +360,9 @@ impl Driver {
         rows: &[Row],
         table: Option<(u64, u32)>,
         count: u16,
-    ) {
+    ) -> Option<(u16, u16, bool)> {
         if self.free_slots < count || self.free.is_empty() {
-            return;
+            return None;
         }
         let mut id = self.free.pop().expect("there is one");
         let real = id;
@@ -367,6 +392,7 @@ impl Driver {
         self.slot = moved(start, count, self.size);
         self.free_slots -= count;
         self.out.push((id, vec![real], count));
+        Some((id, count, id == real))
     }
 }
 

@@ -148,8 +148,11 @@ pub fn start(numbers: &mut Numbers, index: u32, driver: &Driver, base: u32, feat
     let of = |request, payload: &[u8], descriptors| (message(request, asks, payload), descriptors);
     let ring = u64::from(index).to_le_bytes();
     let two = |number: u32| words(&[index, number]);
-    vec![
-        of(SET_FEATURES, &u64::to_le_bytes(features), 0),
+    // The features are mostly left as they are.
+    let first = numbers
+        .one_in(4)
+        .then(|| of(SET_FEATURES, &u64::to_le_bytes(features), 0));
+    let others = [
         of(SET_VRING_NUM, &two(driver.size.into()), 0),
         of(SET_VRING_BASE, &two(base), 0),
         of(SET_VRING_ADDR, &ring_addresses(index, driver, true), 0),
@@ -157,5 +160,6 @@ pub fn start(numbers: &mut Numbers, index: u32, driver: &Driver, base: u32, feat
         of(SET_VRING_ERR, &ring, 1),
         of(SET_VRING_KICK, &ring, 1),
         of(SET_VRING_ENABLE, &two(1), 0),
-    ]
+    ];
+    first.into_iter().chain(others).collect()
 }

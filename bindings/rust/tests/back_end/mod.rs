@@ -8,4 +8,5 @@ pub mod messages;
 pub mod model;
 pub mod queue;
 pub mod rings;
+pub mod watch;
 pub mod world;

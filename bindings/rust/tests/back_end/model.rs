@@ -1,20 +1,15 @@
 //! A slow back end: what each event leads to, by the rules of crates/vhost_backend/README.md and of those that it
 //! stands on. It keeps plain lists, and shares no code with the library.
 
-use super::acts::{add_piece, Act, Ended, Served};
-use super::memory::{Memory, Shown};
-use super::queue::DeviceQueue;
-use super::rings::{parts_of, Phase, Rings, Todo, UnderWay, PART};
-use crate::disk;
-use crate::front_end::*;
-use crate::slow::{total, Segment};
-use std::collections::BTreeSet;
-use vm_memory_proved::back_end::{Disk, Kept, Over, PartEnd, Way};
-use vm_memory_proved::block::{DeviceLimits, Request};
-use vm_memory_proved::vhost_user::{self, Offer, Refusal, Region};
+mod runs;
 
-/// How many turns rings have in a run.
-const TURNS: usize = 2;
+use super::acts::{Act, Ended};
+use super::memory::{Memory, Shown};
+use super::rings::{Phase, Rings, Todo};
+use crate::front_end::*;
+use std::collections::{BTreeSet, VecDeque};
+use vm_memory_proved::back_end::{Disk, Kept, Over, State};
+use vm_memory_proved::vhost_user::{self, Offer, Refusal, Region};
 
 // Whether the queue of a ring was told where it lies.
 #[derive(Clone, Copy, Debug, PartialEq, Eq)]
@@ -42,6 +37,47 @@ enum Taken {
     Over,
 }
 
+// What becomes of a message.
+#[derive(Clone, Debug)]
+enum Outcome {
+    Begins,
+    Refused(Vec<Refusal>, Vec<u8>),
+}
+
+// A chain whose request was ended, and which is to be returned.
+#[derive(Clone, Copy, Debug)]
+struct Ready {
+    id: u16,
+    slots: u16,
+    len: u32,
+}
+
+// What is left of what followed from the last event.
+#[derive(Debug)]
+enum Work {
+    /// The queue of a ring is told where that lies now, maybe for the first time.
+    Place(usize, vhost_user::Vring, bool),
+    Do(usize, Todo),
+    Publish(usize, Ready),
+    Message(Outcome),
+    /// A ring breaks if it could not be reached.
+    Break(usize),
+    /// What a message asks for that took effect.
+    Begin,
+}
+
+/// What a run did.
+#[derive(Debug, PartialEq, Eq)]
+pub struct Ran {
+    pub acts: Vec<Act>,
+    pub ends_taken: usize,
+    pub has_more: bool,
+    pub state: State,
+}
+
+/// A chain that was popped: its ring, its id, and what the device may write.
+pub type PoppedChain = (usize, u16, Vec<(u64, u64)>);
+
 pub struct Model {
     protocol: Slow,
     pub rings: Rings,
@@ -49,17 +85,26 @@ pub struct Model {
     pub memory: Memory,
     taken: Taken,
     log: Option<u64>,
+    // How many pages have a bit in the log, if writes are marked as the last message that was done has it.
+    logged: Option<u64>,
     disk: Disk,
     /// The pages that are marked. If a chain had many segments, pages between them may be, too.
     pub marked: BTreeSet<u64>,
     pub has_many: bool,
+    /// The chains that the last run popped.
+    pub popped: Vec<PoppedChain>,
     unread: u64,
     acts: Vec<Act>,
+    work: VecDeque<Work>,
+    // This run marked pages, or is to do so before anything else.
+    has_marked: bool,
     // A ring cannot be reached: it breaks after what is to be done for it.
     is_broken: bool,
-    // What the message asks for that just took effect.
-    first: Option<vhost_user::Request>,
-    // Why the connection is over, if that was not said.
+    // A part of which bytes have no memory.
+    lost: Option<(usize, u16)>,
+    // What is said after all that: the reply, an interrupt, and why the connection is over.
+    reply: Vec<u8>,
+    called: Option<u32>,
     why: Option<Ended>,
     ids: usize,
 }
@@ -78,13 +123,19 @@ impl Model {
             memory: Memory::new(files),
             taken: Taken::Nothing,
             log: None,
+            logged: None,
             disk: *disk,
             marked: BTreeSet::new(),
             has_many: false,
+            popped: Vec::new(),
             unread: 0,
             acts: Vec::new(),
+            work: VecDeque::new(),
+            has_marked: false,
             is_broken: false,
-            first: None,
+            lost: None,
+            reply: Vec::new(),
+            called: None,
             why: None,
             ids: offer.max_queue_size as usize,
         }
@@ -94,28 +145,59 @@ impl Model {
         self.protocol.features
     }
 
-    pub fn is_free(&self) -> bool {
+    fn is_free(&self) -> bool {
         self.taken == Taken::Nothing
+    }
+
+    /// Whether a message waits for what is under way.
+    pub fn is_waiting(&self) -> bool {
+        matches!(self.taken, Taken::Waits(..))
     }
 
     pub fn is_over(&self) -> bool {
         self.taken == Taken::Over
     }
 
+    // Whether nothing is left of what followed from the last event.
+    fn is_done(&self) -> bool {
+        let is_quiet = self.reply.is_empty() && self.called.is_none() && self.why.is_none();
+        self.work.is_empty() && self.lost.is_none() && is_quiet
+    }
+
+    /// Whether a message can be told.
+    pub fn can_take(&self) -> bool {
+        self.is_free() && self.is_done()
+    }
+
     pub fn is_at_rest(&self) -> bool {
-        self.is_over() && self.rings.is_idle()
+        self.is_over() && self.rings.is_idle() && self.is_done()
+    }
+
+    /// Whether the last run ended before a chain is returned.
+    pub fn is_cut(&self) -> bool {
+        !self.work.is_empty()
+    }
+
+    fn state(&self) -> State {
+        match () {
+            () if self.is_at_rest() => State::AtRest,
+            () if self.is_over() => State::Over,
+            () if self.can_take() => State::Free,
+            () => State::Busy,
+        }
     }
 
     // ---- messages
 
     /// Takes a message. It is not taken while one is under way.
     pub fn message(&mut self, message: &[u8], descriptors: usize) -> bool {
-        if !self.is_free() {
+        if !self.can_take() {
             return false;
         }
         let broken = self.protocol.broken(message, descriptors);
         if broken.iter().any(|it| is_of_form(message, *it)) {
-            self.refuse(message, broken);
+            let outcome = Outcome::Refused(broken, self.protocol.reply(message, false));
+            self.work.push_back(Work::Message(outcome));
             return true;
         }
         let (request, payload) = (word(message, 0), &message[12..]);
@@ -140,14 +222,14 @@ impl Model {
             Until::Ring(index) => index,
             _ => 0,
         };
-        self.carry_out(index, todo);
+        self.follow(index, todo);
         true
     }
 
-    // A message that waits takes effect if what it waits for was returned.
-    fn look_at_message(&mut self) {
+    // What becomes of a message that waits, if what it waits for was returned.
+    fn outcome(&mut self) -> Option<Outcome> {
         let Taken::Waits(message, descriptors, until) = self.taken.clone() else {
-            return;
+            return None;
         };
         let is_due = match until {
             Until::Now => true,
@@ -155,23 +237,17 @@ impl Model {
             Until::AllRings => self.rings.is_idle(),
         };
         if !is_due {
-            return;
+            return None;
         }
         let broken = self.protocol.broken(&message, descriptors);
         if !broken.is_empty() {
             self.rings.is_held = false;
-            self.refuse(&message, broken);
-            return;
+            self.taken = Taken::Nothing;
+            return Some(Outcome::Refused(broken, self.protocol.reply(&message, false)));
         }
         let request = self.protocol.take(&message, descriptors);
         self.taken = Taken::Begun(message, request, 0);
-        self.first = Some(request);
-    }
-
-    fn refuse(&mut self, message: &[u8], broken: Vec<Refusal>) {
-        self.end(Ended::Refused(broken));
-        let reply = self.protocol.reply(message, false);
-        self.say(reply, None);
+        Some(Outcome::Begins)
     }
 
     fn end(&mut self, why: Ended) {
@@ -179,27 +255,35 @@ impl Model {
             return;
         }
         self.taken = Taken::Over;
-        self.first = None;
         self.rings.hold();
         self.why = Some(why);
     }
 
-    // Says what a message leads to: the reply, an interrupt, and the end.
-    fn say(&mut self, reply: Vec<u8>, interrupted: Option<u32>) {
-        if !reply.is_empty() {
+    // Says what a message led to, one thing after another. Returns whether there was something to say.
+    fn say(&mut self) -> bool {
+        let reply = std::mem::take(&mut self.reply);
+        let act = if !reply.is_empty() {
             self.unread += reply.len() as u64;
             if self.unread > u64::from(self.disk.unread) {
                 self.end(Ended::By(Over::Unread));
             }
-            self.acts.push(Act::Send(reply));
-        }
-        self.acts.extend(interrupted.map(Act::Interrupt));
-        self.acts.extend(self.why.take().map(Act::End));
+            Some(Act::Send(reply))
+        } else if let Some(ring) = self.called.take() {
+            Some(Act::Interrupt(ring))
+        } else {
+            self.why.take().map(Act::End)
+        };
+        let is_said = act.is_some();
+        self.acts.extend(act);
+        is_said
     }
 
     // A message took effect: what it asks for is done.
-    fn begin(&mut self, request: vhost_user::Request) {
+    fn begin(&mut self) {
         use vhost_user::Request::*;
+        let Taken::Begun(_, request, _) = self.taken else {
+            return;
+        };
         let keep = |what, has_one| Act::Keep(what, has_one);
         let act = match request {
             SetMemTable => {
@@ -250,9 +334,8 @@ impl Model {
         let Taken::Begun(message, ..) = self.taken.clone() else {
             return;
         };
-        let reply = self.protocol.reply(&message, false);
+        self.reply = self.protocol.reply(&message, false);
         self.end(Ended::By(Over::Failed));
-        self.say(reply, None);
     }
 
     // A message was done: it is answered, and rings run as it has them.
@@ -280,19 +363,19 @@ impl Model {
                 self.rings.start(index);
             }
         }
-        let reply = self.protocol.reply(&message, true);
-        let interrupted = match request {
-            vhost_user::Request::SetVringCall { index, .. } => Some(index),
-            _ => None,
-        };
+        self.reply = self.protocol.reply(&message, true);
+        if let vhost_user::Request::SetVringCall { index, .. } = request {
+            self.called = Some(index);
+        }
+        let log = self.log.filter(|_| self.protocol.features & LOG_ALL != 0);
+        self.logged = log.map(|bytes| bytes.saturating_mul(8));
         let has_bit = |it: &Region| self.has_bits(it.guest_address, it.size);
         if !self.protocol.regions.iter().all(has_bit) {
             self.end(Ended::By(Over::Log));
         }
-        self.say(reply, interrupted);
     }
 
-    // ---- rings
+    // ---- what comes from outside
 
     pub fn kick(&mut self, ring: u32) {
         if let Some(ring) = self.rings.rings.get_mut(ring as usize) {
@@ -311,259 +394,6 @@ impl Model {
 
     pub fn hang_up(&mut self) {
         self.end(Ended::By(Over::HungUp));
-        self.acts.extend(self.why.take().map(Act::End));
-    }
-
-    /// What is to be done by what came before, by the ends of parts, and by kicks, and then in turns of rings.
-    pub fn run(&mut self, ends: &[PartEnd]) -> Vec<Act> {
-        for end in ends {
-            let moved = (end.failed == 0).then_some(end.bytes.into());
-            let Ok(id) = u16::try_from(end.id) else { continue };
-            let todo = self.rings.ended(end.ring as usize, id, moved);
-            self.carry_out(end.ring as usize, todo);
-        }
-        for index in 0..self.rings.rings.len() {
-            if std::mem::take(&mut self.rings.rings[index].is_notified) {
-                self.rings.kick(index);
-            }
-        }
-        for _ in 0..TURNS {
-            self.take_turn();
-        }
-        std::mem::take(&mut self.acts)
-    }
-
-    // The queue of a ring is told where that lies, if it was not.
-    fn place(&mut self, index: usize) {
-        let placing = std::mem::replace(&mut self.placing[index], Placing::Placed);
-        if placing == Placing::Placed {
-            return;
-        }
-        let features = self.protocol.features;
-        let ring = &mut self.rings.rings[index];
-        let Ok(vring) = self.protocol.running(index as u32) else {
-            return;
-        };
-        let parts = [vring.descriptor, vring.available, vring.used];
-        let placed = match (&ring.queue, placing) {
-            (None, Placing::Moved) => return,
-            (Some(queue), Placing::Moved) => queue.moved(parts),
-            _ => {
-                let (is_packed, event_idx) = (features & RING_PACKED != 0, features & EVENT_IDX != 0);
-                let image = self.memory.image();
-                DeviceQueue::new(is_packed, vring.size, vring.base, parts, event_idx, image)
-            }
-        };
-        match placed {
-            Some(queue) => ring.queue = Some(queue),
-            None => self.is_broken = true,
-        }
-    }
-
-    fn carry_out(&mut self, index: usize, todo: Vec<Todo>) {
-        if !todo.is_empty() {
-            self.place(index);
-        }
-        let mut lost = None;
-        for it in todo {
-            match it {
-                Todo::Serve(id) => {
-                    if !self.serve(index, id) {
-                        lost = Some(id);
-                    }
-                }
-                Todo::Return(id, it, failed) => self.give_back(index, id, it, failed),
-                Todo::Notify => self.notify(index),
-                Todo::Broke => self.acts.push(Act::Broke(index as u32)),
-                Todo::Stopped => self.acts.push(Act::Stopped(index as u32)),
-            }
-        }
-        self.look_at_message();
-        if std::mem::take(&mut self.is_broken) {
-            let todo = self.rings.breaks(index);
-            self.carry_out(index, todo);
-        }
-        if let Some(request) = self.first.take() {
-            self.begin(request);
-        }
-        // A part with bytes that have no memory fails.
-        if let Some(id) = lost {
-            let todo = self.rings.ended(index, id, None);
-            self.carry_out(index, todo);
-        }
-    }
-
-    fn take_turn(&mut self) {
-        let Some((index, owed, pops)) = self.rings.take_turn() else {
-            return;
-        };
-        self.place(index);
-        if owed {
-            self.notify(index);
-        }
-        self.carry_out(index, Vec::new());
-        while pops && self.rings.may_pop(index) {
-            self.pop(index);
-        }
-    }
-
-    fn breaks(&mut self, index: usize) {
-        let todo = self.rings.breaks(index);
-        self.carry_out(index, todo);
-    }
-
-    // A chain is popped, or the driver is asked to notify and the ring looked at once more.
-    fn pop(&mut self, index: usize) {
-        let image = self.memory.image();
-        let Some(queue) = &mut self.rings.rings[index].queue else {
-            return self.breaks(index);
-        };
-        let mut found = queue.pop(image);
-        let mut wrote = Vec::new();
-        if let Ok(None) = found {
-            match queue.ask(image) {
-                Ok((true, places)) => {
-                    wrote = places;
-                    found = queue.pop(image);
-                }
-                Ok((false, places)) => wrote = places,
-                Err(_) => found = Err(super::queue::Broken),
-            }
-        }
-        self.mark(&wrote);
-        let chain = match found {
-            Ok(Some(chain)) => chain,
-            Ok(None) => return self.rings.emptied(index),
-            Err(_) => return self.breaks(index),
-        };
-        let ring = &self.rings.rings[index];
-        if usize::from(chain.id) >= self.ids || ring.under_way.contains_key(&chain.id) {
-            return self.breaks(index);
-        }
-        let limits = self.limits();
-        let request = disk::asked(self.memory.image(), &chain.segments, limits);
-        let todo = self.rings.popped(index, chain.id, chain.slots, chain.segments, request);
-        self.carry_out(index, todo);
-    }
-
-    fn limits(&self) -> DeviceLimits {
-        let features = self.protocol.features;
-        let of = |bit: u64, limit: u32| (features & bit != 0).then_some(limit);
-        DeviceLimits {
-            sectors: self.disk.sectors,
-            read_only: self.disk.read_only != 0,
-            acked: features,
-            seg_max: of(1 << 2, self.disk.seg_max),
-            size_max: of(1 << 1, self.disk.size_max),
-        }
-    }
-
-    // ---- requests
-
-    // Serves a part, if all of its bytes have memory.
-    fn serve(&mut self, index: usize, id: u16) -> bool {
-        let it = &self.rings.rings[index].under_way[&id];
-        let all = parts_of(&it.request);
-        let from = PART * (all - it.left);
-        let part = |len: usize| PART.min((len as u64).saturating_sub(from));
-        let (way, place, len) = match it.request {
-            Request::Read { sector, len } => (Way::Read, 512 * sector + from, part(len)),
-            Request::Write { flush: true, .. } if it.left == 1 => (Way::Flush, 0, 0),
-            Request::Write { sector, len, .. } => (Way::Write, 512 * sector + from, part(len)),
-            Request::GetId { len } => (Way::Name, 0, len as u64),
-            _ => (Way::Flush, 0, 0),
-        };
-        let (is_written, skipped) = match way {
-            Way::Write => (false, 16 + from),
-            _ => (true, from),
-        };
-        let Some(pieces) = self.pieces(&it.segments, is_written, skipped, len) else {
-            return false;
-        };
-        let served = Served {
-            ring: index as u32,
-            id: id.into(),
-            way,
-            place,
-            len,
-            pieces,
-        };
-        self.acts.push(Act::Serve(served));
-        true
-    }
-
-    // Where bytes of a chain lie, if all of them have memory.
-    fn pieces(&self, segments: &[Segment], is_written: bool, from: u64, len: u64) -> Option<Vec<(u64, u64, u64)>> {
-        let (mut skipped, mut left, mut pieces) = (from, len, Vec::new());
-        for it in segments.iter().filter(|it| it.is_written == is_written) {
-            let start = skipped.min(it.len);
-            skipped -= start;
-            let (mut address, mut count) = (it.addr + start, left.min(it.len - start));
-            left -= count;
-            while count > 0 {
-                let (region, offset) = self.memory.place(address)?;
-                let here = count.min(self.memory.regions[region as usize].len - offset);
-                add_piece(&mut pieces, region, offset, here);
-                (address, count) = (address + here, count - here);
-            }
-        }
-        Some(pieces)
-    }
-
-    fn give_back(&mut self, index: usize, id: u16, it: UnderWay, failed: bool) {
-        let status = match it.request {
-            Request::Refused { status } => status,
-            Request::Unserved => 1,
-            _ => u8::from(failed),
-        };
-        let written = match it.request {
-            // No more than there is room for.
-            Request::Read { .. } | Request::GetId { .. } => it.moved.min(total(&it.segments, true).saturating_sub(1)),
-            _ => 0,
-        };
-        let image = self.memory.image();
-        let len = disk::finished(image, &it.segments, status, written as usize);
-        let queue = self.rings.rings[index].queue.as_mut().expect("it popped the chain");
-        let wrote = queue.give_back(image, id, it.slots, len);
-        let of = |it: &Segment| (it.addr, it.len);
-        let chain: Vec<_> = it.segments.iter().filter(|it| it.is_written).map(of).collect();
-        self.has_many |= chain.len() > 40;
-        self.mark(&chain);
-        self.mark(&wrote);
-    }
-
-    // The driver is interrupted, unless it asks not to be.
-    fn notify(&mut self, index: usize) {
-        let image = self.memory.image();
-        match self.rings.rings[index]
-            .queue
-            .as_mut()
-            .map(|it| it.wants_interrupt(image))
-        {
-            Some(Ok(true)) => self.acts.push(Act::Interrupt(index as u32)),
-            Some(Ok(false)) => (),
-            Some(Err(_)) | None => self.is_broken = true,
-        }
-    }
-
-    // ---- the log
-
-    // How many pages have a bit in the log, if writes are marked.
-    fn logged(&self) -> Option<u64> {
-        let size = self.log.filter(|_| self.protocol.features & LOG_ALL != 0)?;
-        Some(size.saturating_mul(8))
-    }
-
-    fn has_bits(&self, address: u64, len: u64) -> bool {
-        self.logged().is_none_or(|pages| (address + (len - 1)) / 4096 < pages)
-    }
-
-    fn mark(&mut self, places: &[(u64, u64)]) {
-        let pages = self.logged().unwrap_or(0);
-        for &(address, len) in places.iter().filter(|it| it.1 > 0) {
-            let last = address.saturating_add(len - 1) / 4096;
-            self.marked.extend(address / 4096..(last + 1).min(pages));
-        }
     }
 }
 

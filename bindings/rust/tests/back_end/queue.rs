@@ -229,9 +229,16 @@ impl DeviceQueue {
         Ok((index as u16 != self.next[0], vec![(place, 2)]))
     }
 
-    /// Whether the driver wants to be interrupted for what was returned since it was last asked.
+    /// Whether the driver wants to be interrupted for what was returned since it was last asked. If that cannot be
+    /// read, it was not asked.
     pub fn wants_interrupt(&mut self, image: &Image) -> Result<bool, Broken> {
-        let Some(added) = self.added.replace(0) else {
+        let answer = self.is_to_know(image)?;
+        self.added = Some(0);
+        Ok(answer)
+    }
+
+    fn is_to_know(&self, image: &Image) -> Result<bool, Broken> {
+        let Some(added) = self.added else {
             return Ok(true);
         };
         if self.is_packed {

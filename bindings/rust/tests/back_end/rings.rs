@@ -33,6 +33,8 @@ pub struct UnderWay {
 /// What is to be done for a ring.
 #[derive(Debug)]
 pub enum Todo {
+    /// The ring has its turn.
+    Pop,
     /// The next part of a request is served.
     Serve(u16),
     /// A request is over: how many bytes its parts moved, and whether one failed.
@@ -161,8 +163,9 @@ impl Rings {
         self.settle(index);
     }
 
-    /// A message stops a ring.
+    /// A message stops a ring, and its turn is over.
     pub fn stop(&mut self, index: usize) -> Vec<Todo> {
+        self.turn = self.turn.filter(|it| it.0 != index);
         let ring = &mut self.rings[index];
         let todo = match ring.under_way.is_empty() {
             true => {
@@ -190,24 +193,21 @@ impl Rings {
         self.settle(index);
     }
 
-    /// The first ring in the line takes its turn: whether its driver is interrupted, and whether it pops chains.
-    pub fn take_turn(&mut self) -> Option<(usize, bool, bool)> {
-        if self.is_held {
-            return None;
-        }
-        self.turn = None;
-        let index = self.line.pop_front()?;
+    /// The first ring in the line, if there is one, takes its turn: what is to be done for it.
+    pub fn take_turn(&mut self) -> (usize, Vec<Todo>) {
+        let index = self.line.pop_front().expect("a ring has its turn next");
         let ring = &mut self.rings[index];
-        let (owed, pops) = (std::mem::take(&mut ring.owes), ring.pops());
-        self.turn = pops.then_some((index, TURN.0, TURN.1));
+        let owed = std::mem::take(&mut ring.owes).then_some(Todo::Notify);
+        let pops = ring.pops().then_some(Todo::Pop);
+        self.turn = pops.as_ref().map(|_| (index, TURN.0, TURN.1));
         self.settle(index);
-        Some((index, owed, pops))
+        (index, owed.into_iter().chain(pops).collect())
     }
 
-    /// Whether a ring may pop a chain now.
-    pub fn may_pop(&self, index: usize) -> bool {
-        let has_turn = |&(ring, chains, bytes): &(usize, u32, u64)| ring == index && chains > 0 && bytes > 0;
-        self.turn.as_ref().is_some_and(has_turn) && self.rings[index].may_run()
+    /// The ring that may pop a chain now.
+    pub fn may_pop(&self) -> Option<usize> {
+        let (index, chains, bytes) = self.turn?;
+        (chains > 0 && bytes > 0 && self.rings[index].may_run()).then_some(index)
     }
 
     /// A chain was popped in a turn.

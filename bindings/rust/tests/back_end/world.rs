@@ -1,17 +1,18 @@
 //! A back end beside the slow one: both get the same events, and are to do the same.
 
 use super::acts::{add_piece, Act, Ended, Served};
-use super::driver::{Bytes, Driver, FILE, SECTORS};
+use super::driver::{Bytes, Driver, FILE, PAGE, SECTORS};
 use super::memory::Shown;
 use super::messages::{self, any_message, Sent, FEATURES, OF_PROTOCOL};
-use super::model::Model;
+use super::model::{Model, Ran};
 use super::rings::PART;
+use super::watch::{Seen, Watch};
 use crate::front_end::*;
 use crate::guest::Guest;
 use crate::ring::Numbers;
 use std::collections::{BTreeSet, VecDeque};
 use std::os::fd::{AsFd, OwnedFd};
-use vm_memory_proved::back_end::{Action, BackEnd, Disk, Part, PartEnd, Piece, Region, Room, State, Way};
+use vm_memory_proved::back_end::{Action, BackEnd, Disk, Part, PartEnd, Piece, Region, Room, Way};
 use vm_memory_proved::memfd;
 use vm_memory_proved::vhost_user::{Offer, Region as Announced};
 
@@ -32,6 +33,14 @@ pub struct Counts {
     pub broken: u64,
     pub marks: u64,
     pub waits: u64,
+    /// How often the log went on or off, and what a message asked for failed.
+    pub logs: u64,
+    pub not_done: u64,
+    /// The runs, those that ended before a chain was returned, and those that left ends.
+    pub runs: u64,
+    pub cut: u64,
+    pub left: u64,
+    pub seen: Seen,
 }
 
 /// What outlives connections.
@@ -64,7 +73,12 @@ pub struct World<'a> {
     stopped: [bool; 2],
     is_set_up: bool,
     parts: Vec<Served>,
+    // The ends that were not taken.
+    ends: Vec<PartEnd>,
     marked: BTreeSet<u64>,
+    // The bytes of the log.
+    log: Option<u64>,
+    watch: Watch,
     is_over: bool,
     features: u64,
 }
@@ -74,7 +88,7 @@ fn offer() -> Offer {
         features: FEATURES,
         protocol_features: OF_PROTOCOL,
         queues: 2,
-        max_queue_size: 16,
+        max_queue_size: 128,
         writable_from: 0,
         writable_len: 0,
     }
@@ -93,29 +107,23 @@ impl<'a> World<'a> {
         let mut config = [0; 256];
         config[..8].copy_from_slice(&SECTORS.to_le_bytes());
         let features = any_features(numbers);
-        let (is_packed, event_idx) = (features & RING_PACKED != 0, features & EVENT_IDX != 0);
-        let size = |numbers: &mut Numbers| match is_packed {
-            true => 1 + numbers.below(16) as u16,
-            false => 1 << numbers.below(5),
-        };
-        let drivers = [0, 1].map(|index: usize| {
-            let (file, base) = (numbers.below(2) as usize, 0x400 * (index as u64 + 2 * numbers.below(2)));
-            Driver::new(file, base, size(numbers), is_packed, event_idx)
-        });
         let files = all.guests.each_ref().map(|it| it.read(0, FILE as usize)).to_vec();
         counts.connections += 1;
         World {
             due: messages::begin(numbers, features).into(),
             back_end: BackEnd::new(&offer, &config, &disk).unwrap(),
             model: Model::new(&offer, &config, &disk, files),
+            drivers: [0, 1].map(|index| any_driver(numbers, index, features)),
             numbers,
             all,
             counts,
-            drivers,
             stopped: [true; 2],
             is_set_up: false,
             parts: Vec::new(),
+            ends: Vec::new(),
             marked: BTreeSet::new(),
+            log: None,
+            watch: Watch::default(),
             is_over: false,
             features,
         }
@@ -125,23 +133,26 @@ impl<'a> World<'a> {
     pub fn play(&mut self, events: u64) {
         for _ in 0..events {
             if self.is_over && self.model.is_at_rest() {
-                return;
+                break;
             }
             self.counts.events += 1;
-            let ends = self.any_event();
-            self.settle(ends);
-            self.compare();
+            self.any_event();
+            self.settle();
+            if self.numbers.one_in(10) {
+                self.take_marks();
+            }
         }
+        self.counts.seen.add(&self.watch.seen);
     }
 
     // ---- events
 
-    fn any_event(&mut self) -> Vec<PartEnd> {
-        let is_free = self.model.is_free();
+    fn any_event(&mut self) {
+        let is_free = self.model.can_take();
         match self.numbers.below(100) {
             0..=29 if self.is_set_up && !self.is_over => self.publish(),
             0..=39 if is_free => self.send_message(),
-            40..=84 => return self.end_parts(),
+            40..=84 => self.end_parts(),
             85..=89 if !self.is_over => self.kick(),
             90..=92 => self.suppress(),
             93..=95 => {
@@ -163,10 +174,9 @@ impl<'a> World<'a> {
                 self.back_end.hang_up();
                 self.model.hang_up();
             }
-            99 => return self.wrong_end(),
+            99 => self.wrong_end(),
             _ => (),
         }
-        Vec::new()
     }
 
     fn bytes<'b>(guests: &'b [Guest; 2], model: &'b mut Model) -> Bytes<'b> {
@@ -180,8 +190,16 @@ impl<'a> World<'a> {
         let index = self.numbers.below(2) as usize;
         let mut bytes = World::bytes(&self.all.guests, &mut self.model);
         self.drivers[index].take_used(&bytes);
-        for _ in 0..=self.numbers.below(4) {
-            self.drivers[index].publish(&mut bytes, self.numbers);
+        // Sometimes the ring gets full.
+        let fills = self.numbers.one_in(60);
+        let count = match fills {
+            true => u64::from(self.drivers[index].size),
+            false => 1 + self.numbers.below(4),
+        };
+        for _ in 0..count {
+            if let Some(it) = self.drivers[index].publish(&mut bytes, self.numbers, !fills) {
+                self.watch.publish(index, it);
+            }
         }
         if !self.numbers.one_in(8) {
             self.back_end.kick(index as u32);
@@ -203,28 +221,30 @@ impl<'a> World<'a> {
 
     // The guest writes anywhere.
     fn scribble(&mut self) {
-        let (file, value) = (self.numbers.below(2) as usize, self.numbers.any());
-        let most = if self.numbers.one_in(2) { 0x800 } else { FILE - 8 };
-        let offset = self.numbers.below(most);
+        let (index, value) = (self.numbers.below(2) as usize, self.numbers.any());
+        let driver = &self.drivers[index];
+        let (file, offset) = match self.numbers.one_in(2) {
+            true => (driver.file, driver.base + self.numbers.below(PAGE - 8)),
+            false => (index, self.numbers.below(FILE - 8)),
+        };
         World::bytes(&self.all.guests, &mut self.model).put(file, offset, &value.to_le_bytes());
     }
 
-    fn wrong_end(&mut self) -> Vec<PartEnd> {
+    fn wrong_end(&mut self) {
         let [ring, id] = [3, 20].map(|most| self.numbers.below(most) as u32);
-        if self.parts.iter().any(|it| (it.ring, it.id) == (ring, id)) {
-            return Vec::new();
+        let is_part = self.parts.iter().any(|it| (it.ring, it.id) == (ring, id));
+        if !is_part && !self.ends.iter().any(|it| (it.ring, it.id) == (ring, id)) {
+            self.ends.push(PartEnd {
+                ring,
+                id,
+                failed: 0,
+                bytes: 1,
+            });
         }
-        vec![PartEnd {
-            ring,
-            id,
-            failed: 0,
-            bytes: 1,
-        }]
     }
 
     // Some parts end, in any order.
-    fn end_parts(&mut self) -> Vec<PartEnd> {
-        let mut ends = Vec::new();
+    fn end_parts(&mut self) {
         let most = self.parts.len() as u64;
         let count = if self.numbers.one_in(3) {
             most
@@ -247,14 +267,14 @@ impl<'a> World<'a> {
                 self.move_bytes(&part);
             }
             self.counts.failed += u64::from(failed);
-            ends.push(PartEnd {
+            self.watch.ended(part.ring, part.id);
+            self.ends.push(PartEnd {
                 ring: part.ring,
                 id: part.id,
                 failed: failed.into(),
                 bytes: bytes as u32,
             });
         }
-        ends
     }
 
     // What a part writes to guest memory.
@@ -283,6 +303,7 @@ impl<'a> World<'a> {
             if self.numbers.one_in(3) {
                 let mut bytes = World::bytes(&self.all.guests, &mut self.model);
                 let base = self.drivers[index].begin(&mut bytes, self.numbers);
+                self.watch.begin(index, &self.drivers[index], base);
                 self.stopped[index] = false;
                 self.due =
                     messages::start(self.numbers, index as u32, &self.drivers[index], base, self.features).into();
@@ -301,7 +322,7 @@ impl<'a> World<'a> {
         let is_taken = self.back_end.message(&message, descriptors);
         assert_eq!(is_taken, self.model.message(&message, descriptors));
         self.counts.messages += 1;
-        self.counts.waits += u64::from(!self.model.is_free());
+        self.counts.waits += u64::from(self.model.is_waiting());
         let request = u32::from_le_bytes(message[..4].try_into().unwrap());
         if request == GET_VRING_BASE {
             if let Some(stopped) = self.stopped.get_mut(message[12] as usize) {
@@ -310,10 +331,12 @@ impl<'a> World<'a> {
             }
         }
         if request == SET_FEATURES {
-            self.features = u64::from_le_bytes(message[12..20].try_into().unwrap());
+            let features = u64::from_le_bytes(message[12..20].try_into().unwrap());
+            self.counts.logs += u64::from((self.features ^ features) & LOG_ALL != 0);
+            self.features = features;
         }
         // None is taken while one is under way.
-        if !self.model.is_free() && self.numbers.one_in(10) {
+        if !self.model.can_take() && self.numbers.one_in(10) {
             assert!(!self.back_end.message(&message, descriptors));
         }
     }
@@ -321,45 +344,61 @@ impl<'a> World<'a> {
     // ---- actions
 
     // Both do what follows.
-    fn settle(&mut self, mut ends: Vec<PartEnd>) {
+    fn settle(&mut self) {
         for run in 0.. {
             assert!(run < 10_000, "it does not come to rest");
-            let mut room = self.all.room.take().unwrap();
-            self.back_end.run(&ends, &mut room);
-            assert_eq!(room.ends_taken(), ends.len());
-            let acts = self.acts_of(&room);
-            let (has_more, state) = (room.has_more(), room.state());
-            self.all.room = Some(room);
-            assert_eq!(acts, self.model.run(&ends));
-            ends.clear();
+            let (acts, has_more) = self.run();
             let is_asked = self.perform(&acts);
-            self.check_state(state, is_asked);
-            assert!(is_asked || has_more == self.model.rings.has_next());
             if !is_asked && !has_more {
                 return;
             }
             if run < 5 && !is_asked && self.numbers.one_in(4) {
                 // The guest does not wait.
-                ends = self.any_event();
+                self.any_event();
             }
         }
     }
 
-    fn check_state(&self, state: State, is_asked: bool) {
-        let wanted = match () {
-            () if self.model.is_at_rest() => State::AtRest,
-            () if self.model.is_over() => State::Over,
-            () if self.model.is_free() => State::Free,
-            () => State::Busy,
-        };
-        if !is_asked {
-            assert_eq!(state, wanted);
-        }
+    // How many pages have a bit in the log, if writes are logged.
+    fn bits(&self) -> Option<u64> {
+        let is_on = self.back_end.features() & LOG_ALL != 0;
+        self.log.filter(|_| is_on).map(|bytes| bytes.saturating_mul(8))
     }
 
-    // The actions in the words of the model. What is marked is kept.
-    fn acts_of(&mut self, room: &Room) -> Vec<Act> {
-        let mut acts = Vec::new();
+    // Both run. Returns what is to be done, and whether another run is due.
+    fn run(&mut self) -> (Vec<Act>, bool) {
+        let turns = self.numbers.below(4) as u32;
+        let bits = self.bits();
+        self.watch.before(&self.all.guests, bits, FILE);
+        let mut room = self.all.room.take().unwrap();
+        self.back_end.run(&self.ends, turns, &mut room);
+        let (acts, marks) = self.acts_of(&room);
+        let wanted = self.model.run(&self.ends, turns);
+        for (index, id, written) in &self.model.popped {
+            self.watch.popped(*index, *id, written);
+        }
+        let bits = self.bits();
+        self.watch.after(&self.all.guests, bits, &marks);
+        self.marked.extend(marks);
+        let ran = Ran {
+            acts,
+            ends_taken: room.ends_taken(),
+            has_more: room.has_more(),
+            state: room.state(),
+        };
+        self.all.room = Some(room);
+        assert_eq!(ran, wanted);
+        self.compare();
+        self.ends.drain(..ran.ends_taken);
+        self.counts.runs += 1;
+        self.counts.left += u64::from(!self.ends.is_empty());
+        self.counts.cut += u64::from(self.model.is_cut());
+        (ran.acts, ran.has_more)
+    }
+
+    // The actions in the words of the model, and the pages that are marked.
+    fn acts_of(&mut self, room: &Room) -> (Vec<Act>, BTreeSet<u64>) {
+        let (mut acts, mut marks) = (Vec::new(), BTreeSet::new());
         for action in room.actions() {
             acts.push(match action {
                 Action::Send { bytes } => Act::Send(bytes.to_vec()),
@@ -373,13 +412,13 @@ impl<'a> World<'a> {
                 Action::Stopped(ring) => Act::Stopped(ring),
                 Action::Mark { first, count } => {
                     self.counts.marks += count;
-                    self.marked.extend(first..first + count);
+                    marks.extend(first..first + count);
                     continue;
                 }
                 Action::Serve(part) => Act::Serve(served(&part)),
             });
         }
-        acts
+        (acts, marks)
     }
 
     // Does what is asked for, and returns whether an answer was told.
@@ -389,10 +428,12 @@ impl<'a> World<'a> {
             match act {
                 Act::Serve(part) => {
                     self.counts.parts += 1;
+                    self.watch.served(part);
                     self.parts.push(part.clone());
                 }
                 Act::UnmapAll => {
                     assert!(self.parts.is_empty());
+                    self.watch.unmap();
                     self.counts.tables += 1;
                 }
                 Act::Stopped(ring) => assert!(self.parts.iter().all(|it| it.ring != *ring)),
@@ -402,13 +443,7 @@ impl<'a> World<'a> {
                 }
                 Act::Log { .. } | Act::Keep(..) => {
                     is_asked = true;
-                    if self.numbers.one_in(500) {
-                        self.back_end.failed();
-                        self.model.failed();
-                    } else {
-                        self.back_end.done();
-                        self.model.done();
-                    }
+                    self.answer(act);
                 }
                 Act::Interrupt(_) => self.counts.interrupts += 1,
                 Act::Broke(_) => self.counts.broken += 1,
@@ -422,11 +457,27 @@ impl<'a> World<'a> {
         is_asked
     }
 
+    // What was asked for is done, or could not be.
+    fn answer(&mut self, act: &Act) {
+        if self.numbers.one_in(500) {
+            return self.fail();
+        }
+        if let Act::Log { len, .. } = act {
+            self.log = Some(*len);
+        }
+        self.back_end.done();
+        self.model.done();
+    }
+
+    fn fail(&mut self) {
+        self.counts.not_done += 1;
+        self.back_end.failed();
+        self.model.failed();
+    }
+
     fn map(&mut self, region: &Announced, number: u32) {
         if self.numbers.one_in(300) {
-            self.back_end.failed();
-            self.model.failed();
-            return;
+            return self.fail();
         }
         let file = ((region.user_address - messages::USER) / 0x100_0000) as usize;
         let asked = Region {
@@ -437,12 +488,14 @@ impl<'a> World<'a> {
             user_address: region.user_address,
         };
         self.back_end.map(&asked, self.all.files[file].as_fd()).unwrap();
-        self.model.mapped(Shown {
+        let shown = Shown {
             guest: region.guest_address,
             len: region.size,
             file,
             offset: region.mmap_offset,
-        });
+        };
+        self.model.mapped(shown);
+        self.watch.map(shown);
     }
 
     // All bytes and all marks are the same.
@@ -461,13 +514,29 @@ impl<'a> World<'a> {
         } else {
             assert_eq!(self.model.marked, self.marked);
         }
-        if self.numbers.one_in(10) {
-            // The front end takes what is marked.
-            self.model.marked.clear();
-            self.marked.clear();
-            self.model.has_many = false;
-        }
     }
+
+    // The front end takes what is marked.
+    fn take_marks(&mut self) {
+        self.model.marked.clear();
+        self.marked.clear();
+        self.watch.forget();
+        self.model.has_many = false;
+    }
+}
+
+// The driver of a ring, which lies anywhere.
+fn any_driver(numbers: &mut Numbers, index: u64, features: u64) -> Driver {
+    let (is_packed, event_idx) = (features & RING_PACKED != 0, features & EVENT_IDX != 0);
+    let (file, base) = (numbers.below(2) as usize, PAGE * (index + 2 * numbers.below(2)));
+    // A few have more entries than a turn has chains.
+    let size = match (is_packed, numbers.one_in(6)) {
+        (true, false) => 1 + numbers.below(16) as u16,
+        (true, true) => 1 + numbers.below(128) as u16,
+        (false, false) => 1 << numbers.below(5),
+        (false, true) => 1 << (5 + numbers.below(3)),
+    };
+    Driver::new(file, base, size, is_packed, event_idx)
 }
 
 // What a driver accepts.
@@ -492,6 +561,7 @@ fn served(part: &Part<'_>) -> Served {
         place: part.place,
         len: part.len,
         pieces,
+        left: part.left.into(),
     }
 }
 

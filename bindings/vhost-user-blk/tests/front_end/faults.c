@@ -8,6 +8,7 @@
 #include <stdlib.h>
 #include <sys/mman.h>
 #include <sys/syscall.h>
+#include <sys/uio.h>
 #include <unistd.h>
 
 struct faults {
@@ -48,6 +49,31 @@ ssize_t pread64(int file, void *bytes, size_t count, off_t place) {
 ssize_t pwrite64(int file, const void *bytes, size_t count, off_t place) {
     ssize_t most = allowed(count, place, ENOSPC);
     return most < 0 ? -1 : syscall(SYS_pwrite64, file, bytes, most, place);
+}
+
+static ssize_t move_parts(long call, int file, const struct iovec *parts, int count, off_t place, int error) {
+    struct iovec some[1024];
+    size_t all = 0;
+    int used = 0;
+    for (int i = 0; i < count; i++)
+        all += parts[i].iov_len;
+    ssize_t most = allowed(all, place, error);
+    if (most < 0)
+        return -1;
+    for (size_t left = most; used < count && left > 0; left -= some[used++].iov_len) {
+        some[used] = parts[used];
+        if (some[used].iov_len > left)
+            some[used].iov_len = left;
+    }
+    return syscall(call, file, some, used, place, 0);
+}
+
+ssize_t preadv(int file, const struct iovec *parts, int count, off_t place) {
+    return move_parts(SYS_preadv, file, parts, count, place, EIO);
+}
+
+ssize_t pwritev(int file, const struct iovec *parts, int count, off_t place) {
+    return move_parts(SYS_pwritev, file, parts, count, place, ENOSPC);
 }
 
 int fdatasync(int file) {

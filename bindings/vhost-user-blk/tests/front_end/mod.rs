@@ -4,6 +4,7 @@
 
 pub mod faults;
 pub mod link;
+pub mod log;
 pub mod numbers;
 pub mod program;
 #[path = "../../../rust/tests/front_end/protocol.rs"]
@@ -13,7 +14,7 @@ pub mod system;
 pub use faults::Faults;
 pub use link::Link;
 pub use numbers::Numbers;
-pub use program::{image_of, Program};
+pub use program::{image_of, work_of_its_end, Program};
 pub use protocol::*;
 use std::collections::BTreeMap;
 use std::fs::File;
@@ -28,6 +29,10 @@ use std::time::{Duration, Instant};
 pub use system::*;
 
 pub const USUAL: u64 = FLUSH | INDIRECT_DESC | PROTOCOL_FEATURES | VERSION_1;
+
+/// The words for a guest that has an IOMMU, and for a small table of its addresses.
+pub const IOMMU: &[&str] = &["--iommu"];
+pub const IOMMU_8: &[&str] = &["--iommu", "--iotlb-limit", "8"];
 
 /// What the guest sees at 0 lies here in the front end.
 pub const USER: u64 = 0x7f00_0000_0000;

@@ -255,3 +255,28 @@ impl Drop for Program {
 pub fn image_of(len: usize) -> Vec<u8> {
     (0..len).map(|at| ((at / 512) as u32).to_le_bytes()[at % 4]).collect()
 }
+
+fn words_of(pid: i32) -> Vec<String> {
+    let text = fs::read_to_string(format!("/proc/{pid}/stat")).unwrap();
+    // The name of the program stands in parentheses, and its state after them.
+    let rest = text.rsplit_once(") ").unwrap().1.to_owned();
+    rest.split(' ').map(str::to_owned).collect()
+}
+
+// How long a processor worked for a process, also for one that ended, in nanoseconds: the system counts hundredths.
+fn work_of(pid: i32) -> u64 {
+    let words = words_of(pid);
+    let ticks: u64 = words[11..13].iter().map(|it| it.parse::<u64>().unwrap()).sum();
+    ticks * 10_000_000
+}
+
+/// How long a processor works for it until it ends by SIGTERM, in nanoseconds.
+pub fn work_of_its_end(program: &Program) -> u64 {
+    let (pid, before, begun) = (program.pid(), work_of(program.pid()), Instant::now());
+    program.signal(libc::SIGTERM);
+    while words_of(pid)[0] != "Z" {
+        assert!(begun.elapsed() < LONG, "it does not end");
+        sleep(Duration::from_millis(1));
+    }
+    work_of(pid) - before
+}

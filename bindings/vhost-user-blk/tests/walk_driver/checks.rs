@@ -2,11 +2,13 @@
 
 use super::dirty::Log;
 use super::link::counter;
+use super::patience;
 use super::request::Marks;
 use super::walk::{Walk, RINGS};
-use crate::front_end::{take, SET_VRING_CALL};
+use crate::front_end::{take, wait, SET_VRING_CALL};
 use std::collections::BTreeSet;
 use std::fs;
+use std::os::fd::AsRawFd;
 
 impl Walk {
     // The device does all that it can do. False if it asks for more without end: it looks at its rings after each
@@ -34,14 +36,17 @@ impl Walk {
     pub fn check(&mut self) {
         let mut now = BTreeSet::new();
         let is_at_rest = self.rest();
+        if self.model.is_whole {
+            // A ring that does not run ends what is under way.
+            self.served.rest();
+        }
         // A ring that waits tells of what it returned before only when it goes on.
         let is_held = !is_at_rest || self.io.as_ref().is_some_and(|io| io.holds);
         for index in 0..RINGS {
             self.harvest(index);
             let it = &mut self.rings[index];
-            let first = it.sent.front().map(|it| &it.request);
-            if let Some(marks) = first.map(|it| it.may_be_begun(&mut self.memory, &mut self.model)) {
-                now.extend(marks.may);
+            for sent in it.sent.iter().take(self.model.begun()) {
+                now.extend(sent.request.may_be_begun(&mut self.memory, &mut self.model).may);
             }
             assert_eq!(take(&it.ring.err), 0, "ring {index} failed");
             if it.is_due && !is_held {
@@ -99,9 +104,8 @@ impl Walk {
         let mut marks = Marks::default();
         for it in &self.rings {
             for sent in &it.sent {
-                marks
-                    .may
-                    .extend(sent.request.writes.pages(0, sent.request.writes.len()));
+                let all = sent.request.writes.len();
+                marks.may.extend(sent.request.pages_of(all, &self.model));
             }
             for part in &it.ring.parts {
                 marks.may.extend(part.pages(0, part.len()));
@@ -116,7 +120,8 @@ impl Walk {
         it.ring.call = counter(numbers);
         link.set_notifier(numbers, SET_VRING_CALL, index, Some(&it.ring.call));
         // An interrupt of before may have gone to the old one.
-        assert!(take(&it.ring.call) > 0, "a new descriptor of calls is not signalled");
+        let is_told = wait(&[it.ring.call.as_raw_fd()], patience()) && take(&it.ring.call) > 0;
+        assert!(is_told, "a new descriptor of calls is not signalled");
         self.disarm(index);
     }
 }

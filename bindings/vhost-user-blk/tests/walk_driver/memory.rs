@@ -120,10 +120,10 @@ impl Memory {
         spans
     }
 
-    /// The address after the last one.
+    /// The address after the last one, also after more memory was plugged in.
     pub fn end(&self) -> u64 {
-        let last = self.regions.last().unwrap();
-        last.guest + last.len
+        let ends = self.regions.iter().chain([&self.extra]).map(|it| it.guest + it.len);
+        ends.max().unwrap()
     }
 
     // The region of an address, the place in its mapping, and how many bytes it has from there on.

@@ -4,7 +4,7 @@ use super::iommu::{Iommu, READ, WRITE};
 use super::memory::Memory;
 use super::ring::{table_of, Rows, Shape};
 use super::stream::{Places, Stream};
-use super::Numbers;
+use super::{Numbers, PAGE};
 
 pub const SECTOR: usize = 512;
 /// How many sectors at the end of the disk may be broken.
@@ -17,14 +17,19 @@ pub struct Model {
     pub disk: Vec<u8>,
     pub name: [u8; 20],
     pub is_translated: bool,
+    /// A request is done as a whole or not at all, and all that it may write is marked.
+    pub is_whole: bool,
+    /// There are requests that the library answers by itself. Without --iommu these come back before others, and the
+    /// used index does not say where the ring goes on.
+    pub has_refused: bool,
     /// Each write is made stable.
     pub is_write_through: bool,
     /// A sync failed: none succeeds from then on.
     pub sync_failed: bool,
     /// How many syncs there have to be.
     pub syncs: u64,
-    // What may be on the disk in part.
-    maybe: Vec<(usize, Vec<u8>)>,
+    /// What may be on the disk in part.
+    pub maybe: Vec<(usize, Vec<u8>)>,
 }
 
 /// What a ring's requests may touch of the disk, in sectors: the second part is that of writes that fail in the middle.
@@ -92,6 +97,8 @@ pub struct Draw<'a> {
     pub has_flush: bool,
     /// Some sectors cannot be read or written.
     pub has_faults: bool,
+    /// There are requests that the library answers by itself.
+    pub has_refused: bool,
 }
 
 // Cuts a length into so many pieces at most.
@@ -107,6 +114,7 @@ fn cut(numbers: &mut Numbers, len: usize, most: usize) -> Vec<usize> {
 impl Draw<'_> {
     fn what(&mut self) -> What {
         match self.numbers.below(40) {
+            it @ (3..=11) if !self.has_refused => [What::Read, What::Write][it as usize % 2],
             0 | 1 if self.has_flush => What::Flush,
             2 => What::Id,
             3 => What::Short,
@@ -127,7 +135,8 @@ impl Draw<'_> {
         let most = (self.bytes / SECTOR).min(sectors as usize) as u64;
         let is_long = self.bytes == MOST && self.numbers.one_in(2) || self.numbers.one_in(4);
         let few = if is_long { most } else { most.min(9) };
-        SECTOR * self.numbers.below(few + 1) as usize
+        let least = u64::from(!self.has_refused);
+        SECTOR * (least + self.numbers.below(few + 1 - least)) as usize
     }
 
     /// A request, if there is room for it.
@@ -323,6 +332,27 @@ impl Request {
         [&self.reads, &self.writes].into_iter().chain(&self.table)
     }
 
+    /// Whether the library answers it by itself, before the requests that are under way.
+    pub fn is_refused(&self) -> bool {
+        match self.what {
+            What::Read => self.writes.len() <= 1,
+            What::Write => self.data.is_empty(),
+            What::Flush | What::Id => false,
+            What::Broken => false,
+            _ => true,
+        }
+    }
+
+    /// The pages that may be marked for so many bytes, or for all that it writes, also where there is no memory.
+    pub fn pages_of(&self, len: usize, model: &Model) -> Vec<u64> {
+        if !model.is_whole {
+            return self.writes.pages(0, len).collect();
+        }
+        let pieces = self.writes.pieces.iter().filter(|it| it.1 > 0);
+        let pages = |&(addr, len): &(u64, u32)| addr / PAGE..=(addr + u64::from(len) - 1) / PAGE;
+        pieces.flat_map(pages).collect()
+    }
+
     // Whether it makes the disk stable.
     fn syncs(&self, model: &Model) -> bool {
         match self.what {
@@ -340,7 +370,7 @@ impl Request {
         let room = self.writes.len().saturating_sub(1);
         match self.what {
             What::Read => (model.disk[self.place()..self.place() + room].to_vec(), 0),
-            What::LostRead(good) => (model.disk[self.place()..self.place() + good].to_vec(), 1),
+            What::LostRead(good) if !model.is_whole => (model.disk[self.place()..self.place() + good].to_vec(), 1),
             What::Id => (model.name[..room.min(20)].to_vec(), 0),
             What::Write | What::Flush => (Vec::new(), u8::from(model.sync_failed && self.syncs(model))),
             What::Unknown => (Vec::new(), 2),
@@ -355,7 +385,7 @@ impl Request {
         let (len, room) = (len as usize, self.writes.len());
         let mut marks = Marks::default();
         let done = match self.what {
-            What::LostRead(good) => {
+            What::LostRead(good) if !model.is_whole => {
                 assert!(
                     len == good || model.is_translated && len < good,
                     "{len} bytes of {good}"
@@ -372,14 +402,14 @@ impl Request {
         self.writes.expect(memory, 0, &data[..done]);
         self.writes.settle(memory, done, &data[done..]);
         marks.must.extend(self.writes.pages(0, done));
-        marks.may.extend(self.writes.pages(0, data.len()));
+        marks.may.extend(self.pages_of(data.len(), model));
         if room > 0 {
             self.writes.expect(memory, room - 1, &[status]);
             marks.must.extend(self.writes.pages(room - 1, 1));
         }
         match self.what {
             What::Write => model.disk[self.place()..][..self.data.len()].copy_from_slice(&self.data),
-            What::LostWrite(good) => model.maybe.push((self.place(), self.data[..good].to_vec())),
+            What::LostWrite(good) if !model.is_whole => model.maybe.push((self.place(), self.data[..good].to_vec())),
             _ => (),
         }
         marks
@@ -390,7 +420,7 @@ impl Request {
         let (data, status) = self.answer(model);
         let room = self.writes.len();
         self.writes.settle(memory, 0, &data);
-        let mut may: Vec<u64> = self.writes.pages(0, data.len()).collect();
+        let mut may = self.pages_of(data.len(), model);
         if room > 0 {
             // A request whose data were lost while it waited fails, too.
             self.writes.settle(memory, room - 1, &[status]);
@@ -398,7 +428,7 @@ impl Request {
         }
         let good = match self.what {
             What::Write => self.data.len(),
-            What::LostWrite(good) => good,
+            What::LostWrite(good) if !model.is_whole => good,
             _ => 0,
         };
         if good > 0 {
@@ -409,17 +439,29 @@ impl Request {
 }
 
 impl Model {
-    pub fn new(disk: Vec<u8>, name: &str, is_translated: bool, is_write_through: bool) -> Model {
+    /// A disk with these bytes and this name, of which nothing is known of how requests are served.
+    pub fn new(disk: Vec<u8>, name: &str) -> Model {
         let mut padded = [0; 20];
         padded[..name.len()].copy_from_slice(name.as_bytes());
         Model {
             disk,
             name: padded,
-            is_translated,
-            is_write_through,
+            is_translated: false,
+            is_whole: false,
+            has_refused: true,
+            is_write_through: false,
             sync_failed: false,
             syncs: 0,
             maybe: Vec::new(),
+        }
+    }
+
+    /// How many requests of a ring may be begun.
+    pub fn begun(&self) -> usize {
+        if self.is_whole {
+            usize::MAX
+        } else {
+            1
         }
     }
 

@@ -223,20 +223,22 @@ impl Ring {
         });
     }
 
-    /// Takes a chain that came back, which has to be the one that was published first: its length, and which of the
-    /// bytes of which part the device wrote.
-    pub fn take(&mut self, memory: &mut Memory) -> Option<(u32, Wrote)> {
+    /// Takes a chain that came back: how many of those before it did not, its length, and which of the bytes of which
+    /// part the device wrote.
+    pub fn take(&mut self, memory: &mut Memory) -> Option<(usize, u32, Wrote)> {
         let (id, len, wrote) = match self.shape.is_packed {
             true => self.take_packed(memory)?,
             false => self.take_split(memory)?,
         };
-        let chain = self
-            .chains
-            .pop_front()
-            .expect("more chains come back than were published");
-        assert_eq!(id, u32::from(chain.head), "another chain comes back");
+        let place = self.place_of(id);
+        let chain = self.chains.remove(place).expect("it is there");
         self.free.extend(chain.ids);
-        Some((len, wrote))
+        Some((place, len, wrote))
+    }
+
+    fn place_of(&self, id: u32) -> usize {
+        let place = self.chains.iter().position(|it| u32::from(it.head) == id);
+        place.expect("a chain comes back that is not out")
     }
 
     fn take_split(&mut self, memory: &mut Memory) -> Option<(u32, u32, Wrote)> {
@@ -262,19 +264,18 @@ impl Ring {
         let place = 16 * usize::from(self.used.at);
         let flags = memory.load(self.parts[0].spot(place + 14));
         let is = |bit: u16| flags & bit != 0;
-        let chain = self.chains.front()?;
-        if is(AVAIL) != self.used.wrap || is(USED) != self.used.wrap {
+        if self.chains.is_empty() || is(AVAIL) != self.used.wrap || is(USED) != self.used.wrap {
             return None;
         }
-        let slots = chain.slots;
         let entry = self.parts[0].get(memory, place + 8, 8);
         self.parts[0].expect(memory, place + 8, &entry);
-        self.used.go_on(slots, self.shape.size);
-        self.free_slots += slots;
         let len = u32::from_le_bytes(entry[..4].try_into().unwrap());
         assert!(len == 0 || is(WRITTEN), "a length without bytes that were written");
-        let id = u16::from_le_bytes(entry[4..6].try_into().unwrap());
-        Some((id.into(), len, vec![(0, place + 8, 8)]))
+        let id = u16::from_le_bytes(entry[4..6].try_into().unwrap()).into();
+        let slots = self.chains[self.place_of(id)].slots;
+        self.used.go_on(slots, self.shape.size);
+        self.free_slots += slots;
+        Some((id, len, vec![(0, place + 8, 8)]))
     }
 
     /// Whether the device asks to be notified of what was published.

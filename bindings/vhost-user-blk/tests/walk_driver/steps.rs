@@ -163,6 +163,10 @@ impl Walk {
     fn alone(&mut self, step: impl Fn(&mut Walk)) {
         let enabled: Vec<usize> = (0..RINGS).filter(|&it| self.rings[it].is_enabled).collect();
         enabled.iter().for_each(|&index| self.enable(index, false));
+        if self.model.is_whole {
+            // What is under way comes back.
+            self.served.rest();
+        }
         self.harvest_all();
         step(self);
         if self.numbers.one_in(2) {
@@ -389,6 +393,9 @@ impl Walk {
             let bytes = message(SET_FEATURES, 0, &[0; 8]);
             let count = 1 + self.numbers.below(bytes.len() as u64 - 1) as usize;
             send(&self.link.socket, &bytes[..count], &[]);
+        }
+        if self.model.is_whole && self.model.has_refused {
+            self.served.rest();
         }
         let log = self.log.is_some().then(|| self.leave_log());
         self.features &= !LOG_ALL;

@@ -80,8 +80,16 @@ impl Walk {
         let disk = numbers.bytes(SECTORS as usize * SECTOR);
         let is_translated = seed % 2 == 1;
         let limit = numbers.of(&["8", "16", "64", ROOMY, ROOMY, ROOMY]);
-        let words = ["--queues", "2", "--iotlb-limit", limit, "--write-through"];
-        let upto = if numbers.one_in(5) { 5 } else { 4 };
+        let is_write_through = numbers.one_in(5);
+        let mut words = vec!["--queues", "2"];
+        // Some drivers refuse ACCESS_PLATFORM.
+        let has_iommu = is_translated || seed % 6 == 4;
+        if has_iommu {
+            words.extend(["--iommu", "--iotlb-limit", limit]);
+        }
+        if is_write_through {
+            words.push("--write-through");
+        }
         let folder = Program::prepare_with(name, &disk);
         let bad_from = (SECTORS - BROKEN) * SECTOR as u64;
         let faults = if numbers.one_in(3) {
@@ -89,14 +97,20 @@ impl Walk {
         } else {
             None
         };
-        println!("{:?}, with faults: {}", &words[..upto], faults.is_some());
-        let served = start(&folder, &words[..upto], faults.as_ref());
+        println!("{words:?}, with faults: {}", faults.is_some());
+        let served = start(&folder, &words, faults.as_ref());
         let memory = Memory::new(seed / 2 % 2 == 1);
         let link = connect(&served);
         let mut walk = Walk {
             places: Places::new(&memory, is_translated),
             io: None,
-            model: Model::new(disk, NAME, is_translated, upto == 5),
+            model: Model {
+                is_translated,
+                is_whole: !has_iommu,
+                has_refused: has_iommu || numbers.one_in(2),
+                is_write_through,
+                ..Model::new(disk, NAME)
+            },
             is_roomy: limit == ROOMY,
             is_strict: numbers.one_in(2),
             numbers,
@@ -332,6 +346,7 @@ impl Walk {
                 sectors: SECTORS,
                 has_flush: self.features & FLUSH != 0,
                 has_faults: self.faults.is_some(),
+                has_refused: self.model.has_refused,
             };
             let Some(request) = draw.request(&mut self.memory) else {
                 return self.forget_stale();
@@ -367,10 +382,16 @@ impl Walk {
     /// Takes what came back, and says how many that were.
     pub fn harvest(&mut self, index: usize) -> usize {
         let mut count = 0;
-        while let Some((len, wrote)) = self.rings[index].ring.take(&mut self.memory) {
+        while let Some((place, len, wrote)) = self.rings[index].ring.take(&mut self.memory) {
             count += 1;
             let it = &mut self.rings[index];
-            let sent = it.sent.pop_front().expect("as many as there are chains");
+            let sent = it.sent.remove(place).expect("as many as there are chains");
+            if place > 0 {
+                let what = sent.request.what;
+                let may_come = self.model.is_whole && self.model.has_refused && sent.request.is_refused();
+                assert!(may_come, "{what:?} comes back early");
+                (it.armed, it.is_due) = (None, false);
+            }
             let mut marks = sent.request.finish(len, &mut self.memory, &mut self.model);
             for (part, at, len) in wrote {
                 marks.must.extend(it.ring.parts[part].pages(at, len));
@@ -510,13 +531,13 @@ impl Walk {
         (self.rings[index].armed, self.rings[index].is_due) = (None, false);
     }
 
-    /// Forgets what is out. The first one of each ring may be done in part. The device has no mappings: it is told of
-    /// none that goes.
+    /// Forgets what is out. Some of each ring may be done in part. The device has no mappings: it is told of none that
+    /// goes.
     pub fn abandon(&mut self) {
         for index in 0..RINGS {
             let sent = std::mem::take(&mut self.rings[index].sent);
-            if let Some(first) = sent.front() {
-                let marks = first.request.may_be_begun(&mut self.memory, &mut self.model);
+            for begun in sent.iter().take(self.model.begun()) {
+                let marks = begun.request.may_be_begun(&mut self.memory, &mut self.model);
                 self.log.iter_mut().for_each(|log| log.allow(&marks));
             }
             self.rings[index].ring.abandon();

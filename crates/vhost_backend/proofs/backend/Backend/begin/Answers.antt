@@ -5,4 +5,4 @@ pub returns-in-Err : goal.returns-in-Err
 returns-in-Err c =
     let (fails, same) = rw c.in-Err.is at c.serve.ensures in
     let released = ap (λ t. t.0) c.handle.ensures in
-    rw (← c.self.view_is, fails, released, c.refuse.ensures, same) refl
+    rw (← c.self.view_is, fails, released, same) refl

@@ -8,7 +8,7 @@ pub invariant_of-self : goal.invariant_of-self
 invariant_of-self g c =
     let short : Short c.shortened-request.result =
     rw c.shortened-request.ensures
-    (short_request c.args.terms.sectors c.in-Ok.request c.in-Ok.ensures.fits c.requires.small) in
+    (short_request _ _ c.args.terms.sectors c.in-Ok.request c.in-Ok.ensures.fits c.requires.small) in
     let asked : Asked = record { chain = c.args.popped.1; request = c.shortened-request.result } in
     short_set c.self.inside.asked.items c.from.result (Some asked) c.self.invariant (λ a is.
     let same : asked ≡ a = cc in subst (λ (x : Asked). Short x.request) same short)

@@ -1,0 +1,270 @@
+//! What a guest and its front end see of returned chains while writes are logged. It knows what drivers published,
+//! what was asked for, and what lies in guest memory, and nothing of what the model does.
+//!
+//! A page that a chain's request may change is marked after the last write to it and in a run before the one in which
+//! the chain shows up as returned. Other bytes that a run changes are marked by that run.
+
+use super::acts::Served;
+use super::driver::{Driver, Published, PAGE, PARTS};
+use super::memory::Shown;
+use crate::guest::Guest;
+use std::collections::{BTreeMap, BTreeSet};
+
+// A chain that was published, and was not seen as returned.
+struct Out {
+    id: u16,
+    slots: u16,
+    // What the device may write there.
+    written: Vec<(u64, u64)>,
+    // Whether the device read it as it was published.
+    is_known: bool,
+    // The pages that are marked before it is returned, and the run from which on they have to be.
+    pages: BTreeSet<u64>,
+    since: u64,
+}
+
+#[derive(Default)]
+struct Ring {
+    file: usize,
+    base: u64,
+    size: u16,
+    is_packed: bool,
+    // Where the next return shows up.
+    next: u16,
+    slot: (u16, bool),
+    out: Vec<Out>,
+    // What lies there was not written by driver and device alone.
+    is_lost: bool,
+}
+
+/// What was seen.
+#[derive(Clone, Copy, Debug, Default)]
+pub struct Seen {
+    pub returned: u64,
+    pub logged: u64,
+    pub pages: u64,
+    pub lost: u64,
+}
+
+impl Seen {
+    pub fn add(&mut self, other: &Seen) {
+        self.returned += other.returned;
+        self.logged += other.logged;
+        self.pages += other.pages;
+        self.lost += other.lost;
+    }
+}
+
+#[derive(Default)]
+pub struct Watch {
+    rings: [Ring; 2],
+    regions: Vec<Shown>,
+    // The number of the run, and of each page the runs that marked it.
+    run: u64,
+    marks: BTreeMap<u64, Vec<u64>>,
+    // How many pages had a bit before the run, and what lay in the files.
+    bits: Option<u64>,
+    before: Vec<Vec<u8>>,
+    pub seen: Seen,
+}
+
+fn pages_of(written: &[(u64, u64)]) -> impl Iterator<Item = u64> + '_ {
+    let of = |&(address, len): &(u64, u64)| address / PAGE..=address.saturating_add(len - 1) / PAGE;
+    written.iter().filter(|it| it.1 > 0).flat_map(of)
+}
+
+impl Ring {
+    fn word(&self, guests: &[Guest; 2], offset: u64) -> u16 {
+        let bytes = guests[self.file].read((self.base + offset) as usize, 2);
+        u16::from_le_bytes([bytes[0], bytes[1]])
+    }
+
+    // The id of the chain that shows up as returned next, if one does.
+    fn returned(&self, guests: &[Guest; 2]) -> Option<u16> {
+        if self.is_packed {
+            let place = 16 * u64::from(self.slot.0);
+            let flags = self.word(guests, place + 14);
+            let is_used = (flags & 0x80 != 0) == self.slot.1 && (flags & 0x8000 != 0) == self.slot.1;
+            return is_used.then(|| self.word(guests, place + 12));
+        }
+        let is_used = self.word(guests, PARTS[2] + 2) != self.next;
+        is_used.then(|| self.word(guests, PARTS[2] + 4 + 8 * u64::from(self.next % self.size)))
+    }
+
+    // Takes a chain that shows up as returned. `None` if there is none.
+    fn take(&mut self, guests: &[Guest; 2]) -> Option<Out> {
+        if self.is_lost || self.out.is_empty() {
+            return None;
+        }
+        let id = self.returned(guests)?;
+        let place = self.out.iter().position(|it| it.id == id);
+        let Some(place) = place else {
+            self.is_lost = true;
+            return None;
+        };
+        let out = self.out.remove(place);
+        self.next = self.next.wrapping_add(1);
+        let at = self.slot.0 + out.slots;
+        self.slot = match at < self.size {
+            true => (at, self.slot.1),
+            false => (at - self.size, !self.slot.1),
+        };
+        Some(out)
+    }
+}
+
+impl Watch {
+    /// A driver made its ring anew, from a base on.
+    pub fn begin(&mut self, index: usize, driver: &Driver, base: u32) {
+        self.rings[index] = Ring {
+            file: driver.file,
+            base: driver.base,
+            size: driver.size,
+            is_packed: driver.is_packed,
+            next: base as u16,
+            slot: (base as u16 & 0x7fff, base >> 15 & 1 == 1),
+            ..Ring::default()
+        };
+    }
+
+    pub fn publish(&mut self, index: usize, it: Published) {
+        let ring = &mut self.rings[index];
+        ring.is_lost |= !it.is_honest;
+        ring.out.push(Out {
+            id: it.id,
+            slots: it.slots,
+            written: it.written,
+            is_known: true,
+            pages: BTreeSet::new(),
+            since: 0,
+        });
+    }
+
+    /// A region was mapped.
+    pub fn map(&mut self, shown: Shown) {
+        self.regions.push(shown);
+    }
+
+    /// Nothing is mapped any more: what chains say leads elsewhere from now on.
+    pub fn unmap(&mut self) {
+        self.regions.clear();
+        for it in self.rings.iter_mut().flat_map(|ring| &mut ring.out) {
+            it.is_known = false;
+        }
+    }
+
+    // The chain with an id that was published first.
+    fn out(&mut self, index: usize, id: u16) -> Option<&mut Out> {
+        self.rings[index].out.iter_mut().find(|it| it.id == id)
+    }
+
+    /// The device popped a chain in the last run, and may write there. A driver that writes elsewhere than it meant to
+    /// may have changed its own chains.
+    pub fn popped(&mut self, index: usize, id: u16, written: &[(u64, u64)]) {
+        let run = self.run;
+        let Some(it) = self.out(index, id) else { return };
+        it.since = run;
+        it.is_known &= it.written == written;
+        if it.is_known {
+            it.pages.extend(pages_of(written));
+        }
+    }
+
+    /// A part is served, which may change these pieces.
+    pub fn served(&mut self, part: &Served) {
+        let regions = &self.regions;
+        let of = |&(region, offset, len): &(u64, u64, u64)| (regions[region as usize].guest + offset, len);
+        let places: Vec<_> = part.pieces.iter().map(of).collect();
+        if part.is_written() {
+            if let Some(it) = self.out(part.ring as usize, part.id as u16) {
+                it.pages.extend(pages_of(&places));
+            }
+        }
+    }
+
+    /// The end of a part goes into the next run: its bytes were written.
+    pub fn ended(&mut self, ring: u32, id: u32) {
+        let run = self.run + 1;
+        if let (0..=1, Ok(id)) = (ring, u16::try_from(id)) {
+            if let Some(it) = self.out(ring as usize, id) {
+                it.since = run;
+            }
+        }
+    }
+
+    /// A run comes. So many pages have a bit in the log, if writes are logged.
+    pub fn before(&mut self, guests: &[Guest; 2], bits: Option<u64>, len: u64) {
+        self.run += 1;
+        self.bits = bits;
+        self.before.clear();
+        if bits.is_some() {
+            self.before.extend(guests.iter().map(|it| it.read(0, len as usize)));
+        }
+        for ring in &mut self.rings {
+            // The guest itself wrote there.
+            ring.is_lost |= !ring.out.is_empty() && ring.returned(guests).is_some();
+        }
+    }
+
+    /// The run marked these pages. None of them was marked by the program yet.
+    pub fn after(&mut self, guests: &[Guest; 2], bits: Option<u64>, marks: &BTreeSet<u64>) {
+        let bits = self.bits.filter(|before| bits == Some(*before));
+        for index in 0..2 {
+            while let Some(out) = self.rings[index].take(guests) {
+                self.seen.returned += 1;
+                self.seen.lost += u64::from(!out.is_known);
+                if let Some(bits) = bits {
+                    self.expect_marks(&out, bits);
+                }
+            }
+        }
+        if let Some(bits) = bits {
+            self.expect_changes(guests, bits, marks);
+        }
+        for page in marks {
+            self.marks.entry(*page).or_default().push(self.run);
+        }
+    }
+
+    // The pages of a chain that is returned now were marked before.
+    fn expect_marks(&mut self, out: &Out, bits: u64) {
+        self.seen.logged += 1;
+        for page in out.pages.iter().filter(|it| **it < bits) {
+            self.seen.pages += 1;
+            let runs = self.marks.get(page).map_or(&[][..], |it| it);
+            let is_marked = runs.iter().any(|run| out.since <= *run && *run < self.run);
+            let (id, since, run) = (out.id, out.since, self.run);
+            assert!(
+                is_marked,
+                "chain {id}, written until run {since}, is returned in run {run}: page {page:#x} was marked in {runs:?}"
+            );
+        }
+    }
+
+    // What was changed by this run was marked by it.
+    fn expect_changes(&self, guests: &[Guest; 2], bits: u64, marks: &BTreeSet<u64>) {
+        for it in &self.regions {
+            let before = &self.before[it.file][it.offset as usize..][..it.len as usize];
+            let now = guests[it.file].read(it.offset as usize, it.len as usize);
+            let pages = before.chunks(PAGE as usize).zip(now.chunks(PAGE as usize));
+            let changed = (it.guest / PAGE..)
+                .zip(pages)
+                .filter(|(_, (before, now))| before != now);
+            for (page, _) in changed.filter(|it| it.0 < bits) {
+                assert!(
+                    marks.contains(&page),
+                    "page {page:#x} was changed, and not marked by this run"
+                );
+            }
+        }
+    }
+
+    /// The front end took what is marked.
+    pub fn forget(&mut self) {
+        let run = self.run;
+        self.marks.retain(|_, runs| {
+            runs.retain(|it| *it + 64 > run);
+            !runs.is_empty()
+        });
+    }
+}

@@ -1,0 +1,76 @@
+-- What a step of a turn leaves of a queue's requests: their ids, and all of them if nothing happens to the ring.
+use Rattle.std.proofs.Common.{◌≡◌, ◌∙◌, Bool, true, false, length, Option, Some, None, Result, Ok, Err, MatchBool, ap, sym, subst}
+use Rattle.std.proofs.Math.ListN.{length-set}
+use Rattle.vm_memory_guest.specs.declared.region.error.GuestMemoryError.{GuestMemoryError}
+use Rattle.virtio_queue.specs.Any.{past}
+use Rattle.virtio_queue.specs.declared.error.QueueError.{QueueError}
+use Rattle.virtio_blk.specs.declared.request.Request.{Request}
+use Rattle.virtio_blk.specs.declared.request.Request.TheVariants.{Refused}
+use Rattle.virtio_blk.specs.declared.request.DeviceLimits.{DeviceLimits}
+use Rattle.vhost_backend.proofs.TurnLemmas.{nothing_popped}
+use Rattle.vhost_backend.specs.BlockQueue.{AfterAsk, AfterPop, BlockQueueState, HappensNext, Pops, begun, event_of, has_place, popped, with_queue}
+use Rattle.vhost_backend.specs.RingMemory.{MemoryStep, Returned}
+use Rattle.vhost_backend.specs.RingMemory as memory
+use Rattle.vhost_backend.specs.declared.block_queue.Pop.{Pop}
+use Rattle.vhost_backend.specs.declared.block_queue.Pop.TheVariants as pop
+use Rattle.vhost_backend.specs.declared.ring.RingEvent.{RingEvent}
+
+abbrev pub Kept : Option RingEvent → BlockQueueState → BlockQueueState → Type 0
+Kept e q q' = (length q'.asked ≡ length q.asked) × (e ≡ None → q'.asked ≡ q.asked)
+
+same : (e : Option RingEvent) (q q' : BlockQueueState) → q'.asked ≡ q.asked → Kept e q q'
+same e q q' is = (ap length is, λ none. is)
+
+module _ {H : Type 0} (step : H → (s : MemoryStep) → Returned s → H → Type 0) (terms : DeviceLimits) where
+  pops_kept : (q : BlockQueueState) (old : H) (found : Pop) (q' : BlockQueueState) (new : H)
+      → Pops step terms q old found q' new → Kept (event_of found) q q'
+  pops_kept q old found q' new (Ok None, mid, stepped, (is, kept, still)) =
+      same (event_of found) q q' (ap (λ n. n.asked) kept)
+  pops_kept q old found q' new (Err error, mid, stepped, (is, kept, still)) =
+      same (event_of found) q q' (ap (λ n. n.asked) kept)
+  pops_kept q old found q' new (Ok (Some p), mid, stepped, begins) = go (has_place q p.0.id) begins
+    where
+      next : BlockQueueState
+      next = with_queue q (past q.queue p.0)
+
+      read : (request : Result Request GuestMemoryError) → (found, q') ≡ begun q.queue next p.0 p.1 request
+          → Kept (event_of found) q q'
+      read (Ok request) is = (
+        ap (λ t. length t.1.asked) is ∙ length-set q.asked p.0.id _,
+        λ none. let some = ap (λ t. event_of t.0) is in let bad = sym some ∙ none in absurd (cc),
+      )
+      read (Err error) is = same (event_of found) q q' (ap (λ t. t.1.asked) is)
+
+      go : (place : Bool) → MatchBool place
+          ((request : Result Request GuestMemoryError) × step mid (memory.begins terms p.1) request new
+          × ((found, q') ≡ begun q.queue next p.0 p.1 request))
+          ((found ≡ popped p.0 (Refused 1)) × (q' ≡ next) × (new ≡ mid)) → Kept (event_of found) q q'
+      go true (request, looked, is) = read request is
+      go false (is, kept, still) = same (event_of found) q q' (ap (λ n. n.asked) kept)
+
+  ask_kept : (q : BlockQueueState) (answer : Result Bool QueueError) (asked : H) (e : Option RingEvent)
+      (q' : BlockQueueState) (new : H) → AfterAsk step terms q answer asked e q' new → Kept e q q'
+  ask_kept q (Ok true) asked e q' new (found, pops, is) =
+      subst (λ x. Kept x q q') (sym is) (pops_kept q asked found q' new pops)
+  ask_kept q (Ok false) asked e q' new (is, kept, still) = same e q q' (ap (λ n. n.asked) kept)
+  ask_kept q (Err error) asked e q' new (is, kept, still) = same e q q' (ap (λ n. n.asked) kept)
+
+  after_kept : (q : BlockQueueState) (old : H) (found : Pop) (mid_q : BlockQueueState) (mid : H)
+      → Pops step terms q old found mid_q mid → (e : Option RingEvent) (q' : BlockQueueState) (new : H)
+      → AfterPop step terms found mid_q mid e q' new → Kept e q q'
+  after_kept q old pop.None mid_q mid pops e q' new (answer, asked, asks, after) =
+      let (kept, stepped) = nothing_popped step terms q mid_q old mid pops in
+      subst (λ x. Kept e x q') kept (ask_kept mid_q answer asked e q' new after)
+  after_kept q old (pop.Chain chain parts bytes) mid_q mid pops e q' new (is, kept, still) =
+      subst (λ x. Kept e q x) (sym kept)
+      (subst (λ x. Kept x q mid_q) (sym is) (pops_kept q old (pop.Chain chain parts bytes) mid_q mid pops))
+  after_kept q old (pop.Broken error) mid_q mid pops e q' new (is, kept, still) =
+      subst (λ x. Kept e q x) (sym kept)
+      (subst (λ x. Kept x q mid_q) (sym is) (pops_kept q old (pop.Broken error) mid_q mid pops))
+  after_kept q old pop.Later mid_q mid pops e q' new (is, kept, still) =
+      subst (λ x. Kept e q x) (sym kept)
+      (subst (λ x. Kept x q mid_q) (sym is) (pops_kept q old pop.Later mid_q mid pops))
+
+  pub next_kept : (q : BlockQueueState) (old : H) (e : Option RingEvent) (q' : BlockQueueState) (new : H)
+      → HappensNext step terms q old e q' new → Kept e q q'
+  next_kept q old e q' new (found, mid_q, mid, pops, after) = after_kept q old found mid_q mid pops e q' new after

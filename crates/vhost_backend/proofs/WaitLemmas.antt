@@ -1,0 +1,410 @@
+-- A page that waits to be marked waits until it is given, and marks come before all else.
+use Rattle.std.proofs.Common.{◌≡◌, ◌∙◌, ◌⊎◌, ℕ, ◌+◌, ◌-◌, ◌==◌, ◌^◌, nat_lt, ◌&&◌, Bool, true, false, List, [], ◌∷◌, ◌++◌, Option, Some, None, is_none, if◌then◌else◌, refl, ap, sym, subst, inl, inr, arith, append_assoc}
+use Rattle.std.specs.List.{flat_map, slice_get}
+use Rattle.std.specs.Option.{option_to_list}
+use Rattle.vm_memory_guest.specs.Memory.{Memory}
+use Rattle.vhost_message.specs.declared.regions.MemoryRegion.{MemoryRegion}
+use Rattle.vhost_user.specs.Log.{log_kept}
+use Rattle.vhost_backend.specs.BlockBackend.{hung_up, is_done}
+use Rattle.vhost_backend.specs.BlockConnection.{is_covered, looked_after, pages_in, with_backend, with_log}
+use Rattle.vhost_backend.specs.ConnectionMemory.{Joins, MemoryState, marks_nothing, memory_of, memory_step, with_pages}
+use Rattle.vhost_backend.specs.PageList.{InAny, InRange, IsToMark, NoneToMark, Pages, TakesRange, added_if, marked, pages_of}
+use Rattle.vhost_backend.specs.RingMemory.{Logs, MemoryStep, Returned, adds_used, begins, enables, finishes, marks, needs, pops, reads_used}
+use Rattle.vhost_backend.specs.Run.{Course, EventBy, Follows, GivesBy, LooksBy, MayStep, Move, MoveBy, Moves, StepsTo, after_sent, does, end_of, end_taken, ends_of, gives_marks, gives_part, goes_on, looked, looks, loses, open_part, part_ended, takes_end, takes_turn, with_connection}
+use Rattle.vhost_backend.specs.RunLaws.{GivesPage, IsGiven, Waits, is_marks}
+use Rattle.vhost_backend.specs.declared.block.BlockStep.{BlockStep}
+use Rattle.vhost_backend.specs.declared.block_backend.BlockBackend.{BlockBackend}
+use Rattle.vhost_backend.specs.declared.block_connection.BlockConnection.{BlockConnection}
+use Rattle.vhost_backend.specs.declared.deeds.Deed.{Deed}
+use Rattle.vhost_backend.specs.declared.deeds.Deed.TheVariants as deed
+use Rattle.vhost_backend.specs.declared.deeds.Made.{Made}
+use Rattle.vhost_backend.specs.declared.deeds.Made.TheVariants as made
+use Rattle.vhost_backend.specs.declared.deeds.Why.TheVariants.{Log}
+use Rattle.vhost_backend.specs.declared.page_list.PageRange.{PageRange}
+use Rattle.vhost_backend.specs.declared.ring_memory.Logged.{Logged}
+use Rattle.vhost_backend.specs.declared.rows.EndRow.{EndRow}
+use Rattle.vhost_backend.proofs.KeepLemmas.{looks_keep, steps_keep}
+use Rattle.vhost_backend.proofs.PageLemmas.{any_of, still_to_mark}
+
+-- ---- steps
+
+-- each page that was to be marked still is
+Grows : Logged (Unit {0}) → Logged (Unit {0}) → Type 0
+Grows old new = (page : ℕ) → IsToMark page old.pages → IsToMark page new.pages
+
+grows_stay : (l : Logged (Unit {0})) → Grows l l
+unfolding Grows
+grows_stay l page is = is
+
+grows_then : (a b c : Logged (Unit {0})) → Grows a b → Grows b c → Grows a c
+unfolding Grows
+grows_then a b c first second page is = second page (first page is)
+
+grows_same : (old new : Logged (Unit {0})) → new.pages ≡ old.pages → Grows old new
+unfolding Grows
+grows_same old new is page was = subst (IsToMark page) (sym is) was
+
+grows_marked : (l : Pages) (o : Option PageRange) (page : ℕ) → IsToMark page l → IsToMark page (added_if l o)
+grows_marked l None page is = is
+grows_marked l (Some range) page is = still_to_mark page l range is
+
+grows_each : (m : Memory) (old : Logged (Unit {0})) (s : MemoryStep) (r : Returned s) (new : Logged (Unit {0}))
+    → Logs marks_nothing m old s r new → Grows old new
+unfolding Grows
+grows_each m old (marks base offset len) r new p =
+    λ page is. subst (IsToMark page) (sym p.1) (grows_marked old.pages (pages_of old.pages.pages base offset len) page is)
+grows_each m old (pops q) r new p = grows_same old new p.1
+grows_each m old (adds_used q buffer len) r new p = grows_same old new p.1
+grows_each m old (needs q) r new p = grows_same old new p.1
+grows_each m old (enables q) r new p = grows_same old new p.1
+grows_each m old (begins terms chain) r new p = grows_same old new p.1
+grows_each m old (finishes chain status moved) r new p = grows_same old new p.1
+grows_each m old (reads_used q) r new p = grows_same old new p.1
+
+-- ---- a connection
+
+-- each page that was to be marked still is
+Keeps : BlockConnection → BlockConnection → Type 0
+Keeps c c' = (page : ℕ) → IsToMark page c.memory.logged.pages → IsToMark page c'.memory.logged.pages
+
+keeps_by : (c c' : BlockConnection) → c'.memory.logged.pages ≡ c.memory.logged.pages → Keeps c c'
+unfolding Keeps
+keeps_by c c' is page was = subst (IsToMark page) (sym is) was
+
+step_keeps : (c c' : BlockConnection) (m : Made) → StepsTo c m c' → Keeps c c'
+unfolding Keeps Grows
+step_keeps c c' m (steps, is) = steps_keep (memory_step c.memory) Grows grows_stay grows_then
+    (grows_each (memory_of c.memory)) c.backend c.memory.logged m c'.backend c'.memory.logged steps
+
+look_keeps : (c c' : BlockConnection) (v : Bool) → LooksBy c v c' → Keeps c c'
+unfolding Keeps Grows
+look_keeps c c' v (by, is) = looks_keep (memory_step c.memory) Grows grows_stay grows_then
+    (grows_each (memory_of c.memory)) c.backend c.memory.logged v c'.backend c'.memory.logged by
+
+sent_pages : (d : Deed) (c : BlockConnection) → (after_sent d c).memory.logged.pages ≡ c.memory.logged.pages
+sent_pages deed.Send c = refl
+sent_pages deed.UnmapAll c = refl
+sent_pages (deed.Map region descriptor) c = refl
+sent_pages deed.Join c = refl
+sent_pages (deed.Log size offset) c = refl
+sent_pages (deed.Keep p is) c = refl
+sent_pages (deed.Part ring id part left) c = refl
+sent_pages (deed.Interrupt ring) c = refl
+sent_pages (deed.Tell ring) c = refl
+sent_pages (deed.Stopped ring) c = refl
+sent_pages (deed.End y) c = refl
+
+open_pages : (c : BlockConnection) (ring id : ℕ) (part : BlockStep) (left : ℕ) (v : Bool)
+    → (open_part c ring id part left v).memory.logged.pages ≡ c.memory.logged.pages
+open_pages c ring id part left true = refl
+open_pages c ring id part left false = refl
+
+joined_pages : (m m' : MemoryState) (regions : List MemoryRegion) (v : Bool) → Joins m regions v m'
+    → m'.logged.pages ≡ m.logged.pages
+joined_pages m m' regions true joins = ap (λ (l : Logged (Unit {0})). l.pages) joins.0
+joined_pages m m' regions false is = ap (λ (n : MemoryState). n.logged.pages) is
+
+follow_pages : (c c' : BlockConnection) (d : Deed) → Follows c d c' → c'.memory.logged.pages ≡ c.memory.logged.pages
+follow_pages c c' deed.Send is = ap (λ (v : BlockConnection). v.memory.logged.pages) is
+follow_pages c c' deed.UnmapAll is = ap (λ (v : BlockConnection). v.memory.logged.pages) is
+follow_pages c c' (deed.Map region descriptor) is = ap (λ (v : BlockConnection). v.memory.logged.pages) is
+follow_pages c c' deed.Join (m, v, joins, is) = ap (λ (v : BlockConnection). v.memory.logged.pages) is
+    ∙ joined_pages c.memory m c.backend.backend.connection.memory v joins
+follow_pages c c' (deed.Log size offset) is = ap (λ (v : BlockConnection). v.memory.logged.pages) is
+follow_pages c c' (deed.Keep p v) is = ap (λ (v : BlockConnection). v.memory.logged.pages) is
+follow_pages c c' (deed.Part ring id part left) (v, lies, is) = ap (λ (v : BlockConnection). v.memory.logged.pages) is
+    ∙ open_pages c ring id part left v
+follow_pages c c' (deed.Interrupt ring) is = ap (λ (v : BlockConnection). v.memory.logged.pages) is
+follow_pages c c' (deed.Tell ring) is = ap (λ (v : BlockConnection). v.memory.logged.pages) is
+follow_pages c c' (deed.Stopped ring) is = ap (λ (v : BlockConnection). v.memory.logged.pages) is
+follow_pages c c' (deed.End y) is = ap (λ (v : BlockConnection). v.memory.logged.pages) is
+
+log_keeps : (page : ℕ) (c : BlockConnection) → IsToMark page c.memory.logged.pages
+    → IsToMark page (with_log c).memory.logged.pages
+log_keeps page c was = go (is_covered c.backend.backend.connection)
+  where
+    logs : BlockConnection
+    logs = record c {
+      memory = with_pages c.memory (record c.memory.logged.pages {
+        pages = pages_in (log_kept c.backend.backend.connection);
+      });
+    }
+
+    go : (v : Bool) → IsToMark page (if v then logs else with_backend logs (hung_up logs.backend Log)).memory.logged.pages
+    go true = was
+    go false = was
+
+looked_keeps : (page : ℕ) (c : BlockConnection) → IsToMark page c.memory.logged.pages
+    → IsToMark page (looked_after c).memory.logged.pages
+looked_keeps page c was = go c.backend.finished
+  where
+    seen : BlockConnection
+    seen = with_backend c (record c.backend { finished = false })
+
+    go : (v : Bool) → IsToMark page (if v then with_log seen else seen).memory.logged.pages
+    go true = log_keeps page seen was
+    go false = was
+
+-- ---- moves
+
+marks_keep : (page : ℕ) (l l' : Pages) (range : PageRange) → TakesRange l range l' → IsToMark page l
+    → IsToMark page l' ⊎ InRange page range
+marks_keep page l l' range (last, others, same) was =
+    let at : InAny page (l.others ++ range ∷ []) =
+    subst (λ (o : Option PageRange). InAny page (l.others ++ option_to_list o)) last was in
+    elim (any_of page l.others (range ∷ []) at) [
+      | inl before ↦ inl (subst (InAny page) others before)
+      | inr (inl here) ↦ inr here
+      | inr (inr none) ↦ absurd none
+    ]
+
+gives_keep : (page : ℕ) (c c' : BlockConnection) (m : Move) → GivesBy c m c' → IsToMark page c.memory.logged.pages
+    → IsToMark page c'.memory.logged.pages ⊎ GivesPage page m
+unfolding Keeps
+gives_keep page c c' (gives_marks range) (l, takes, is) was =
+    elim (marks_keep page c.memory.logged.pages l range takes was) [
+      | inl stays ↦ inl (subst (λ (v : BlockConnection). IsToMark page v.memory.logged.pages) (sym is) stays)
+      | inr here ↦ inr here
+    ]
+gives_keep page c c' (gives_part p pieces to) (may, at, gives) was =
+    inl (subst (λ (v : BlockConnection). IsToMark page v.memory.logged.pages) (sym gives.2) was)
+gives_keep page c c' (does d bytes) (may, none, (mid, steps, sent, follows)) was =
+    let same : c'.memory.logged.pages ≡ mid.memory.logged.pages =
+    follow_pages (after_sent d mid) c' d follows ∙ sent_pages d mid in
+    inl (subst (IsToMark page) (sym same) (step_keeps c mid (made.Deed d) steps page was))
+gives_keep page c c' goes_on (may, none, steps) was = inl (step_keeps c c' made.Again steps page was)
+gives_keep page c c' loses none was = absurd none
+gives_keep page c c' (takes_end e) none was = absurd none
+gives_keep page c c' looks none was = absurd none
+gives_keep page c c' takes_turn none was = absurd none
+
+end_keeps : (page : ℕ) (c : BlockConnection) (e : EndRow) → IsToMark page c.memory.logged.pages
+    → IsToMark page (end_taken c e).memory.logged.pages
+end_keeps page c e was = go (nat_lt e.id (2 ^ 16))
+  where
+    go : (v : Bool) → IsToMark page (if v then part_ended c e.ring e.id (end_of e) else c).memory.logged.pages
+    go true = was
+    go false = was
+
+event_keeps : (page : ℕ) (c d : Course) (m : Move) → EventBy c m d → Waits page c → Waits page d
+unfolding Keeps
+event_keeps page c d loses (lost, at, is) was = subst (Waits page) (sym is) was
+event_keeps page c d (takes_end e) (none, ends, is) was =
+    subst (Waits page) (sym is) (end_keeps page c.connection e was)
+event_keeps page c d looks (none, ends, by, is) was = look_keeps c.connection d.connection true by page was
+event_keeps page c d takes_turn (mid, none, ends, by, next, turns, is) was =
+    subst (Waits page) (sym is) (look_keeps c.connection mid false by page was)
+event_keeps page c d (gives_marks range) none was = absurd none
+event_keeps page c d (gives_part p pieces to) none was = absurd none
+event_keeps page c d (does deed bytes) none was = absurd none
+event_keeps page c d goes_on none was = absurd none
+
+move_keeps : (page : ℕ) (c d : Course) (m : Move) → MoveBy c m d → Waits page c → Waits page d ⊎ GivesPage page m
+move_keeps page c d m (inl (mid, gives, is)) was = elim (gives_keep page c.connection mid m gives was) [
+  | inl stays ↦ inl (subst (Waits page) (sym is) (looked_keeps page mid stays))
+  | inr given ↦ inr given
+]
+move_keeps page c d m (inr (quiet, event)) was =
+    inl (event_keeps page (looked c) d m event (looked_keeps page c.connection was))
+
+pub moves_keep : (page : ℕ) (c d : Course) (ms : List Move) → Moves c ms d → Waits page c
+    → Waits page d ⊎ IsGiven page ms
+moves_keep page c d [] is was = inl (subst (Waits page) (sym is) was)
+moves_keep page c d (m ∷ ms) (mid, first, rest) was = elim (move_keeps page c mid m first was) [
+  | inl stays ↦ elim (moves_keep page mid d ms rest stays) [ inl more ↦ inl more | inr given ↦ inr (inr given) ]
+  | inr given ↦ inr (inl given)
+]
+
+-- ---- what comes after marks
+
+none_waits : (page : ℕ) (l : Pages) → NoneToMark l → IsToMark page l → ⊥
+none_waits page l (last, others) was =
+    let first : InAny page ([] ++ option_to_list l.last) =
+    subst (λ (rs : List PageRange). InAny page (rs ++ option_to_list l.last)) others was in
+    subst (λ (o : Option PageRange). InAny page (option_to_list o)) last first
+
+both : (a b : Bool) → (a && b) ≡ true → (a ≡ true) × (b ≡ true)
+both true b is = (refl, is)
+both false b is = absurd (cc)
+
+done_returns_none : (w : BlockBackend) → is_done w ≡ true → is_none w.returning ≡ true
+done_returns_none w is =
+    let a = both _ _ is in
+    let b = both _ _ a.0 in
+    let c = both _ _ b.0 in
+    let d = both _ _ c.0 in
+    let e = both _ _ d.0 in
+    (both _ _ e.0).1
+
+no_value : {A : Type 0} (o : Option A) → is_none o ≡ true → o ≡ None
+no_value None is = refl
+no_value (Some x) is = absurd (cc)
+
+-- a move beside marks is made only if isnt page waits, and isnt chain is returned in a run that gave marks
+may_step : (c d : Course) (m : Move) → MoveBy c m d → is_marks m ≡ false → MayStep c.connection
+may_step c d (gives_marks range) by isnt = absurd (cc)
+may_step c d (gives_part p pieces to) (inl (mid, gives, is)) isnt = gives.0
+may_step c d (does deed bytes) (inl (mid, gives, is)) isnt = gives.0
+may_step c d goes_on (inl (mid, gives, is)) isnt = gives.0
+may_step c d loses (inl (mid, gives, is)) isnt = absurd gives
+may_step c d (takes_end e) (inl (mid, gives, is)) isnt = absurd gives
+may_step c d looks (inl (mid, gives, is)) isnt = absurd gives
+may_step c d takes_turn (inl (mid, gives, is)) isnt = absurd gives
+may_step c d m (inr (quiet, event)) isnt =
+    (quiet.0, λ given. no_value c.connection.backend.returning (done_returns_none c.connection.backend quiet.2))
+
+pub others_after : (page : ℕ) (c d e : Course) (ms : List Move) (m : Move) → Moves c ms d → MoveBy d m e
+    → is_marks m ≡ false → Waits page c → IsGiven page ms
+others_after page c d e ms m moves by isnt was = elim (moves_keep page c d ms moves was) [
+  | inl waits ↦ absurd (none_waits page d.connection.memory.logged.pages (may_step d e m by isnt).0 waits)
+  | inr given ↦ given
+]
+
+-- ---- marks of a run
+
+sent_marks : (d : Deed) (c : BlockConnection) → (after_sent d c).marks ≡ c.marks
+sent_marks deed.Send c = refl
+sent_marks deed.UnmapAll c = refl
+sent_marks (deed.Map region descriptor) c = refl
+sent_marks deed.Join c = refl
+sent_marks (deed.Log size offset) c = refl
+sent_marks (deed.Keep p is) c = refl
+sent_marks (deed.Part ring id part left) c = refl
+sent_marks (deed.Interrupt ring) c = refl
+sent_marks (deed.Tell ring) c = refl
+sent_marks (deed.Stopped ring) c = refl
+sent_marks (deed.End y) c = refl
+
+open_marks : (c : BlockConnection) (ring id : ℕ) (part : BlockStep) (left : ℕ) (v : Bool)
+    → (open_part c ring id part left v).marks ≡ c.marks
+open_marks c ring id part left true = refl
+open_marks c ring id part left false = refl
+
+follow_marks : (c c' : BlockConnection) (d : Deed) → Follows c d c' → c'.marks ≡ c.marks
+follow_marks c c' deed.Send is = ap (λ (v : BlockConnection). v.marks) is
+follow_marks c c' deed.UnmapAll is = ap (λ (v : BlockConnection). v.marks) is
+follow_marks c c' (deed.Map region descriptor) is = ap (λ (v : BlockConnection). v.marks) is
+follow_marks c c' deed.Join (m, v, joins, is) = ap (λ (v : BlockConnection). v.marks) is
+follow_marks c c' (deed.Log size offset) is = ap (λ (v : BlockConnection). v.marks) is
+follow_marks c c' (deed.Keep p v) is = ap (λ (v : BlockConnection). v.marks) is
+follow_marks c c' (deed.Part ring id part left) (v, lies, is) = ap (λ (v : BlockConnection). v.marks) is
+    ∙ open_marks c ring id part left v
+follow_marks c c' (deed.Interrupt ring) is = ap (λ (v : BlockConnection). v.marks) is
+follow_marks c c' (deed.Tell ring) is = ap (λ (v : BlockConnection). v.marks) is
+follow_marks c c' (deed.Stopped ring) is = ap (λ (v : BlockConnection). v.marks) is
+follow_marks c c' (deed.End y) is = ap (λ (v : BlockConnection). v.marks) is
+
+log_marks : (c : BlockConnection) → (with_log c).marks ≡ c.marks
+log_marks c = go (is_covered c.backend.backend.connection)
+  where
+    logs : BlockConnection
+    logs = record c {
+      memory = with_pages c.memory (record c.memory.logged.pages {
+        pages = pages_in (log_kept c.backend.backend.connection);
+      });
+    }
+
+    go : (v : Bool) → (if v then logs else with_backend logs (hung_up logs.backend Log)).marks ≡ c.marks
+    go true = refl
+    go false = refl
+
+looked_marks : (c : BlockConnection) → (looked_after c).marks ≡ c.marks
+looked_marks c = go c.backend.finished
+  where
+    seen : BlockConnection
+    seen = with_backend c (record c.backend { finished = false })
+
+    go : (v : Bool) → (if v then with_log seen else seen).marks ≡ c.marks
+    go true = log_marks seen
+    go false = refl
+
+-- once a run gave marks, it has given them
+abbrev HasGiven : BlockConnection → Type 0
+HasGiven c = c.marks ≡ true
+
+gives_given : (c c' : BlockConnection) (m : Move) → GivesBy c m c' → HasGiven c → HasGiven c'
+gives_given c c' (gives_marks range) (l, takes, is) has = ap (λ (v : BlockConnection). v.marks) is
+gives_given c c' (gives_part p pieces to) (may, at, gives) has = ap (λ (v : BlockConnection). v.marks) gives.2 ∙ has
+gives_given c c' (does d bytes) (may, none, (mid, steps, sent, follows)) has = follow_marks (after_sent d mid) c' d follows
+    ∙ sent_marks d mid ∙ ap (λ (v : BlockConnection). v.marks) steps.1 ∙ has
+gives_given c c' goes_on (may, none, steps) has = ap (λ (v : BlockConnection). v.marks) steps.1 ∙ has
+gives_given c c' loses none has = absurd none
+gives_given c c' (takes_end e) none has = absurd none
+gives_given c c' looks none has = absurd none
+gives_given c c' takes_turn none has = absurd none
+
+end_marks : (c : BlockConnection) (e : EndRow) → (end_taken c e).marks ≡ c.marks
+end_marks c e = go (nat_lt e.id (2 ^ 16))
+  where
+    go : (v : Bool) → (if v then part_ended c e.ring e.id (end_of e) else c).marks ≡ c.marks
+    go true = refl
+    go false = refl
+
+event_given : (c d : Course) (m : Move) → EventBy c m d → HasGiven c.connection → HasGiven d.connection
+event_given c d loses (lost, at, is) has = ap (λ (v : Course). v.connection.marks) is ∙ has
+event_given c d (takes_end e) (none, ends, is) has =
+    ap (λ (v : Course). v.connection.marks) is ∙ end_marks c.connection e ∙ has
+event_given c d looks (none, ends, by, is) has = ap (λ (v : BlockConnection). v.marks) by.1 ∙ has
+event_given c d takes_turn (mid, none, ends, by, next, turns, is) has =
+    ap (λ (v : Course). v.connection.marks) is ∙ ap (λ (v : BlockConnection). v.marks) by.1 ∙ has
+event_given c d (gives_marks range) none has = absurd none
+event_given c d (gives_part p pieces to) none has = absurd none
+event_given c d (does deed bytes) none has = absurd none
+event_given c d goes_on none has = absurd none
+
+move_given : (c d : Course) (m : Move) → MoveBy c m d → HasGiven c.connection → HasGiven d.connection
+move_given c d m (inl (mid, gives, is)) has =
+    ap (λ (v : Course). v.connection.marks) is ∙ looked_marks mid ∙ gives_given c.connection mid m gives has
+move_given c d m (inr (quiet, event)) has = event_given (looked c) d m event (looked_marks c.connection ∙ has)
+
+moves_given : (c d : Course) (ms : List Move) → Moves c ms d → HasGiven c.connection → HasGiven d.connection
+moves_given c d [] is has = ap (λ (v : Course). v.connection.marks) is ∙ has
+moves_given c d (m ∷ ms) (mid, first, rest) has = moves_given mid d ms rest (move_given c mid m first has)
+
+page_given : (page : ℕ) (c d : Course) (m : Move) → MoveBy c m d → GivesPage page m → HasGiven d.connection
+page_given page c d (gives_marks range) (inl (mid, (l, takes, same), is)) here =
+    ap (λ (v : Course). v.connection.marks) is ∙ looked_marks mid ∙ ap (λ (v : BlockConnection). v.marks) same
+page_given page c d (gives_marks range) (inr (quiet, event)) here = absurd event
+page_given page c d (gives_part p pieces to) by here = absurd here
+page_given page c d (does deed bytes) by here = absurd here
+page_given page c d goes_on by here = absurd here
+page_given page c d loses by here = absurd here
+page_given page c d (takes_end e) by here = absurd here
+page_given page c d looks by here = absurd here
+page_given page c d takes_turn by here = absurd here
+
+given_by : (page : ℕ) (c d : Course) (ms : List Move) → Moves c ms d → IsGiven page ms → HasGiven d.connection
+given_by page c d [] is none = absurd none
+given_by page c d (m ∷ ms) (mid, first, rest) (inl here) = moves_given mid d ms rest (page_given page c mid m first here)
+given_by page c d (m ∷ ms) (mid, first, rest) (inr there) = given_by page mid d ms rest there
+
+pub returns_after : (page : ℕ) (c d e : Course) (ms : List Move) (m : Move) → Moves c ms d → MoveBy d m e
+    → is_marks m ≡ false → (d.connection.backend.returning ≡ None → ⊥) → Waits page c → ⊥
+returns_after page c d e ms m moves by isnt some was = some ((may_step d e m by isnt).1
+    (given_by page c d ms moves (others_after page c d e ms m moves by isnt was)))
+
+-- ---- ends
+
+move_ends : (c d : Course) (m : Move) → MoveBy c m d → c.ends ≡ ends_of m ++ d.ends
+move_ends c d (gives_marks range) (inl (mid, gives, is)) = ap (λ (v : Course). v.ends) (sym is)
+move_ends c d (gives_part p pieces to) (inl (mid, gives, is)) = ap (λ (v : Course). v.ends) (sym is)
+move_ends c d (does deed bytes) (inl (mid, gives, is)) = ap (λ (v : Course). v.ends) (sym is)
+move_ends c d goes_on (inl (mid, gives, is)) = ap (λ (v : Course). v.ends) (sym is)
+move_ends c d loses (inl (mid, gives, is)) = absurd gives
+move_ends c d (takes_end e) (inl (mid, gives, is)) = absurd gives
+move_ends c d looks (inl (mid, gives, is)) = absurd gives
+move_ends c d takes_turn (inl (mid, gives, is)) = absurd gives
+move_ends c d (gives_marks range) (inr (quiet, event)) = absurd event
+move_ends c d (gives_part p pieces to) (inr (quiet, event)) = absurd event
+move_ends c d (does deed bytes) (inr (quiet, event)) = absurd event
+move_ends c d goes_on (inr (quiet, event)) = absurd event
+move_ends c d loses (inr (quiet, (lost, at, is))) = ap (λ (v : Course). v.ends) (sym is)
+move_ends c d (takes_end e) (inr (quiet, (none, ends, is))) = ends
+move_ends c d looks (inr (quiet, (none, ends, by, is))) = ap (λ (v : Course). v.ends) (sym is)
+move_ends c d takes_turn (inr (quiet, (mid, none, ends, by, next, turns, is))) = ap (λ (v : Course). v.ends) (sym is)
+
+pub moves_ends : (c d : Course) (ms : List Move) → Moves c ms d → c.ends ≡ flat_map ends_of ms ++ d.ends
+moves_ends c d [] is = ap (λ (v : Course). v.ends) (sym is)
+moves_ends c d (m ∷ ms) (mid, first, rest) = move_ends c mid m first
+    ∙ ap (λ (es : List EndRow). ends_of m ++ es) (moves_ends mid d ms rest)
+    ∙ sym (append_assoc (ends_of m) (flat_map ends_of ms) d.ends)
