@@ -14,6 +14,7 @@ mod looks;
 mod packed;
 pub mod packed_laws;
 mod queue;
+mod spare;
 mod state;
 mod stores;
 
@@ -28,5 +29,6 @@ pub use packed::{
     VRING_PACKED_EVENT_FLAG_DESC, VRING_PACKED_EVENT_FLAG_DISABLE, VRING_PACKED_EVENT_FLAG_ENABLE,
 };
 pub use queue::{Queue, VRING_AVAIL_F_NO_INTERRUPT, VRING_USED_F_NO_NOTIFY};
+pub use spare::SpareLists;
 pub use state::QueueState;
 pub use stores::Stores;

@@ -19,7 +19,6 @@ mod requests;
 mod retry;
 mod session;
 mod setup;
-mod spare;
 mod steps;
 mod transfers;
 mod words;

@@ -19,11 +19,10 @@ use crate::packed_answer::{any_part_set, put_any_state};
 use crate::queue_answer::{
     asked, begun, bytes_moved, length_told, number_told, popped, queue_done, queue_refused,
 };
-use crate::spare::SpareLists;
 use std::alloc::{AllocError, Global};
 use std::marker::Model;
 use virtio_blk::DeviceLimits;
-use virtio_queue::{AnyQueue, PackedBuffer, PackedQueue, Queue, QueueError};
+use virtio_queue::{AnyQueue, PackedBuffer, PackedQueue, Queue, QueueError, SpareLists};
 use vm_memory_base::Bitmap;
 use vm_memory_device::Chain;
 use vm_memory_guest::{GuestMemory, HostMemory};

@@ -2,14 +2,14 @@
 use std::alloc::Global;
 use vm_memory_device::{Chain, Segment};
 
-// Lists for segments, so that a queue in its steady state allocates none. No answer depends on them.
-//
-// A driver decides how long lists become. Those that are kept, and those of chains in flight, have room for four times
-// the descriptors that may be in flight: a list that grew has room for at most that of each of its descriptors.
+/// Lists for segments, so that what serves a queue allocates none in its steady state. No answer depends on them.
+///
+/// A driver decides how long lists become. Those that are kept, and those of chains in flight, have room for four times
+/// the descriptors that may be in flight: a list that grew has room for at most that of each of its descriptors.
 #[derive(Drop)]
-pub(crate) struct SpareLists {
-    // The list of the next chain.
-    pub(crate) next: Vec<Segment>,
+pub struct SpareLists {
+    /// The list of the next chain.
+    pub next: Vec<Segment>,
     others: Vec<Vec<Segment>>,
     // How many segments the others and the lists of chains in flight have room for, and how many at most if one is
     // kept.
@@ -18,9 +18,9 @@ pub(crate) struct SpareLists {
 }
 
 impl SpareLists {
-    // No lists, for a queue of which at most `most` descriptors may be in flight.
+    /// No lists, for a queue of which at most `most` descriptors may be in flight.
     #[inline]
-    pub(crate) fn new(alloc: Global, most: usize) -> SpareLists {
+    pub fn new(alloc: Global, most: usize) -> SpareLists {
         SpareLists {
             next: Vec::new(alloc),
             others: Vec::new(alloc),
@@ -29,9 +29,9 @@ impl SpareLists {
         }
     }
 
-    // Counts a chain in flight, which took the list of the next one.
+    /// Counts a chain in flight, which took the list of the next one.
     #[inline(always)]
-    pub(crate) fn take(&mut self, chain: &Chain) {
+    pub fn take(&mut self, chain: &Chain) {
         self.room = self.room.saturating_add(chain.capacity());
         if let Some(list) = self.others.pop() {
             self.room = self.room.saturating_sub(list.capacity());
@@ -39,9 +39,9 @@ impl SpareLists {
         }
     }
 
-    // Keeps the list of a chain that was in flight, if it may.
+    /// Keeps the list of a chain that was in flight, if it may.
     #[inline(always)]
-    pub(crate) fn give(&mut self, chain: Chain) {
+    pub fn give(&mut self, chain: Chain) {
         let list = chain.into_segments();
         let room = list.capacity();
         if self.room > self.most {
@@ -54,14 +54,14 @@ impl SpareLists {
         }
     }
 
-    // Keeps the list of a chain that is not in flight, which took that of the next one.
+    /// Keeps the list of a chain that is not in flight, which took that of the next one.
     #[inline]
-    pub(crate) fn put_back(&mut self, chain: Chain) {
+    pub fn put_back(&mut self, chain: Chain) {
         self.next = chain.into_segments();
     }
 
-    // Forgets the chains in flight, which were dropped.
-    pub(crate) fn reset(&mut self) {
+    /// Forgets the chains in flight, which were dropped.
+    pub fn reset(&mut self) {
         self.others.clear();
         self.room = 0;
     }
