@@ -1,12 +1,19 @@
 //! What a queue allocates: nothing in its steady state, and no more than a bound whatever a driver publishes.
 
+mod front_end;
+mod guest;
 mod ring;
 
+use front_end::*;
+use guest::Guest;
 use ring::{at, memory_of, Descriptor, Driver, INDIRECT, NEXT};
 use std::cell::Cell;
 use std::ffi::c_void;
+use std::os::fd::{AsFd, OwnedFd};
+use vm_memory_proved::back_end::{Action, BackEnd, Disk, PartEnd, Room, State};
 use vm_memory_proved::queue::Queue;
-use vm_memory_proved::{GuestMemory, Machine, MemoryId, Permissions};
+use vm_memory_proved::vhost_user::Offer;
+use vm_memory_proved::{memfd, GuestMemory, Machine, MemoryId, Permissions};
 
 unsafe extern "C" {
     fn __libc_malloc(size: usize) -> *mut c_void;
@@ -237,4 +244,128 @@ fn what_lists_take_is_bounded() {
     // Each short one would hold the list of a long one: 63 of 2,048 segments.
     let held = usize::try_from(HELD.get() - before).unwrap();
     assert!(held <= 24 * (4 * most + 2 * 4096), "{held} bytes");
+}
+
+// ---- a back end's
+
+const USER: u64 = 0x7f00_0000_0000;
+const AVAIL: u64 = 0x4000;
+const USED: u64 = 0x5000;
+const HEADERS: u64 = 0x6000;
+
+// Tells a back end a message, and does what that asks for.
+fn tell(back_end: &mut BackEnd, room: &mut Room, file: &OwnedFd, request: u32, payload: &[u8], descriptors: usize) {
+    assert!(back_end.message(&message(request, 0, payload), descriptors));
+    for _ in 0..4 {
+        back_end.run(&[], 1, room);
+        for action in room.actions() {
+            match action {
+                Action::Map(region) => back_end.map(&region, file.as_fd()).unwrap(),
+                Action::Keep { .. } => back_end.done(),
+                Action::UnmapAll | Action::Interrupt(0) => (),
+                other => panic!("{other:?}"),
+            }
+        }
+    }
+    assert_eq!(room.state(), State::Free);
+}
+
+// A back end with a ring in the file, which is its guest's memory.
+fn back_end_on(file: &OwnedFd, room: &mut Room) -> BackEnd {
+    let offer = Offer {
+        features: VERSION_1,
+        queues: 1,
+        max_queue_size: SIZE.into(),
+        ..Offer::default()
+    };
+    let disk = Disk {
+        sectors: 64,
+        unread: 4096,
+        ..Disk::default()
+    };
+    let mut back_end = BackEnd::new(&offer, &[0; 8], &disk).unwrap();
+    let parts = [USER, USER + USED, USER + AVAIL, 0];
+    for (request, payload, descriptors) in [
+        (SET_OWNER, Vec::new(), 0),
+        (SET_FEATURES, longs(&[VERSION_1]), 0),
+        (SET_MEM_TABLE, table(&[[0, BYTES as u64, USER, 0]]), 1),
+        (SET_VRING_NUM, words(&[0, SIZE.into()]), 0),
+        (SET_VRING_BASE, words(&[0, 0]), 0),
+        (SET_VRING_ADDR, addresses(0, 0, parts), 0),
+        (SET_VRING_CALL, longs(&[0]), 1),
+        (SET_VRING_KICK, longs(&[0]), 1),
+    ] {
+        tell(&mut back_end, room, file, request, &payload, descriptors);
+    }
+    back_end
+}
+
+// Publishes reads of the disk in chains of these lengths and two more, a round at a time.
+fn publish_reads(guest: &Guest, index: &mut u16) {
+    let mut head = 0;
+    for len in LENGTHS {
+        for i in 0..len + 2 {
+            let (addr, len, flags) = match i {
+                0 => (HEADERS, 16, NEXT),
+                i if i == len + 1 => (HEADERS + 16, 1, 2),
+                _ => (DATA, 512, NEXT | 2),
+            };
+            let next = head + i + 1;
+            let descriptor = Descriptor { addr, len, flags, next };
+            guest.write(16 * usize::from(head + i), &descriptor.bytes());
+        }
+        let entry = AVAIL as usize + 4 + 2 * usize::from(*index % SIZE);
+        guest.write(entry, &head.to_le_bytes());
+        *index = index.wrapping_add(1);
+        head += len + 2;
+    }
+    guest.write(AVAIL as usize + 2, &index.to_le_bytes());
+}
+
+// Has a back end serve all that is published. Data stay as they are.
+fn serve_reads(back_end: &mut BackEnd, room: &mut Room, ends: &mut Vec<PartEnd>) {
+    back_end.kick(0);
+    loop {
+        back_end.run(ends, 2, room);
+        ends.drain(..room.ends_taken());
+        for action in room.actions() {
+            match action {
+                Action::Serve(part) => ends.push(PartEnd {
+                    ring: part.ring,
+                    id: part.id,
+                    failed: 0,
+                    bytes: part.len as u32,
+                }),
+                Action::Interrupt(0) => (),
+                other => panic!("{other:?}"),
+            }
+        }
+        if ends.is_empty() && !room.has_more() {
+            return;
+        }
+    }
+}
+
+#[test]
+fn back_ends_in_their_steady_state_allocate_nothing() {
+    let file = memfd(BYTES as u64).unwrap();
+    let guest = Guest::of_file(&file, BYTES);
+    let (mut room, mut ends) = (Room::new(), Vec::with_capacity(usize::from(SIZE)));
+    let mut back_end = back_end_on(&file, &mut room);
+    let mut index = 0;
+    let mut round = || {
+        publish_reads(&guest, &mut index);
+        guest.write(HEADERS as usize + 16, &[0xff]);
+        let count = asked(|| serve_reads(&mut back_end, &mut room, &mut ends));
+        assert_eq!(guest.read(USED as usize + 2, 2), index.to_le_bytes());
+        assert_eq!(guest.read(HEADERS as usize + 16, 1), [0]);
+        count
+    };
+    assert!(round() > 0);
+    for _ in 0..LENGTHS.len() {
+        round();
+    }
+    for number in 0..2_000 {
+        assert_eq!(round(), 0, "round {number}");
+    }
 }

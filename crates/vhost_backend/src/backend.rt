@@ -282,23 +282,24 @@ impl Backend {
         let _ = self.connection.change_config(offset, bytes);
     }
 
-    // What a ring's queue is to be told first, if something is to be done for the ring.
-    fn place(&mut self, done: &Actions) -> Option<Place>
-        ensures place { result ≡ to_place self.old done.now }
+    // Puts what a ring's queue is to be told first, if something is to be done for the ring.
+    fn place(&mut self, done: &Actions, place: &mut Option<Place>)
+        ensures place { place.new ≡ to_place self.old done.now }
         ensures after { self.new ≡ placed self.old done.now }
     {
+        *place = None;
         let ring = done.ring;
         if ring >= self.placings.len() || done.actions.is_empty() {
-            return None;
+            return;
         }
         let fresh = match self.placings[ring] {
-            Placing::Placed => return None,
+            Placing::Placed => return,
             Placing::Moved => false,
             Placing::Fresh => true,
         };
         self.placings[ring] = Placing::Placed;
         let vring = self.connection.running(ring as u32);
-        Some(Place { vring, fresh })
+        *place = Some(Place { vring, fresh });
     }
 
     // What has to be returned before a request takes effect.
@@ -405,28 +406,30 @@ impl Backend {
         }
         let until = self.until(&request);
         let done = self.wait(until);
-        let place = self.place(&done);
+        let mut place = None;
+        self.place(&done, &mut place);
         let outcome = self.begin_or_wait(*header, request, payload, until, &done);
         to_do(done, place, outcome)
     }
 
     /// Takes note of what happened: one of `Kick`, `Break`, `Popped`, `Emptied`, `Ended` and `GoOn`. Others, which
-    /// follow from messages, are ignored.
-    pub fn handle(&mut self, event: Event) -> Todo
-        ensures { (self.new, result) ≡ after_event self.old event }
+    /// follow from messages, are ignored. What is to be done goes into `todo`.
+    #[inline(always)]
+    pub fn handle(&mut self, event: Event, todo: &mut Todo)
+        ensures { (self.new, todo.new) ≡ after_event self.old event }
     {
         if !is_outer(event) {
-            return to_do(nothing(0), None, Outcome::Stays);
+            *todo = to_do(nothing(0), None, Outcome::Stays);
+            return;
         }
         let done = self.rings.handle(event);
-        let place = self.place(&done);
-        match &self.taken {
-            Taken::Waits(..) => {
-                let outcome = self.go_on(&done);
-                to_do(done, place, outcome)
-            }
-            _ => to_do(done, place, Outcome::Stays),
-        }
+        self.place(&done, &mut todo.place);
+        todo.message = match &self.taken {
+            Taken::Waits(..) => self.go_on(&done),
+            _ => Outcome::Stays,
+        };
+        todo.ring = done.ring;
+        todo.actions = done.actions;
     }
 
     // A message that waits takes effect if what it waits for was returned.

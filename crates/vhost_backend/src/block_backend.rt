@@ -149,6 +149,7 @@ impl BlockBackend {
     }
 
     /// Whether nothing is left to be done, and so the next event may come.
+    #[inline(always)]
     pub fn is_done(&self) -> bool
         ensures { result ≡ is_done self.now }
     {
@@ -210,16 +211,15 @@ impl BlockBackend {
     pub fn ended(&mut self, ring: usize, id: u16, end: PartEnd)
         ensures { self.new ≡ told self.old (Event.Ring ring (RingEvent.Ended id end)) }
     {
-        self.todo = self
-            .backend
-            .handle(Event::Ring(ring, RingEvent::Ended(id, end)));
+        let event = Event::Ring(ring, RingEvent::Ended(id, end));
+        self.backend.handle(event, &mut self.todo);
     }
 
     /// Gives a ring its turn, if one wants it and nothing is left to be done.
     pub fn go_on(&mut self)
         ensures { self.new ≡ gone_on self.old }
     {
-        self.todo = self.backend.handle(Event::GoOn);
+        self.backend.handle(Event::GoOn, &mut self.todo);
         self.turn = self.todo.ring;
     }
 
@@ -489,16 +489,15 @@ impl BlockBackend {
         ensures held { D.held mem.now host.new }
     {
         let terms = self.terms();
-        match self
-            .queues
-            .take_step(&mut self.backend, self.turn, self.alloc, mem, host, terms)
-        {
-            Some(todo) => {
-                self.todo = todo;
-                true
-            }
-            None => false,
-        }
+        self.queues.take_step(
+            &mut self.backend,
+            self.turn,
+            self.alloc,
+            mem,
+            host,
+            terms,
+            &mut self.todo,
+        )
     }
 
     /// Looks at a ring that was kicked, or else pops the next chain of the ring that has its turn, if nothing is left
@@ -509,7 +508,8 @@ impl BlockBackend {
         ensures held { D.held mem.now host.new }
     {
         if let Some(ring) = self.kicks.take() {
-            self.todo = self.backend.handle(Event::Ring(ring, RingEvent::Kick));
+            let event = Event::Ring(ring, RingEvent::Kick);
+            self.backend.handle(event, &mut self.todo);
             return true;
         }
         self.take_turn(mem, host)

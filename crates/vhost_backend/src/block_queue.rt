@@ -14,7 +14,7 @@ use crate::ring_memory::RingMemory;
 use std::alloc::{AllocError, Global};
 use std::marker::Model;
 use virtio_blk::{DeviceLimits, Request, VIRTIO_BLK_S_IOERR};
-use virtio_queue::{AnyQueue, PackedBuffer, QueueError};
+use virtio_queue::{AnyQueue, PackedBuffer, QueueError, SpareLists};
 use vm_memory_device::{Chain as Descriptors, Segment};
 
 /// A request that is under way: its chain, and what that asks for.
@@ -229,6 +229,7 @@ fn none_asked(alloc: Global, ids: usize) -> Result<Vec<Option<Asked>>, AllocErro
 pub struct BlockQueue {
     queue: AnyQueue,
     asked: Vec<Option<Asked>>,
+    spare: SpareLists,
 }
 
 impl Model for BlockQueue {
@@ -252,7 +253,12 @@ impl BlockQueue {
         ensures { IfOk result (λ q. q ≡ new_queue queue ids) }
     {
         let asked = none_asked(alloc, ids)?;
-        Ok(BlockQueue { queue, asked })
+        let spare = SpareLists::new(alloc, ids);
+        Ok(BlockQueue {
+            queue,
+            asked,
+            spare,
+        })
     }
 
     /// The queue.
@@ -329,18 +335,21 @@ impl BlockQueue {
             slots: buffer.slots,
         };
         if !self.has_place(buffer.id) {
+            self.spare.put_back(chain);
             return Pop::Chain(returned, 0, 0);
         }
         match mem.begin(host, terms, &chain) {
             Ok(request) => {
                 let count = chain.segments().len();
                 let request = shortened(request, count, self.asked.len());
+                self.spare.take(&chain);
                 if let Some(place) = self.asked.get_mut(usize::from(buffer.id)) {
                     *place = Some(Asked { chain, request });
                 }
                 Pop::Chain(returned, block_parts(request), len_of(request) as u64)
             }
             Err(_) => {
+                self.spare.put_back(chain);
                 self.queue.go_back(next);
                 Pop::Later
             }
@@ -362,7 +371,7 @@ impl BlockQueue {
         ensures held { D.held mem.now host.new }
     {
         let next = self.queue.next_avail();
-        match mem.pop(host, alloc, &mut self.queue) {
+        match mem.pop(host, alloc, &mut self.spare.next, &mut self.queue) {
             Ok(Some(popped)) => self.begin(mem, host, terms, next, popped),
             Ok(None) => Pop::None,
             Err(error) => refused(error),
@@ -457,7 +466,9 @@ impl BlockQueue {
         ensures { self.new ≡ with_asked self.old id None }
     {
         if let Some(place) = self.asked.get_mut(usize::from(id)) {
-            *place = None;
+            if let Some(asked) = place.take() {
+                self.spare.give(asked.chain);
+            }
         }
     }
 

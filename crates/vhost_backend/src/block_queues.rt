@@ -1,6 +1,6 @@
 //! The queues of a block device's rings.
 ghost use Rattle.std.specs.Prelude.{◌≡◌, ◌^◌, ◌<◌, IfOk, None, Ok, Some, false, option_copied, replicate};
-ghost use Rattle.std.specs.Prelude.{MatchResult, option_map, slice_get, true};
+ghost use Rattle.std.specs.Prelude.{MatchResult, option_map, slice_get, true, if◌then◌else◌};
 ghost use Rattle.virtio_queue.specs.Packed.{is_packed_size};
 ghost use Rattle.vhost_user.specs.declared.backend_req_handler.OfferError.TheVariants.{Invalid, Memory};
 ghost use Rattle.vhost_backend.specs.BlockQueue.{asked_at};
@@ -249,17 +249,19 @@ impl BlockQueues {
         mem: &D,
         host: &mut H,
         terms: DeviceLimits,
-    ) -> Option<Todo>
+        todo: &mut Todo,
+    ) -> bool
         requires held { D.held mem.now host.old }
         requires small { terms.sectors < 2 ^ 55 }
-        ensures turns { WithQueue self.old ring None host.old result self.new host.new
+        ensures turns { WithQueue self.old ring None host.old (if result then Some todo.new else None) self.new host.new
             (Turns (D.steps mem.now) terms ring backend.old backend.new host.old host.new) }
         ensures none { slice_get self.old ring ≡ None → backend.new ≡ backend.old }
+        ensures stays { result ≡ false → todo.new ≡ todo.old }
         ensures held { D.held mem.now host.new }
     {
         match self.queues.get_mut(ring) {
-            Some(queue) => take_step(backend, ring, queue, alloc, mem, host, terms),
-            None => None,
+            Some(queue) => take_step(backend, ring, queue, alloc, mem, host, terms, todo),
+            None => false,
         }
     }
 }

@@ -143,10 +143,11 @@ impl Ring {
     {
         let owes = self.owes;
         self.owes = false;
-        RingActions::two_if(owes, RingAction::Notify, self.pops(), RingAction::Pop)
+        RingActions::turn(owes, self.pops())
     }
 
     /// Takes note of an event, and says what is to be done.
+    #[inline(always)]
     pub fn handle(&mut self, event: RingEvent) -> RingActions
         ensures { (self.new, result) ≡ step self.old event }
     {
@@ -191,7 +192,7 @@ impl Ring {
         let owes = self.owes;
         self.phase = Phase::Stopped;
         self.owes = false;
-        RingActions::two_if(owes, RingAction::Notify, true, RingAction::Stopped)
+        RingActions::stop(owes)
     }
 
     fn fail(&mut self) -> RingActions
@@ -287,7 +288,7 @@ impl Ring {
             Phase::Stopping if self.under_way == 0 => {
                 self.phase = Phase::Stopped;
                 self.owes = false;
-                RingActions::three(action, RingAction::Notify, RingAction::Stopped)
+                RingActions::last(action)
             }
             _ => {
                 self.owes = true;

@@ -11,7 +11,7 @@ use std::alloc::Global;
 use virtio_blk::{DeviceLimits, Fetches, Puts, Request, begin, begin_from, finish, finish_from};
 use virtio_queue::{AnyQueue, Looks, PackedBuffer, Queue, QueueError, Stores};
 use vm_memory_base::Bitmap;
-use vm_memory_device::Chain;
+use vm_memory_device::{Chain, Segment};
 use vm_memory_guest::{GuestMemory, GuestMemoryResult, HostMemory};
 
 /// Guest memory in which a call marks pages, while a driver may write it.
@@ -35,11 +35,13 @@ pub trait RingMemory<H> {
     /// Such memory is there.
     ghost held: { Self → H → Type 0 };
 
-    /// The next chain that the driver has published, if there is one.
+    /// The next chain that the driver has published, if there is one, in a list that is used again. A chain leaves an
+    /// empty one.
     fn pop(
         &self,
         host: &mut H,
         alloc: Global,
+        list: &mut Vec<Segment>,
         queue: &mut AnyQueue,
     ) -> Result<Option<(PackedBuffer, Chain)>, QueueError>
         requires { held self.now host.old }
@@ -131,9 +133,10 @@ impl<M: GuestMemory, B: Bitmap> RingMemory<Logged<B>> for Lent<'_, M> {
         &self,
         logged: &mut Logged<B>,
         alloc: Global,
+        list: &mut Vec<Segment>,
         queue: &mut AnyQueue,
     ) -> Result<Option<(PackedBuffer, Chain)>, QueueError> {
-        queue.pop_descriptor_chain(alloc, self.mem, &mut logged.host)
+        queue.pop_into(alloc, list, self.mem, &mut logged.host)
     }
 
     #[inline(always)]
@@ -215,10 +218,10 @@ impl<L: Looks + Fetches + Puts + Marks, S: Stores<L>> RingMemory<L> for Looked<'
         &self,
         guest: &mut L,
         alloc: Global,
+        list: &mut Vec<Segment>,
         queue: &mut AnyQueue,
     ) -> Result<Option<(PackedBuffer, Chain)>, QueueError> {
-        let mut list = Vec::new(alloc);
-        queue.pop_from(alloc, &mut list, guest)
+        queue.pop_from(alloc, list, guest)
     }
 
     fn add_used(

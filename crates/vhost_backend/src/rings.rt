@@ -257,6 +257,7 @@ impl Rings {
     }
 
     /// Takes note of an event, and says what is to be done.
+    #[inline(always)]
     pub fn handle(&mut self, event: Event) -> Actions
         ensures { (self.new, result) ≡ happens self.old event }
     {
@@ -307,6 +308,7 @@ impl Rings {
         nothing(0)
     }
 
+    #[inline(always)]
     fn on(&mut self, ring: usize, event: RingEvent) -> Actions
         ensures { (self.new, result) ≡ on self.old ring event }
     {

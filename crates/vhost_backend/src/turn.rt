@@ -1,5 +1,5 @@
 //! Turns of rings on guest memory.
-ghost use Rattle.std.specs.Prelude.{◌^◌, ◌<◌};
+ghost use Rattle.std.specs.Prelude.{◌≡◌, ◌^◌, ◌<◌, false, Some, None, if◌then◌else◌};
 ghost use Rattle.vhost_backend.specs.BlockTurn.{TakesStep};
 
 use crate::backend::{Backend, Todo};
@@ -9,8 +9,8 @@ use crate::rings::Event;
 use std::alloc::Global;
 use virtio_blk::DeviceLimits;
 
-/// Takes a step of a ring's turn, and returns what is to be done by that. `None` if the turn is over, or an allocation
-/// failed.
+/// Takes a step of a ring's turn. What is to be done by that goes into `todo`. Returns whether it took one: it takes
+/// none if the turn is over, or an allocation failed.
 pub fn take_step<H, D: RingMemory<H>>(
     backend: &mut Backend,
     ring: usize,
@@ -19,18 +19,23 @@ pub fn take_step<H, D: RingMemory<H>>(
     mem: &D,
     host: &mut H,
     terms: DeviceLimits,
-) -> Option<Todo>
+    todo: &mut Todo,
+) -> bool
     requires held { D.held mem.now host.old }
     requires small { terms.sectors < 2 ^ 55 }
-    ensures takes { TakesStep (D.steps mem.now) terms ring backend.old queue.old host.old result backend.new queue.new
-        host.new }
+    ensures takes { TakesStep (D.steps mem.now) terms ring backend.old queue.old host.old
+        (if result then Some todo.new else None) backend.new queue.new host.new }
+    ensures stays { result ≡ false → todo.new ≡ todo.old }
     ensures held { D.held mem.now host.new }
 {
     if !backend.rings().may_pop(ring) {
-        return None;
+        return false;
     }
     match queue.next_event(alloc, mem, host, terms) {
-        Some(event) => Some(backend.handle(Event::Ring(ring, event))),
-        None => None,
+        Some(event) => {
+            backend.handle(Event::Ring(ring, event), todo);
+            true
+        }
+        None => false,
     }
 }

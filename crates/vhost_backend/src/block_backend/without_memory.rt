@@ -46,7 +46,8 @@ impl BlockBackend {
         if self.broken {
             self.broken = false;
             let ring = self.todo.ring;
-            self.todo = self.backend.handle(Event::Ring(ring, RingEvent::Break));
+            let event = Event::Ring(ring, RingEvent::Break);
+            self.backend.handle(event, &mut self.todo);
             return Made::Again;
         }
         match self.ask {

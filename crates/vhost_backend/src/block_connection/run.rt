@@ -142,8 +142,30 @@ impl BlockConnection {
         self.follow(deed);
     }
 
-    // Takes a step, and gives what it asks for.
+    // Takes a step, if one is left, and gives what it asks for.
+    #[inline(always)]
     fn give_step(
+        &mut self,
+        actions: &mut [ActionRow],
+        output: &mut [u8],
+        counts: &mut Counts,
+    ) -> Given
+        requires step { MayStep self.old }
+        requires part { self.old.part ≡ None }
+        requires room { counts.old.actions < length actions.old }
+        requires reply { counts.old.bytes + length self.old.backend.reply ≤ length output.old }
+        ensures gives { StepGives self.old (output_of counts.old actions.old [] output.old) result self.new
+            (output_of counts.new actions.new [] output.new) }
+        ensures ends { counts.new.ends ≡ counts.old.ends }
+    {
+        if self.backend.is_done() {
+            return Given::Nothing;
+        }
+        self.give_made(actions, output, counts)
+    }
+
+    // Takes a step, and gives what it asks for.
+    fn give_made(
         &mut self,
         actions: &mut [ActionRow],
         output: &mut [u8],

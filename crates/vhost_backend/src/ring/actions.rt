@@ -1,5 +1,5 @@
 //! What is to be done for a ring.
-ghost use Rattle.std.specs.Prelude.{◌≡◌, if◌then◌else◌};
+ghost use Rattle.std.specs.Prelude.{◌≡◌};
 ghost use Rattle.std.specs.List.{list_any};
 ghost use Rattle.vhost_backend.specs.Actions.{is_answer, listed_one};
 
@@ -27,8 +27,10 @@ pub enum RingAction {
 #[derive(Drop)]
 pub struct RingActions {
     first: Option<RingAction>,
-    second: Option<RingAction>,
-    third: Option<RingAction>,
+    // After that, whichever of them is to be done.
+    notifies: bool,
+    pops: bool,
+    stopped: bool,
 }
 
 impl Model for RingActions {
@@ -38,13 +40,7 @@ impl Model for RingActions {
 
     ghost Value = { List RingAction };
 
-    ghost view = { λ a. listed a.first a.second a.third };
-}
-
-fn given(is: bool, action: RingAction) -> Option<RingAction>
-    ensures { result ≡ if is then Some action else None }
-{
-    if is { Some(action) } else { None }
+    ghost view = { λ a. listed a.first a.notifies a.pops a.stopped };
 }
 
 fn is_answer(action: Option<RingAction>) -> bool
@@ -60,21 +56,29 @@ impl RingActions {
     ghost use Rattle.std.specs.Prelude.{[], ◌∷◌, ◌++◌, ◌==◌, drop, length, slice_get};
     ghost use Rattle.std.specs.List.{list_any};
     ghost use Rattle.vhost_backend.specs.Actions.{if_so, is_answer};
+    ghost use Rattle.vhost_backend.specs.declared.ring.actions.RingAction.TheVariants as deed;
 
     /// Takes the first action, if there is one.
     pub fn take_first(&mut self) -> Option<RingAction>
         ensures first { result ≡ slice_get self.old 0 }
         ensures rest { self.new ≡ drop 1 self.old }
     {
-        let found = self.first.or(self.second).or(self.third);
         if self.first.is_some() {
-            self.first = None;
-        } else if self.second.is_some() {
-            self.second = None;
-        } else {
-            self.third = None;
+            return self.first.take();
         }
-        found
+        if self.notifies {
+            self.notifies = false;
+            return Some(RingAction::Notify);
+        }
+        if self.pops {
+            self.pops = false;
+            return Some(RingAction::Pop);
+        }
+        if self.stopped {
+            self.stopped = false;
+            return Some(RingAction::Stopped);
+        }
+        None
     }
 
     /// Whether nothing is to be done.
@@ -82,7 +86,7 @@ impl RingActions {
     pub fn is_empty(&self) -> bool
         ensures { result ≡ (length self.now == 0) }
     {
-        self.first.is_none() && self.second.is_none() && self.third.is_none()
+        self.first.is_none() && !self.notifies && !self.pops && !self.stopped
     }
 
     /// Whether the message that stopped the ring is to be answered.
@@ -90,7 +94,7 @@ impl RingActions {
     pub fn has_answer(&self) -> bool
         ensures { result ≡ list_any is_answer self.now }
     {
-        is_answer(self.first) || is_answer(self.second) || is_answer(self.third)
+        self.stopped || is_answer(self.first)
     }
 
     pub(crate) fn none() -> RingActions
@@ -98,8 +102,9 @@ impl RingActions {
     {
         RingActions {
             first: None,
-            second: None,
-            third: None,
+            notifies: false,
+            pops: false,
+            stopped: false,
         }
     }
 
@@ -108,34 +113,45 @@ impl RingActions {
     {
         RingActions {
             first: Some(action),
-            second: None,
-            third: None,
+            notifies: false,
+            pops: false,
+            stopped: false,
         }
     }
 
-    // The first if it is to be done, and the second if it is to be done.
-    pub(crate) fn two_if(
-        first: bool,
-        action: RingAction,
-        second: bool,
-        next: RingAction,
-    ) -> RingActions
-        ensures { result ≡ if_so first action ++ if_so second next }
+    // Those of a turn.
+    pub(crate) fn turn(notifies: bool, pops: bool) -> RingActions
+        ensures { result ≡ if_so notifies deed.Notify ++ if_so pops deed.Pop }
     {
         RingActions {
-            first: given(first, action),
-            second: given(second, next),
-            third: None,
+            first: None,
+            notifies,
+            pops,
+            stopped: false,
         }
     }
 
-    pub(crate) fn three(action: RingAction, next: RingAction, last: RingAction) -> RingActions
-        ensures { result ≡ action ∷ next ∷ last ∷ [] }
+    // Those of a ring that is stopped.
+    pub(crate) fn stop(notifies: bool) -> RingActions
+        ensures { result ≡ if_so notifies deed.Notify ++ deed.Stopped ∷ [] }
+    {
+        RingActions {
+            first: None,
+            notifies,
+            pops: false,
+            stopped: true,
+        }
+    }
+
+    // Those of a ring that is stopped after the last action of its requests.
+    pub(crate) fn last(action: RingAction) -> RingActions
+        ensures { result ≡ action ∷ deed.Notify ∷ deed.Stopped ∷ [] }
     {
         RingActions {
             first: Some(action),
-            second: Some(next),
-            third: Some(last),
+            notifies: true,
+            pops: false,
+            stopped: true,
         }
     }
 }

@@ -1,7 +1,7 @@
 use Rattle.std.proofs.Common.{[], refl}
 use Rattle.vhost_backend.specs.Run.{goes_on, output_of}
 use Rattle.vhost_backend.proofs.MoveLemmas.{idle_same, puts_no_moves}
-use Rattle.vhost_backend.proofs.block_connection.BlockConnection.give_step.Goals as goal
+use Rattle.vhost_backend.proofs.block_connection.BlockConnection.give_made.Goals as goal
 
 pub returns-in-Again-clause-gives : goal.returns-in-Again-clause-gives
 returns-in-Again-clause-gives c = (
