@@ -583,8 +583,8 @@ static inline vmm_answer vmm_pop(vmm_session *s, size_t queue, size_t memory) {
     return vmm_asked(s, &call, NULL, 0, NULL, 0);
 }
 
-/* Reads `size` bytes of a chain in flight, or fewer at the end of its readable bytes or before an address without
- * memory: `count` is how many. */
+/* Reads `size` bytes of a chain in flight, or fewer at the end of its readable bytes, or before an address without
+ * memory or a later segment that an IOMMU refuses: `count` is how many. */
 static inline vmm_answer vmm_read_chain(vmm_session *s, size_t queue, size_t memory, size_t head, uint64_t offset,
                                         void *bytes, size_t size) {
     vmm_request call = vmm_on(VMM_READ_CHAIN, queue, memory, head);
@@ -630,7 +630,7 @@ static inline vmm_answer vmm_forget(vmm_session *s, size_t queue, size_t head) {
     return vmm_asked(s, &call, NULL, 0, NULL, 0);
 }
 
-/* `value` is 1 if the driver has to be notified of what was returned since this was last asked. */
+/* `value` is 1 if the driver wants to be notified: with event indices only of what was returned since it was asked. */
 static inline vmm_answer vmm_needs_notification(vmm_session *s, size_t queue, size_t memory) {
     vmm_request call = vmm_on(VMM_NEEDS_NOTIFICATION, queue, memory, 0);
     return vmm_asked(s, &call, NULL, 0, NULL, 0);
@@ -892,8 +892,8 @@ typedef struct vmm_backend_counts {
 uint32_t vmm_backend_open(vmm_backend *connection, const vmm_vhost_offer *offer, const uint8_t *config,
                           size_t config_size, const vmm_backend_disk *disk);
 
-/* A whole message came, with so many descriptors. 0 if it was taken, and 1 if the one before it is not done: then
- * nothing changes. Descriptors that no action took are closed when `state` is not 1. */
+/* A whole message came, with so many descriptors. 0 if it was taken, and 1 if the one before it is not done,
+ * or the connection is over: then nothing changes. Descriptors that no action took are closed when `state` is not 1. */
 uint32_t vmm_backend_message(vmm_backend *connection, const uint8_t *message, size_t message_size, size_t descriptors);
 
 /* The region that was asked for lies at this place, which is the connection's until UNMAP_ALL or its close. 0, or 1

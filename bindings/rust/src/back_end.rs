@@ -455,7 +455,7 @@ impl BackEnd {
     }
 
     /// Takes a whole message, and how many descriptors came with it, which are kept until its actions are done. It is
-    /// not taken, and nothing changes, while one is under way.
+    /// not taken, and nothing changes, while one is under way and after the connection is over.
     pub fn message(&mut self, message: &[u8], descriptors: usize) -> bool {
         self.device.message(message, descriptors) == 0
     }

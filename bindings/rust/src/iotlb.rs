@@ -136,8 +136,8 @@ fn input_of(message: &[u8; PAYLOAD_LEN], announced: &[UserRegion]) -> Result<Vec
 impl Machine {
     /// Applies the 32 bytes of a front end's message to the I/O table of a memory whose IOMMU is on: an UPDATE maps its
     /// range to the announced memory that its user address is, and an INVALIDATE takes the mappings of its range back.
-    /// It reads none of `announced` for an INVALIDATE, which allocates nothing. Returns how many ranges the table
-    /// evicted for an UPDATE, and 0 for an INVALIDATE.
+    /// It reads none of `announced` for an INVALIDATE. Returns how many ranges the table evicted for an UPDATE, and 0
+    /// for an INVALIDATE.
     ///
     /// A call that was refused for a missing mapping ([`take_miss`](Machine::take_miss)) is made again after its UPDATE
     /// was applied so, and again, until it is not. It passes the same bytes each time: a device keeps what it took from

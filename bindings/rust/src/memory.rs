@@ -12,7 +12,7 @@ use std::sync::atomic::Ordering;
 pub struct GuestAddress(pub u64);
 
 /// A memory of a machine, which it lends. Its calls are those of `Bytes<GuestAddress>` of the Rust crate vm-memory,
-/// with the same names and signatures.
+/// with the same names, over `Read` and `Write`.
 #[derive(Clone, Copy, Debug)]
 pub struct GuestMemory<'a> {
     machine: &'a Machine,

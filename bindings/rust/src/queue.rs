@@ -412,7 +412,7 @@ impl<'a> Queue<'a> {
 
     // ---- notifications
 
-    /// Whether the driver has to be notified of what was returned since this was last asked.
+    /// Whether the driver wants to be notified: with event indices only of what was returned since this was asked.
     #[inline]
     pub fn needs_notification(&self, mem: &GuestMemory<'_>) -> Result<bool, QueueError> {
         let answer = self.ask(&self.call_on(kind::NEEDS_NOTIFICATION, mem))?;

@@ -246,7 +246,7 @@ pub enum Refusal {
     IotlbKind,
     /// A message on the I/O table maps no address.
     IotlbEmptyRange,
-    /// A message on the I/O table maps addresses past the last one.
+    /// A message on the I/O table maps the last address, or ones past it.
     IotlbRange,
     /// A message on the I/O table has no permissions.
     IotlbPermissions,

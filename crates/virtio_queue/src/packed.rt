@@ -29,8 +29,8 @@ use vm_memory_base::GuestAddress;
 
 /// A packed virtqueue, as the device sees it: the crate's README.md, "Packed queues".
 ///
-/// It has the calls of a split [`Queue`](crate::Queue), and those return the same errors if the same is wrong. A chain
-/// that was popped is returned by what it was popped with.
+/// It has the calls of a split [`Queue`](crate::Queue), and those return its errors, but `NestedIndirect`. A chain that
+/// was popped is returned by what it was popped with.
 ///
 /// ```text
 /// while let Some((buffer, chain)) = queue.pop_descriptor_chain(alloc, &memory, &host)? {

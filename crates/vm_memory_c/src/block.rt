@@ -58,7 +58,7 @@ pub extern "C" fn vmm_backend_open(
 }
 
 /// Takes a whole message, and how many descriptors came with it. Returns 0 if it was taken, and 1 if the one before it
-/// is not done: then nothing changes.
+/// is not done, or the connection is over: then nothing changes.
 #[unsafe(no_mangle)]
 pub extern "C" fn vmm_backend_message(
     alloc: Global,
