@@ -7,6 +7,7 @@ mod chains;
 mod device;
 mod host;
 pub mod laws;
+mod leads;
 mod replies;
 mod request;
 mod table;
@@ -15,6 +16,7 @@ pub use access::{ReadBytes, WriteBytes, reach};
 pub use chains::{ReadChain, WriteChain};
 pub use device::{DeviceIotlb, Handled, Limits, MissError};
 pub use host::{LockedHost, SharedHost};
+pub use leads::{Lead, lead_of};
 pub use request::{Outcome, Request};
 pub use table::{DeviceTable, Refusal};
 pub use vhost_message::{
