@@ -44,6 +44,11 @@ call_of regions (Invalidate iova size) = invalidate iova (invalidated iova size)
 call_of regions (Miss iova access) = Err (refusal.Malformed malformed.Kind)
 call_of regions (AccessFail iova access) = Err (refusal.Malformed malformed.Kind)
 
+-- where the range of an UPDATE lies in guest memory
+abbrev pub guest_asked : List MemoryRegion → IotlbMessage → Option GuestAddress
+guest_asked regions (Update iova size user permissions) = guest_of regions user size
+guest_asked regions m = None
+
 -- what may be done for a call: the call, but instead of a range all may be unmapped
 abbrev pub DoneFor : TableEvent → TableEvent → Type 0
 DoneFor (table.Invalidate iova len) call = (call ≡ table.Invalidate iova len) ⊎ (call ≡ table.InvalidateAll)

@@ -1,6 +1,7 @@
 pub mod Changes
 pub mod Handling
 pub mod Invalidation
+pub mod Kept
 pub mod Leads
 pub mod Misses
 pub mod Reaches

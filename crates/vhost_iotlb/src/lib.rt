@@ -6,6 +6,7 @@ mod access;
 mod chains;
 mod device;
 mod host;
+mod kept;
 pub mod laws;
 mod leads;
 mod replies;
@@ -16,9 +17,10 @@ pub use access::{ReadBytes, WriteBytes, reach};
 pub use chains::{ReadChain, WriteChain};
 pub use device::{DeviceIotlb, Handled, Limits, MissError};
 pub use host::{LockedHost, SharedHost};
+pub use kept::{Change, Kept, any_differs, differs};
 pub use leads::{Lead, lead_of};
 pub use request::{Outcome, Request};
-pub use table::{DeviceTable, Refusal};
+pub use table::{DeviceTable, Refusal, change_of, take_back};
 pub use vhost_message::{
     BackendReply, BackendReq, ChannelError, Header, Incoming, IotlbMessage, Malformed,
     MemoryRegion, MemoryRegions, Message, Receive, Refusal as MessageRefusal,

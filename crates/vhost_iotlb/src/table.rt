@@ -1,11 +1,14 @@
 //! A bounded table of a host, and what messages make of it.
 ghost use Rattle.std.specs.Prelude.{◌≡◌, ◌⊎◌, ◌+◌, ◌^◌, ◌<◌, true, false, List, [], length, Some, IfNone, IfOk, IfSome};
-ghost use Rattle.std.specs.Prelude.{Ok, OnErr, OnOk, OnSome, slice_get};
+ghost use Rattle.std.specs.Prelude.{Ok, Err, MatchResult, OnErr, OnOk, OnSome, slice_get};
 ghost use Rattle.vm_memory_base.specs.Table as tables;
 ghost use Rattle.vm_memory_base.specs.Table.{TableEvent};
 ghost use Rattle.vm_memory_guest.specs.Host.{shape_of, with_given_table};
-ghost use Rattle.vhost_iotlb.specs.Changes.{Applies, Changes, call_of, done_of, evicted_for, invalidated};
+ghost use Rattle.vhost_iotlb.specs.Changes.{Applies, Changes, call_of, done_of, evicted_for, guest_asked, invalidated};
+ghost use Rattle.vhost_iotlb.specs.Kept.{Fits, event_of};
+ghost use Rattle.vhost_message.specs.declared.regions.MemoryRegion.{MemoryRegion};
 
+use crate::kept::Change;
 use std::alloc::{AllocError, Global};
 use thiserror::Error;
 use vhost_message::{IotlbMessage, Malformed, MemoryRegions};
@@ -27,6 +30,46 @@ pub enum Refusal {
     /// The host has no such table.
     #[error("no such table")]
     NoTable,
+}
+
+/// How a message changes what the front end maps, if `guest` is the guest memory that the user address of an UPDATE is.
+///
+/// `Malformed` with `Kind` for a message that a front end does not send, with `EmptyRange` for an INVALIDATE of no
+/// addresses, and with `Range` for an INVALIDATE past the last address and an UPDATE up to it. `UserAddress` for an
+/// UPDATE if `guest` is nothing.
+pub fn change_of(message: &IotlbMessage, guest: Option<GuestAddress>) -> Result<Change, Refusal>
+    ensures call { (regions : List MemoryRegion) → guest ≡ guest_asked regions message.now → MatchResult result
+        (λ c. call_of regions message.now ≡ Ok (event_of c)) (λ e. call_of regions message.now ≡ Err e) }
+    ensures fits { IfOk result Fits }
+{
+    match *message {
+        IotlbMessage::Update {
+            iova,
+            size,
+            permissions,
+            ..
+        } => {
+            if iova.checked_add(size).is_none() {
+                return Err(Refusal::Malformed(Malformed::Range));
+            }
+            let Some(to) = guest else {
+                return Err(Refusal::UserAddress);
+            };
+            Ok(Change::Map {
+                iova,
+                to: to.0,
+                len: size,
+                permissions,
+            })
+        }
+        IotlbMessage::Invalidate { iova, size } => match invalidated(iova, size) {
+            Ok(len) => Ok(Change::Unmap { iova, len }),
+            Err(error) => Err(Refusal::Malformed(error)),
+        },
+        IotlbMessage::Miss { .. } | IotlbMessage::AccessFail { .. } => {
+            Err(Refusal::Malformed(Malformed::Kind))
+        }
+    }
 }
 
 /// A table of a host that a front end fills, and the memory that it announced.
@@ -83,8 +126,8 @@ fn invalidated(iova: u64, size: u64) -> Result<u64, Malformed>
     Ok(size.min(most))
 }
 
-// Invalidates the mappings of a range, or all if memory is short: to invalidate a part of a range may want some.
-fn take_back(table: &mut Iotlb, iova: u64, size: u64)
+/// Invalidates the mappings of a range, or all if memory is short: to invalidate a part of a range may want some.
+pub fn take_back(table: &mut Iotlb, iova: u64, size: u64)
     requires { iova + size < 2 ^ 64 }
     ensures { (table.new ≡ tables.changed (tables.Invalidate iova size) table.old)
         ⊎ (table.new ≡ tables.changed tables.InvalidateAll table.old) }
