@@ -6,4 +6,5 @@ pub mod InvalidationLemmas
 pub mod TableLemmas
 pub mod MissLemmas
 pub mod ReplyLemmas
+pub mod TakingLemmas
 pub mod TryLemmas

@@ -6,4 +6,5 @@ pub mod Leads
 pub mod Misses
 pub mod Reaches
 pub mod Replies
+pub mod Taking
 pub mod Tries

@@ -12,6 +12,7 @@ mod leads;
 mod replies;
 mod request;
 mod table;
+mod taking;
 
 pub use access::{ReadBytes, WriteBytes, reach};
 pub use chains::{ReadChain, WriteChain};
@@ -21,6 +22,7 @@ pub use kept::{Change, Kept, any_differs, differs};
 pub use leads::{Lead, lead_of};
 pub use request::{Outcome, Request};
 pub use table::{DeviceTable, Refusal, change_of, take_back};
+pub use taking::{Progress, Taking, Want};
 pub use vhost_message::{
     BackendReply, BackendReq, ChannelError, Header, Incoming, IotlbMessage, Malformed,
     MemoryRegion, MemoryRegions, Message, Receive, Refusal as MessageRefusal,
