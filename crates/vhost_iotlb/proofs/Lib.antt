@@ -1,5 +1,6 @@
 pub mod ApplyLemmas
 pub mod CallLemmas
+pub mod KeptLemmas
 pub mod LeadLemmas
 pub mod HandlingLemmas
 pub mod InvalidationLemmas

@@ -1,11 +1,19 @@
 -- Wanted ranges that are taken piece by piece.
-use Rattle.std.proofs.Common.{◌≡◌, ℕ, zero, suc, ◌+◌, ◌^◌, ◌<◌, ◌≤◌, Bool, true, false, eqb, List, [], ◌∷◌, ◌++◌, length, drop, slice_index_or, inl, inr, length-drop, refl, sym, ap, subst, ◌∙◌, add-one, arith}
-use Rattle.std.proofs.lemmas.Bool.{cases_Bool, cases_lt, eqb-false, eq-eqb, ne_eqb}
+use Rattle.std.proofs.Common.{◌≡◌, ℕ, zero, suc, ◌+◌, ◌-◌, ◌^◌, ◌⊎◌, ◌<◌, ◌≤◌, Bool, true, false, eqb, List, [], ◌∷◌, ◌++◌, length, drop, slice_index_or, append_assoc, Option, None, Some, IsSomeAnd, inl, inr, length-drop, refl, sym, ap, subst, ◌∙◌, add-one, arith}
+use Rattle.std.proofs.lemmas.Bool.{cases_Bool, cases_lt, eqb-true, eqb-false, eq-eqb, ne_eqb}
 use Rattle.std.proofs.lemmas.List.Elements.{All-head, All-tail, All-push}
-use Rattle.std.specs.List.{All}
+use Rattle.std.specs.List.{All, flat_map}
+use Rattle.vm_memory_base.specs.Address.{numbers}
+use Rattle.vm_memory_base.specs.Permissions.{allow}
+use Rattle.vm_memory_base.specs.Table.{Mapping, Says, target}
+use Rattle.vm_memory_base.specs.declared.iotlb.Permissions.{Permissions}
+use Rattle.vm_memory_base.proofs.PagesLaws.{numbers-append}
 use Rattle.vhost_iotlb.specs.Kept.{IsReal}
-use Rattle.vhost_iotlb.specs.Taking.{AreReal, Covers, IsPartOf, left}
+use Rattle.vhost_iotlb.specs.Leads.{Forbids, LeadsTo}
+use Rattle.vhost_iotlb.specs.Taking.{AreReal, Covers, IsPartOf, StopsAt, left}
 use Rattle.vhost_iotlb.specs.declared.kept.Kept.{Kept}
+use Rattle.vhost_iotlb.specs.declared.taking.Progress.{Progress}
+use Rattle.vhost_iotlb.specs.declared.taking.Progress.TheVariants.{Whole, Misses, Bars, TooMany, NoMemory}
 use Rattle.vhost_iotlb.specs.declared.taking.Want.{Want}
 
 -- ---- some ranges more
@@ -147,3 +155,74 @@ module _ (ws : List Want) (next from : ℕ) (ks : List Kept) (w : Want) (k : Kep
   taken_in_part e =
       let on : eqb (from + k.len) w.len ≡ false = ne_eqb (from + k.len) w.len e in
       (h.0, covers, left_then ∙ rw on (ap (λ (rest : List Want). (rest, from + k.len)) (sym n.there)), real)
+
+-- ---- the bytes of what is kept, and of what is wanted
+
+abbrev kept_bytes : Kept → List ℕ
+kept_bytes k = numbers k.iova k.len
+
+abbrev wanted_bytes : Want → List ℕ
+wanted_bytes w = numbers w.iova w.len
+
+abbrev bytes_left : ℕ → List Want → List ℕ
+bytes_left from [] = []
+bytes_left from (w ∷ ws) = numbers (w.iova + from) (w.len - from) ++ flat_map wanted_bytes ws
+
+all_left : (ws : List Want) → bytes_left 0 ws ≡ flat_map wanted_bytes ws
+all_left [] = refl
+all_left (w ∷ ws) =
+    let from : w.iova + 0 ≡ w.iova = omega arith in
+    let len : w.len - 0 ≡ w.len = omega arith in
+    rw (from, len) refl
+
+taken_bytes : (ws : List Want) (from : ℕ) (ks : List Kept) → Covers ws from ks → (left ws from ks).0 ≡ []
+    → flat_map kept_bytes ks ≡ bytes_left from ws
+taken_bytes [] from [] h none = refl
+taken_bytes (w ∷ ws) from [] h none = absurd cc
+taken_bytes [] from (k ∷ ks) h none = absurd h
+taken_bytes (w ∷ ws) from (k ∷ ks) h none =
+    let part = h.0 in
+    elim (cases_Bool (eqb (from + k.len) w.len)) [
+      | inl t ↦
+          let ends = eqb-true (from + k.len) w.len t in
+          let len : k.len ≡ w.len - from = omega (arith, ends) in
+          let rest = taken_bytes ws 0 ks (rw t at h.1) (rw t at none) ∙ all_left ws in
+          rw (part.0, len, rest) refl
+      | inr t ↦
+          let rest = taken_bytes (w ∷ ws) (from + k.len) ks (rw t at h.1) (rw t at none) in
+          let on : w.iova + from + k.len ≡ w.iova + (from + k.len) = omega arith in
+          let len : w.len - from ≡ k.len + (w.len - (from + k.len)) = omega (arith, part.3) in
+          let cut = numbers-append (w.iova + from) k.len (w.len - (from + k.len)) in
+          rw (part.0, rest, len, cut, on)
+          (sym (append_assoc (numbers (w.iova + from) k.len)
+          (numbers (w.iova + (from + k.len)) (w.len - (from + k.len))) (flat_map wanted_bytes ws)))
+    ]
+
+pub whole_is_wanted : (ws : List Want) (ks : List Kept) → Covers ws 0 ks → (left ws 0 ks).0 ≡ []
+    → flat_map (λ k. numbers k.iova k.len) ks ≡ flat_map (λ w. numbers w.iova w.len) ws
+whole_is_wanted ws ks h none = taken_bytes ws 0 ks h none ∙ all_left ws
+
+-- ---- a stop at an address that leads on
+
+pub stops_for_limits : (f : Says) (most count from to : ℕ) (w : Want) (ws : List Want) (t : Progress)
+    → StopsAt f most count (w ∷ ws, from) t → LeadsTo f (w.iova + from) to w.access
+    → (t ≡ TooMany) ⊎ (t ≡ NoMemory)
+stops_for_limits f most count from to w ws Whole h leads = absurd h
+stops_for_limits f most count from to w ws (Misses x access) h leads =
+    absurd (not_missed (f (w.iova + from)) (ap f (sym h.0) ∙ h.2) leads)
+  where
+    not_missed : (v : Option Mapping) → v ≡ None
+        → IsSomeAnd v (λ m. (target (w.iova + from) m ≡ to) × (allow m.permissions w.access ≡ true)) → ⊥
+    not_missed None e g = g
+    not_missed (Some m) e g = cc
+stops_for_limits f most count from to w ws (Bars x access) h leads =
+    absurd (not_barred (f (w.iova + from))
+    (subst (λ (a : Permissions). Forbids f (w.iova + from) a) h.1
+    (subst (λ (y : ℕ). Forbids f y access) h.0 h.2)) leads)
+  where
+    not_barred : (v : Option Mapping) → IsSomeAnd v (λ m. allow m.permissions w.access ≡ false)
+        → IsSomeAnd v (λ m. (target (w.iova + from) m ≡ to) × (allow m.permissions w.access ≡ true)) → ⊥
+    not_barred None b g = g
+    not_barred (Some m) b g = let both : true ≡ false = sym g.1 ∙ b in absurd cc
+stops_for_limits f most count from to w ws TooMany h leads = inl refl
+stops_for_limits f most count from to w ws NoMemory h leads = inr refl

@@ -13,6 +13,7 @@ mod replies;
 mod request;
 mod table;
 mod taking;
+pub mod taking_laws;
 
 pub use access::{ReadBytes, WriteBytes, reach};
 pub use chains::{ReadChain, WriteChain};

@@ -1,8 +1,8 @@
 //! Wanted ranges of I/O addresses, which are taken from a table piece by piece, as their mappings come.
 ghost use Rattle.std.specs.Prelude.{◌≡◌, ◌↔◌, ℕ, ◌+◌, ◌<◌, ◌∷◌, ◌++◌, [], All, IfNone, IfSome, IsTrue, List, length};
 ghost use Rattle.vm_memory_base.specs.Table.{says};
-ghost use Rattle.vhost_iotlb.specs.Kept.{IsCurrent};
-ghost use Rattle.vhost_iotlb.specs.Taking.{AreReal, StopsAt, TakingState, left};
+ghost use Rattle.vhost_iotlb.specs.Kept.{IsCurrent, IsReal};
+ghost use Rattle.vhost_iotlb.specs.Taking.{AreReal, Covers, StopsAt, TakingState, left};
 ghost use Rattle.vhost_iotlb.specs.declared.kept.Kept.{Kept};
 
 use crate::kept::Kept;
@@ -76,16 +76,20 @@ impl Taking {
         }
     }
 
-    /// Lends what was taken.
+    /// Lends what was taken: the first bytes of what is wanted.
     pub fn kept(&self) -> &[Kept]
-        ensures { result.now ≡ self.now.kept }
+        ensures lent { result.now ≡ self.now.kept }
+        ensures covers { Covers self.now.wants 0 self.now.kept }
+        ensures real { All IsReal self.now.kept }
     {
         self.kept.as_slice()
     }
 
-    /// Gives back what was taken.
+    /// Gives back what was taken: the first bytes of what is wanted.
     pub fn into_kept(self) -> Vec<Kept>
-        ensures { result.items ≡ self.kept }
+        ensures given { result.items ≡ self.kept }
+        ensures covers { Covers self.wants 0 self.kept }
+        ensures real { All IsReal self.kept }
     {
         let Taking { kept, .. } = self;
         kept
