@@ -15,7 +15,7 @@ const SIZE_MAX: u64 = 1 << 1;
 const SEG_MAX: u64 = 1 << 2;
 
 // What a processor may work for between a message and its answer, in nanoseconds.
-const SOON: u64 = 250_000_000;
+const SOON: u64 = 100_000_000;
 
 const SHIFT: u64 = 0xffff_0000_0000;
 
