@@ -4,18 +4,20 @@ use Rattle.std.specs.List.{slice_index_or}
 use Rattle.std.proofs.lemmas.Bool.{and_parts, cases_eq, cases_lt, eq-eqb, ltb-true, ne_eqb}
 use Rattle.std.proofs.lemmas.List.{get_or-set_other, get_or-set_same, get_or_past}
 use Rattle.std.proofs.Math.ListN.{length-set}
+use Rattle.vm_memory_base.specs.Table.{says}
 use Rattle.vm_memory_guest.specs.declared.region.error.GuestMemoryError.{GuestMemoryError}
 use Rattle.virtio_queue.specs.Any.{past}
 use Rattle.virtio_queue.specs.declared.error.QueueError.{QueueError}
-use Rattle.virtio_queue.specs.declared.error.QueueError.TheVariants as errors
 use Rattle.virtio_queue.specs.declared.packed.state.PackedBuffer.{PackedBuffer}
 use Rattle.virtio_blk.specs.declared.request.Request.{Request}
 use Rattle.virtio_blk.specs.declared.request.Request.TheVariants.{Refused}
 use Rattle.virtio_blk.specs.declared.request.DeviceLimits.{DeviceLimits}
 use Rattle.vhost_backend.proofs.OnceLemmas.{step_keeps}
-use Rattle.vhost_backend.proofs.TurnLemmas.{nothing_popped}
+use Rattle.vhost_backend.proofs.StageLemmas.{IsQuiet, Stage, behind_stage}
+use Rattle.vhost_backend.proofs.TurnLemmas.{nothing_popped, read_asked, refused_is}
+use Rattle.vhost_backend.specs.Behind.{HappensBy}
 use Rattle.vhost_backend.specs.Block.{block_parts, len_of}
-use Rattle.vhost_backend.specs.BlockQueue.{AfterAsk, AfterPop, Agrees, BlockQueueState, FindsAll, HappensNext, Pops, Waits, asked_at, asked_count, begun, chain_by, event_of, given, has_place, popped, refused, shortened, with_asked, with_queue}
+use Rattle.vhost_backend.specs.BlockQueue.{AfterAsk, AfterPop, AfterRead, Agrees, BlockQueueState, FindsAll, HappensNext, Pops, PopsOrWaits, Waits, asked_at, asked_count, begun, chain_by, event_of, given, has_place, popped, refused, shortened, with_asked, with_queue}
 use Rattle.vhost_backend.specs.Ring.{RingState, Step, may_run, request_at}
 use Rattle.vhost_backend.specs.Ring as ring
 use Rattle.vhost_backend.specs.RingMemory.{MemoryStep, Returned}
@@ -24,10 +26,11 @@ use Rattle.vhost_backend.specs.Story.{RingStep, On, busy, chain_under_way, of_id
 use Rattle.vhost_backend.specs.declared.block_queue.Asked.{Asked}
 use Rattle.vhost_backend.specs.declared.block_queue.Pop.{Pop}
 use Rattle.vhost_backend.specs.declared.block_queue.Pop.TheVariants as pop
+use Rattle.vhost_backend.specs.Sight.{Sight}
 use Rattle.vhost_backend.specs.declared.request.Chain.{Chain}
 use Rattle.vhost_backend.specs.declared.request.Request as ring_request
 use Rattle.vhost_backend.specs.declared.ring.RingEvent.{RingEvent}
-use Rattle.vhost_backend.specs.declared.ring.RingEvent.TheVariants.{Break, Popped, Emptied}
+use Rattle.vhost_backend.specs.declared.ring.RingEvent.TheVariants.{Start, Stop, Enable, Break, Kick, Popped, Emptied, Ended}
 
 abbrev one_if : Bool → ℕ
 one_if b = if b then 1 else 0
@@ -140,25 +143,6 @@ others q r s agrees none = settles q (stepped r s) (λ id.
 
 -- ---- a step of a turn
 
-refused_is : (e : QueueError) → (refused e ≡ pop.Later) ⊎ (refused e ≡ pop.Broken e)
-refused_is errors.InvalidMaxSize = inr refl
-refused_is errors.InvalidSize = inr refl
-refused_is errors.InvalidDescTableAlign = inr refl
-refused_is errors.InvalidAvailRingAlign = inr refl
-refused_is errors.InvalidUsedRingAlign = inr refl
-refused_is errors.QueueNotReady = inr refl
-refused_is errors.AddressOverflow = inr refl
-refused_is (errors.GuestMemory e) = inr refl
-refused_is errors.InvalidAvailRingIndex = inr refl
-refused_is errors.InvalidDescriptorIndex = inr refl
-refused_is errors.DescriptorLoop = inr refl
-refused_is errors.IndirectWithNext = inr refl
-refused_is errors.InvalidIndirectTable = inr refl
-refused_is errors.NestedIndirect = inr refl
-refused_is (errors.InvalidChain fault) = inr refl
-refused_is errors.InvalidUsedEntry = inr refl
-refused_is errors.Memory = inl refl
-
 module _ {H : Type 0} (step : H → (s : MemoryStep) → Returned s → H → Type 0) (terms : DeviceLimits) (q : BlockQueueState)
     (r : RingState) (agrees : Agrees q r) (same : length q.asked ≡ length r.requests) (runs : may_run r ≡ true) where
   -- one more is under way if the ring takes a chain
@@ -252,7 +236,7 @@ module _ {H : Type 0} (step : H → (s : MemoryStep) → Returned s → H → Ty
           let bad : None ≡ Some e = ap event_of (sym (ap (λ t. t.0) is)) ∙ event in absurd (cc)
       read (Ok request) place is =
           let short = shortened (length q.asked) (length p.1) request in
-          let a : Asked = record { chain = p.1; request = short } in
+          let a : Asked = record { chain = p.1; request = short; kept = []; gap = false } in
           let b = popped p.0 short in
           let it : event_of b ≡ Some e = ap event_of (sym (ap (λ t. t.0) is)) ∙ event in
           let kept : new_q.asked ≡ set q.asked p.0.id (Some a) = ap (λ t. t.1.asked) is in
@@ -293,13 +277,78 @@ module _ {H : Type 0} (step : H → (s : MemoryStep) → Returned s → H → Ty
       subst (Grows e) (sym kept) (pops_grow old (pop.Broken error) mid_q mid pops e (sym is))
   after_grows old pop.Later mid_q mid pops e new_q new (is, kept, still) = absurd (cc)
 
-  pub turn_grows : (old : H) (e : RingEvent) (new_q : BlockQueueState) (new : H)
+  pop_or_wait_grows : (old : H) (e : RingEvent) (new_q : BlockQueueState) (new : H)
+      → PopsOrWaits step terms q old (Some e) new_q new → Grows e new_q
+  pop_or_wait_grows old e new_q new (found, mid_q, mid, pops, after) =
+      after_grows old found mid_q mid pops e new_q new after
+
+module _ {H : Type 0} (step : H → (s : MemoryStep) → Returned s → H → Type 0) (terms : DeviceLimits) (q : BlockQueueState)
+    (r : RingState) (agrees : Agrees q r) (same : length q.asked ≡ length r.requests) (runs : may_run r ≡ true) where
+  in_place_grows : (old : H) (e : RingEvent) (new_q : BlockQueueState) (new : H)
       → HappensNext step terms q old (Some e) new_q new → (id : ℕ)
       → asked_count new_q id ≡ asked_count q id + length (of_id id (taken r (On e)))
-  turn_grows old e new_q new (found, mid_q, mid, pops, after) = after_grows old found mid_q mid pops e new_q new after
+  in_place_grows old e new_q new (read, mid_q, mid, reads, after) id =
+      go read after ∙ ap (λ n. n + length (of_id id (taken r (On e)))) (kept id)
+    where
+      is : mid_q.asked ≡ q.asked
+      is = read_asked step terms q q.is_unread q.queue old read mid_q mid reads
+
+      kept : (id : ℕ) → asked_count mid_q id ≡ asked_count q id
+      kept id = ap (λ l. one_if (is_some (slice_index_or l id None))) is
+
+      agrees_mid : Agrees mid_q r
+      agrees_mid id = kept id ∙ agrees id
+
+      go : (v : Result (Unit {0}) QueueError) → AfterRead step terms v mid_q mid (Some e) new_q new
+          → asked_count new_q id ≡ asked_count mid_q id + length (of_id id (taken r (On e)))
+      go (Ok done) p = pop_or_wait_grows step terms mid_q r agrees_mid (ap length is ∙ same) runs mid e new_q new p id
+      go (Err error) (what, kept, still) = refused_grows step terms mid_q r agrees_mid (ap length is ∙ same) runs error e
+          new_q (sym what) (ap (λ n. n.asked) kept) id
+
+  stage_grows : (e : RingEvent) (new_q : BlockQueueState) (new : H) → Stage step q (Some e) new_q new → (id : ℕ)
+      → asked_count new_q id ≡ asked_count q id + length (of_id id (taken r (On e)))
+  stage_grows e new_q new (inl (quiet, kept)) = quiet_grows e quiet
+    where
+      quiet_grows : (e : RingEvent) → IsQuiet (Some e) → (id : ℕ)
+          → asked_count new_q id ≡ asked_count q id + length (of_id id (taken r (On e)))
+      quiet_grows Kick is = stays step terms q r agrees same runs Kick refl new_q kept
+      quiet_grows Break is = stays step terms q r agrees same runs Break refl new_q kept
+      quiet_grows Start is = absurd is
+      quiet_grows Stop is = absurd is
+      quiet_grows (Enable on) is = absurd is
+      quiet_grows (Popped chain parts bytes) is = absurd is
+      quiet_grows Emptied is = absurd is
+      quiet_grows (Ended id end) is = absurd is
+  stage_grows e new_q new (inr (inl (is, kept, queue, ends))) =
+      subst (λ x. (id : ℕ) → asked_count new_q id ≡ asked_count q id + length (of_id id (taken r (On x))))
+      (event_is step terms q r agrees same runs Emptied e (sym is))
+      (stays step terms q r agrees same runs Emptied refl new_q kept)
+  stage_grows e new_q new (inr (inr (inl (buffer, request, a, place, set, is)))) =
+      subst (λ x. (id : ℕ) → asked_count new_q id ≡ asked_count q id + length (of_id id (taken r (On x))))
+      (event_is step terms q r agrees same runs (Popped (chain_by buffer) (block_parts request) (len_of request)) e (sym is))
+      (popped_grows step terms q r agrees same runs buffer request new_q a place set (block_parts request) (len_of request))
+  stage_grows e new_q new (inr (inr (inr (buffer, place, kept, is)))) =
+      subst (λ x. (id : ℕ) → asked_count new_q id ≡ asked_count q id + length (of_id id (taken r (On x))))
+      (event_is step terms q r agrees same runs (Popped (chain_by buffer) 0 0) e (sym is))
+      (stays step terms q r agrees same runs (Popped (chain_by buffer) 0 0)
+      (takes step terms q r agrees same runs (chain_by buffer) 0 0 false place) new_q kept)
+
+module _ {H : Type 0} (step : H → (s : MemoryStep) → Returned s → H → Type 0) (way : Option Sight) (terms : DeviceLimits)
+    (q : BlockQueueState) (r : RingState) (agrees : Agrees q r) (same : length q.asked ≡ length r.requests)
+    (runs : may_run r ≡ true) where
+  pub turn_grows : (old : H) (e : RingEvent) (new_q : BlockQueueState) (new : H)
+      → HappensBy step way terms q old (Some e) new_q new → (id : ℕ)
+      → asked_count new_q id ≡ asked_count q id + length (of_id id (taken r (On e)))
+  turn_grows old e new_q new = go way
+    where
+      go : (w : Option Sight) → HappensBy step w terms q old (Some e) new_q new → (id : ℕ)
+          → asked_count new_q id ≡ asked_count q id + length (of_id id (taken r (On e)))
+      go None p = in_place_grows step terms q r agrees same runs old e new_q new p
+      go (Some w) p = stage_grows step terms q r agrees same runs e new_q new
+          (behind_stage step (says w.table) w.can_ask terms q old (Some e) new_q new p)
 
   pub turns : (old : H) (e : RingEvent) (new_q : BlockQueueState) (new : H)
-      → HappensNext step terms q old (Some e) new_q new → FindsAll new_q (stepped r (On e))
+      → HappensBy step way terms q old (Some e) new_q new → FindsAll new_q (stepped r (On e))
   turns old e new_q new next =
       let grows = turn_grows old e new_q new next in
       settles new_q (stepped r (On e)) (λ id. omega (arith, grows id, counts r id (On e), agrees id))

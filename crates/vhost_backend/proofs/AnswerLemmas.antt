@@ -70,16 +70,16 @@ module _ (b : BackendState) where
   abbrev Counts : Bool → Bool → BackendState → Type 0
   Counts came over new = pending b + one_if came ≡ one_if over + pending new
 
-  decoded_counts : (h : Header) (payload : List ℕ) (n : ℕ) (o : Result FrontendReq Refusal) → is_free b.taken ≡ true
-      → (let t = decoded b h payload n o in Counts true (is_refused t.1.message) t.0)
-  decoded_counts h payload n (Err e) free = rw (free_none b.taken free) refl
-  decoded_counts h payload n (Ok request) free = go (n == descriptors_of request)
+  decoded_counts : (h : Header) (payload : List ℕ) (n : ℕ) (used : Bool) (o : Result FrontendReq Refusal) → is_free b.taken ≡ true
+      → (let t = decoded b h payload n used o in Counts true (is_refused t.1.message) t.0)
+  decoded_counts h payload n used (Err e) free = rw (free_none b.taken free) refl
+  decoded_counts h payload n used (Ok request) free = go (n == descriptors_of request)
     where
-      go : (right : Bool) → (let t = if right then taken_until b h request payload (until_of b request)
+      go : (right : Bool) → (let t = if right then taken_until b h request payload (until_of b used request)
           else (b, refused b h Descriptors) in Counts true (is_refused t.1.message) t.0)
       go false = rw (free_none b.taken free) refl
       go true =
-          let until = until_of b request in
+          let until = until_of b used request in
           let t = waiting b until in
           rw (free_none b.taken free) (due_over (placed t.0 t.1) h request payload until (is_due until t.1))
 
@@ -102,12 +102,12 @@ module _ (b : BackendState) where
       rw (is, none) refl
 
   step_counts : (x : Happening) → Counts (is_taken b x) (is_over b x) (stepped b x)
-  step_counts (Came h payload n) = go (is_free b.taken) refl
+  step_counts (Came h payload n used) = go (is_free b.taken) refl
     where
       go : (free : Bool) → is_free b.taken ≡ free
-          → (let t = if free then decoded b h payload n (request_of h payload) else (b, to_do (nothing 0) None Stays) in
+          → (let t = if free then decoded b h payload n used (request_of h payload) else (b, to_do (nothing 0) None Stays) in
           Counts free (is_refused t.1.message) t.0)
-      go true free = decoded_counts h payload n (request_of h payload) free
+      go true free = decoded_counts h payload n used (request_of h payload) free
       go false free = omega arith
   step_counts (Done end) = end_counts end b.taken refl
   step_counts (Told e) = go (is_outer e)

@@ -302,24 +302,24 @@ FitsUntil request Now n = (changes_all request ≡ false) × ((i : ℕ) → stop
 FitsUntil request (Ring i) n = (changes_all request ≡ false) × (stopped_ring request ≡ Some i) × (i < n)
 FitsUntil request AllRings n = stopped_ring request ≡ None
 
-pub until_fits : (b : BackendState) (request : FrontendReq)
-    → FitsUntil request (until_of b request) (length b.rings.rings)
-until_fits b req.GetFeatures = (refl, λ i is there. absurd (cc))
-until_fits b (req.SetFeatures features) = refl
-until_fits b req.SetOwner = (refl, λ i is there. absurd (cc))
-until_fits b req.ResetOwner = (refl, λ i is there. absurd (cc))
-until_fits b (req.SetMemTable table) = refl
-until_fits b (req.SetLogBase size offset) = refl
-until_fits b req.SetLogFd = (refl, λ i is there. absurd (cc))
-until_fits b (req.SetVringNum index num) = (refl, λ i is there. absurd (cc))
-until_fits b (req.SetVringAddr address) = go (is_stopped_at b.rings address.index)
+pub until_fits : (b : BackendState) (used : Bool) (request : FrontendReq)
+    → FitsUntil request (until_of b used request) (length b.rings.rings)
+until_fits b used req.GetFeatures = (refl, λ i is there. absurd (cc))
+until_fits b used (req.SetFeatures features) = refl
+until_fits b used req.SetOwner = (refl, λ i is there. absurd (cc))
+until_fits b used req.ResetOwner = (refl, λ i is there. absurd (cc))
+until_fits b used (req.SetMemTable table) = refl
+until_fits b used (req.SetLogBase size offset) = refl
+until_fits b used req.SetLogFd = (refl, λ i is there. absurd (cc))
+until_fits b used (req.SetVringNum index num) = (refl, λ i is there. absurd (cc))
+until_fits b used (req.SetVringAddr address) = go (is_stopped_at b.rings address.index)
   where
     go : (stopped : Bool) → FitsUntil (req.SetVringAddr address) (if stopped then Now else AllRings)
         (length b.rings.rings)
     go true = (refl, λ i is there. absurd (cc))
     go false = refl
-until_fits b (req.SetVringBase index base) = (refl, λ i is there. absurd (cc))
-until_fits b (req.GetVringBase index) = elim (cases_lt index (length b.rings.rings)) [
+until_fits b used (req.SetVringBase index base) = (refl, λ i is there. absurd (cc))
+until_fits b used (req.GetVringBase index) = elim (cases_lt index (length b.rings.rings)) [
   | inl below ↦ rw (lt-ltb index (length b.rings.rings) below) (refl, refl, below)
   | inr past ↦ rw (le-ltb index (length b.rings.rings) past) (
     refl,
@@ -327,17 +327,21 @@ until_fits b (req.GetVringBase index) = elim (cases_lt index (length b.rings.rin
         let same : index ≡ i = cc in absurd (omega (arith, there, same, past)),
   )
 ]
-until_fits b (req.SetVringKick index descriptor) = (refl, λ i is there. absurd (cc))
-until_fits b (req.SetVringCall index descriptor) = (refl, λ i is there. absurd (cc))
-until_fits b (req.SetVringErr index descriptor) = (refl, λ i is there. absurd (cc))
-until_fits b req.GetProtocolFeatures = (refl, λ i is there. absurd (cc))
-until_fits b (req.SetProtocolFeatures features) = (refl, λ i is there. absurd (cc))
-until_fits b req.GetQueueNum = (refl, λ i is there. absurd (cc))
-until_fits b (req.SetVringEnable index enable) = (refl, λ i is there. absurd (cc))
-until_fits b req.SetBackendReqFd = (refl, λ i is there. absurd (cc))
-until_fits b (req.IotlbMsg message) = (refl, λ i is there. absurd (cc))
-until_fits b (req.GetConfig space) = (refl, λ i is there. absurd (cc))
-until_fits b (req.SetConfig space) = (refl, λ i is there. absurd (cc))
+until_fits b used (req.SetVringKick index descriptor) = (refl, λ i is there. absurd (cc))
+until_fits b used (req.SetVringCall index descriptor) = (refl, λ i is there. absurd (cc))
+until_fits b used (req.SetVringErr index descriptor) = (refl, λ i is there. absurd (cc))
+until_fits b used req.GetProtocolFeatures = (refl, λ i is there. absurd (cc))
+until_fits b used (req.SetProtocolFeatures features) = (refl, λ i is there. absurd (cc))
+until_fits b used req.GetQueueNum = (refl, λ i is there. absurd (cc))
+until_fits b used (req.SetVringEnable index enable) = (refl, λ i is there. absurd (cc))
+until_fits b used req.SetBackendReqFd = (refl, λ i is there. absurd (cc))
+until_fits b used (req.IotlbMsg message) = go used
+  where
+    go : (u : Bool) → FitsUntil (req.IotlbMsg message) (if u then AllRings else Now) (length b.rings.rings)
+    go true = refl
+    go false = (refl, λ i is there. absurd (cc))
+until_fits b used (req.GetConfig space) = (refl, λ i is there. absurd (cc))
+until_fits b used (req.SetConfig space) = (refl, λ i is there. absurd (cc))
 
 -- ---- messages
 
@@ -559,27 +563,27 @@ end_fits b end (taken.Begun h request) is fits =
 -- ---- all of it
 
 module _ (b : BackendState) (fits : FitsIn b) where
-  message_fits : (h : Header) (payload : List ℕ) (n : ℕ) → FitsIn (stepped_by b (Came h payload n))
-  message_fits h payload n = go b.taken refl
+  message_fits : (h : Header) (payload : List ℕ) (n : ℕ) (used : Bool) → FitsIn (stepped_by b (Came h payload n used))
+  message_fits h payload n used = go b.taken refl
     where
-      decoded_fits : b.taken ≡ taken.Nothing → (o : Result FrontendReq Refusal) → FitsIn (decoded b h payload n o).0
+      decoded_fits : b.taken ≡ taken.Nothing → (o : Result FrontendReq Refusal) → FitsIn (decoded b h payload n used o).0
       decoded_fits is (Err e) = fits
       decoded_fits is (Ok request) = right (n == descriptors_of request)
         where
-          right : (r : Bool) → FitsIn (if r then taken_until b h request payload (until_of b request)
+          right : (r : Bool) → FitsIn (if r then taken_until b h request payload (until_of b used request)
               else (b, refused b h Descriptors)).0
           right false = fits
           right true =
               let free : b.rings.hold ≡ Free = rw is at fits in
-              let until = until_of b request in
+              let until = until_of b used request in
               let t = waited b.rings until in
               let old : BackendState = record b { rings = t.0 } in
               due_fits (placed old t.1) h request payload until (is_due until t.1)
-              (λ due. rw (placed_rings old t.1) (waited_ready b.rings free h request until (until_fits b request) due))
-              (λ due. rw (placed_rings old t.1) (waited_waits b.rings free h request until (until_fits b request) due))
+              (λ due. rw (placed_rings old t.1) (waited_ready b.rings free h request until (until_fits b used request) due))
+              (λ due. rw (placed_rings old t.1) (waited_waits b.rings free h request until (until_fits b used request) due))
 
       go : (t : Taken) → b.taken ≡ t → FitsIn (if is_free_taken b.taken
-          then decoded b h payload n (request_of h payload) else (b, to_do (nothing 0) None Stays)).0
+          then decoded b h payload n used (request_of h payload) else (b, to_do (nothing 0) None Stays)).0
       go taken.Nothing is = rw (ap is_free_taken is) (decoded_fits is (request_of h payload))
       go taken.Over is = rw (ap is_free_taken is) fits
       go (taken.Waits h' request until) is = rw (ap is_free_taken is) fits
@@ -599,7 +603,7 @@ module _ (b : BackendState) (fits : FitsIn b) where
       go false outer = fits
 
   pub step_fits : (x : Happening) → FitsIn (stepped_by b x)
-  step_fits (Came h payload n) = message_fits h payload n
+  step_fits (Came h payload n used) = message_fits h payload n used
   step_fits (Done end) = end_fits b end b.taken refl fits
   step_fits (Told e) = event_fits e
   step_fits HungUp = hold_not_free b.rings

@@ -1,5 +1,5 @@
 -- Where the bytes of a part lie, and what is put of them.
-use Rattle.std.proofs.Common.{◌≡◌, ◌∙◌, ℕ, suc, ◌+◌, ◌-◌, ◌<◌, ◌≤◌, ◌^◌, min, nat_lt, nat_le, ◌&&◌, Bool, true, false, List, [], ◌∷◌, ◌++◌, length, map, take, Option, Some, None, IfSome, if◌then◌else◌, refl, ap, sym, subst, arith, length-append, append_assoc, append-nil, inl, inr, ltb-true, ltb-false, ◌⊎◌, MatchOption}
+use Rattle.std.proofs.Common.{◌≡◌, ◌∙◌, ℕ, suc, ◌+◌, ◌-◌, ◌<◌, ◌≤◌, ◌^◌, nat_lt, nat_le, ◌&&◌, Bool, true, false, List, [], ◌∷◌, ◌++◌, length, map, take, Option, Some, None, IfSome, if◌then◌else◌, refl, ap, sym, subst, arith, length-append, append_assoc, append-nil, inl, inr, ltb-true, ltb-false, ◌⊎◌, MatchOption}
 use Rattle.std.specs.Option.{option_and_then, option_map}
 use Rattle.std.specs.List.{slice_get, slice_set}
 use Rattle.std.proofs.lemmas.List.{map_push, take_more_set}

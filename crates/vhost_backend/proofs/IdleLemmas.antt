@@ -3,6 +3,7 @@ use Rattle.std.proofs.Common.{◌≡◌, ◌∙◌, ℕ, ◌==◌, ◌&&◌, not
 use Rattle.std.specs.List.{slice_get}
 use Rattle.std.proofs.lemmas.Bool.{and_parts, ne_eqb}
 use Rattle.virtio_queue.specs.declared.error.QueueError.{QueueError}
+use Rattle.vhost_backend.proofs.ChannelLemmas.{on_channel}
 use Rattle.vhost_backend.specs.BlockBackend.{Acts, ActsFirst, Looks, Returns, Steps, StepsFrom, asked_by, asked_first_by, asked_more_by, broke_if, called_up, ended_by, hung_up, is_asked, is_done, is_quiet, looked, notified, part_deed, replied, said_last, stepped_on_by}
 use Rattle.vhost_backend.specs.BlockQueues.{part_of}
 use Rattle.vhost_backend.specs.RingMemory.{MemoryStep, Returned}
@@ -18,6 +19,7 @@ use Rattle.vhost_backend.specs.declared.block_backend.BlockBackend.{BlockBackend
 use Rattle.vhost_backend.specs.declared.block_backend.Returning.{Returning}
 use Rattle.vhost_backend.specs.declared.deeds.Ask.{Ask}
 use Rattle.vhost_backend.specs.declared.deeds.Ask.TheVariants as ask
+use Rattle.vhost_backend.specs.Sight.{Sight}
 use Rattle.vhost_backend.specs.declared.deeds.Made.{Made}
 use Rattle.vhost_backend.specs.declared.deeds.Made.TheVariants as made
 use Rattle.vhost_backend.specs.declared.deeds.Why.{Why}
@@ -42,7 +44,8 @@ none_left (x ∷ xs) is =
 
 pub done_clear : (w : BlockBackend) → is_done w ≡ true → IsClear w
 done_clear w is =
-    let (a, end) = and_parts _ _ is in
+    let (all, asks) = and_parts _ _ is in
+    let (a, end) = and_parts _ _ all in
     let (b, called) = and_parts _ _ a in
     let (c, reply) = and_parts _ _ b in
     let (d, asked) = and_parts _ _ c in
@@ -66,12 +69,14 @@ module _ (w : BlockBackend) (place : is_none w.todo.place ≡ true) (actions : (
     (returning : is_none w.returning ≡ true) where
   ended_rests : (o : Option Why) → w.end ≡ o → (is_quiet w.todo.message ≡ true) → not w.broken ≡ true
       → is_asked w.ask ≡ true → (length w.reply == 0) ≡ true → is_none w.called ≡ true → Rests w (ended_by w o)
-  ended_rests (Some y) end message broken asked reply called is = absurd (cc)
-  ended_rests None end message broken asked reply called is = (
-    refl,
-    both _ _ (both _ _ (both _ _ (both _ _ (both _ _ (both _ _ (both _ _
-        (both _ _ place actions) message) returning) broken) asked) reply) called) (ap is_none end),
-  )
+  ended_rests (Some y) end message broken asked reply called = λ is. absurd (cc)
+  ended_rests None end message broken asked reply called = on_channel w (Rests w)
+      (λ may is. (
+        refl,
+        both _ _ (both _ _ (both _ _ (both _ _ (both _ _ (both _ _ (both _ _ (both _ _
+            (both _ _ place actions) message) returning) broken) asked) reply) called) (ap is_none end)) (ap not may),
+      ))
+      (λ q d is. absurd (cc)) (λ q is. absurd (cc))
 
   called_rests : (o : Option ℕ) → w.called ≡ o → (is_quiet w.todo.message ≡ true) → not w.broken ≡ true
       → is_asked w.ask ≡ true → (length w.reply == 0) ≡ true → Rests w (called_up w o)
@@ -92,6 +97,7 @@ module _ (w : BlockBackend) (place : is_none w.todo.place ≡ true) (actions : (
   first_rests (wanted.Log size offset) is = absurd (cc)
   first_rests (wanted.Descriptor purpose there) is = absurd (cc)
   first_rests (wanted.Base ring) is = absurd (cc)
+  first_rests wanted.Table is = absurd (cc)
   first_rests wanted.Finish is = absurd (cc)
 
   more_rests : (number : ℕ) (m : Option Mapping) → Rests w (asked_more_by w number m)
@@ -157,13 +163,13 @@ module _ {H : Type 0} (step : H → (s : MemoryStep) → Returned s → H → Ty
 
       from : (o : Option Place) → w.todo.place ≡ o → StepsFrom step w o old made.Idle w' new → is_done w' ≡ true
       from None place p = returns w.returning refl (ap is_none place) p
-      from (Some place) there (places, is) = absurd (cc)
+      from (Some place) there (places, is, still) = absurd (cc)
 
   -- a look that finds nothing leaves what is to be done
-  pub looked_clear : (w : BlockBackend) (old : H) (w' : BlockBackend) (new : H) → Looks step w old false w' new → IsClear w
-      → IsClear w'
-  looked_clear w old w' new (Some ring, kicks, takes, (was, becomes, same)) clear = absurd (cc)
-  looked_clear w old w' new (None, kicks, takes, (r, b, qs, with, none, is, becomes)) clear = go r is becomes
+  pub looked_clear : (way : Option Sight) (w : BlockBackend) (old : H) (w' : BlockBackend) (new : H)
+      → Looks step way w old false w' new → IsClear w → IsClear w'
+  looked_clear way w old w' new (Some ring, kicks, takes, (was, becomes, same)) clear = absurd (cc)
+  looked_clear way w old w' new (None, kicks, takes, (r, b, qs, with, none, is, becomes)) clear = go r is becomes
     where
       go : (r : Option Todo) → false ≡ is_some r
           → w' ≡ looked (record w { kicks = kicks; queues = qs; backend = b }) r → IsClear w'

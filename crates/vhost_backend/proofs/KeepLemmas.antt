@@ -1,42 +1,55 @@
 -- What each call on memory keeps is kept by a step and by a look: whatever leads from one memory to another.
-use Rattle.std.proofs.Common.{◌≡◌, ℕ, Bool, true, false, List, [], ◌∷◌, drop, Option, Some, None, Result, Ok, Err, MatchBool, MatchOption, MatchResult, refl, sym, subst}
-use Rattle.std.specs.List.{slice_get, slice_set}
+use Rattle.std.proofs.Common.{◌≡◌, ℕ, Bool, true, false, List, [], ◌∷◌, drop, Option, Some, None, Result, Ok, Err, MatchBool, MatchOption, MatchResult, sym, subst, zero, suc, length, is_some, IsSomeAnd, refl}
+use Rattle.std.specs.List.{slice_get, slice_set, list_any}
+use Rattle.std.specs.declared.alloc.AllocError.{AllocError}
+use Rattle.vm_memory_base.specs.Table.{Says, Table, says}
 use Rattle.vm_memory_guest.specs.declared.region.error.GuestMemoryError.{GuestMemoryError}
 use Rattle.vm_memory_device.specs.declared.chain.Segment.{Segment}
 use Rattle.virtio_blk.specs.declared.request.DeviceLimits.{DeviceLimits}
 use Rattle.virtio_blk.specs.declared.request.Request.{Request}
 use Rattle.virtio_blk.specs.declared.request.Request.TheVariants.{Refused}
 use Rattle.virtio_queue.specs.Any.{past}
-use Rattle.virtio_queue.specs.State.{Virtqueue}
 use Rattle.virtio_queue.specs.declared.any.AnyQueue.{AnyQueue}
+use Rattle.virtio_queue.specs.declared.any.AnyQueue.TheVariants.{Split, Packed}
 use Rattle.virtio_queue.specs.declared.error.QueueError.{QueueError}
 use Rattle.virtio_queue.specs.declared.packed.state.PackedBuffer.{PackedBuffer}
-use Rattle.vhost_user.specs.Features.{has, ring_packed}
-use Rattle.vhost_user.specs.declared.vring.NotRunning.{NotRunning}
-use Rattle.vhost_user.specs.declared.vring.RunningVring.{RunningVring}
+use Rattle.vhost_iotlb.specs.Kept.{differs}
+use Rattle.vhost_iotlb.specs.declared.kept.Change.{Change}
+use Rattle.vhost_iotlb.specs.declared.kept.Kept.{Kept}
 use Rattle.vhost_backend.specs.Backend.{BackendState}
+use Rattle.vhost_backend.specs.Behind.{AfterAskBehind, AfterFind, AfterLook, AfterLookUp, BeginsFetched, Fetches, FetchesChain, FetchesNext, Finds, FindsNext, GivesUp, HappensBehind, HappensBy, KeepsRows, ReachesRing, ReadsBehind, TakesFetched, Uses, WaitsBehind, begun_behind, open_terms, or_empty, origin_of, past_found, with_fetch, with_reach}
 use Rattle.vhost_backend.specs.Block.{status_of, written_of}
-use Rattle.vhost_backend.specs.BlockBackend.{Acts, ActsFirst, GivesBackAt, Looks, Places, Returns, Steps, StepsFrom, SetsUpAt, TakesTurn, terms_of}
-use Rattle.vhost_backend.specs.BlockQueue.{AfterAsk, AfterPop, Asks, Begins, BlockQueueState, HappensNext, Pops, PopsBy, Waits, asked_at, begun, buffer_by, event_of, has_place, popped, with_asked, with_queue}
+use Rattle.vhost_backend.specs.BlockBackend.{Acts, ActsFirst, GivesBackAt, Looks, Returns, Steps, StepsFrom, TakesTurn, terms_of}
+use Rattle.vhost_backend.specs.BlockQueue.{AfterAsk, AfterPop, AfterRead, Asks, Begins, BlockQueueState, HappensNext, Pops, PopsBy, PopsOrWaits, ReadsBy, Waits, asked_at, begun, buffer_by, event_of, has_place, len_left, popped, with_asked, with_queue}
 use Rattle.vhost_backend.specs.BlockQueues as queues
+use Rattle.vhost_backend.specs.BlockTable.{AfterChange, ChangesBy, ChangesTable}
 use Rattle.vhost_backend.specs.BlockTurn as turn
-use Rattle.vhost_backend.specs.Marks.{Marks, asking_marks, chain_marks, return_marks}
-use Rattle.vhost_backend.specs.RingMemory.{MemoryStep, Returned, adds_used, begins, enables, finishes, marks, needs, pops, reads_used}
+use Rattle.vhost_backend.specs.Fetch.{FetchState, after_drop, guest_chain, has_gap, is_dropped}
+use Rattle.vhost_backend.specs.KeptRanges.{ForgetsAll, KeepsAll}
+use Rattle.vhost_backend.specs.Marks.{Marks, MarksRing, asking_marks, chain_marks, return_marks}
+use Rattle.vhost_backend.specs.Reach.{Changes, ChangesOthers, ForgetsBoth, ReachState, changed_by, dropped, forgotten, rows_forgotten}
+use Rattle.vhost_backend.specs.RingMemory.{MemoryStep, Returned, adds_used, begins, enables, finishes, forgets, keeps, marks, marks_ring, needs, pops, reads_used}
 use Rattle.vhost_backend.specs.Rings.{may_pop}
-use Rattle.vhost_backend.specs.SetUp.{Fresh, FreshBy, FreshSplit, split_queue}
+use Rattle.vhost_backend.specs.TableUse.{ChangesAll, ChangesAt, ChangesTo, in_use, kicked_if}
 use Rattle.vhost_backend.specs.declared.backend.Place.{Place}
 use Rattle.vhost_backend.specs.declared.backend.Todo.{Todo}
 use Rattle.vhost_backend.specs.declared.block_backend.BlockBackend.{BlockBackend}
 use Rattle.vhost_backend.specs.declared.block_backend.Returning.{Returning}
+use Rattle.vhost_backend.specs.declared.block_queue.behind.Origin.{Origin}
+use Rattle.vhost_backend.specs.Sight.{Sight}
 use Rattle.vhost_backend.specs.declared.block_queue.Asked.{Asked}
 use Rattle.vhost_backend.specs.declared.block_queue.Finished.{Finished}
 use Rattle.vhost_backend.specs.declared.block_queue.Finished.TheVariants as finished
-use Rattle.vhost_backend.specs.declared.block_queue.GiveBack.{GiveBack}
 use Rattle.vhost_backend.specs.declared.block_queue.Pop.{Pop}
 use Rattle.vhost_backend.specs.declared.block_queue.Pop.TheVariants as pop
 use Rattle.vhost_backend.specs.declared.block_queues.Reached.{Reached}
 use Rattle.vhost_backend.specs.declared.block_queues.Reached.TheVariants as reached
 use Rattle.vhost_backend.specs.declared.deeds.Made.{Made}
+use Rattle.vhost_backend.specs.declared.fetch.Found.{Found}
+use Rattle.vhost_backend.specs.declared.fetch.Goal.{Goal}
+use Rattle.vhost_backend.specs.declared.fetch.Goal.TheVariants as goal
+use Rattle.vhost_backend.specs.declared.fetch.State.{State}
+use Rattle.vhost_backend.specs.declared.fetch.State.TheVariants as state
 use Rattle.vhost_backend.specs.declared.pieces.Piece.{Piece}
 use Rattle.vhost_backend.specs.declared.request.Chain.{Chain}
 use Rattle.vhost_backend.specs.declared.ring.RingEvent.{RingEvent}
@@ -55,24 +68,12 @@ module _ {H : Type 0} (step : H → (s : MemoryStep) → Returned s → H → Ty
   marks_keep (m ∷ ms) old new (mid, first, rest) =
       then old mid new (each old (marks m.base m.offset m.len) tt mid first) (marks_keep ms mid new rest)
 
-  -- ---- set up
+  ring_keeps : (ms : List Piece) (old new : H) → MarksRing step ms old new → K old new
+  ring_keeps [] old new is = same old new is
+  ring_keeps (m ∷ ms) old new (mid, first, rest) =
+      then old mid new (each old (marks_ring m.base m.offset m.len) tt mid first) (ring_keeps ms mid new rest)
 
-  fresh_split : (q : Result Virtqueue QueueError) (old : H) (r : Result AnyQueue QueueError) (new : H)
-      → FreshSplit step q old r new → K old new
-  fresh_split (Err e) old r new p = same old new p.1
-  fresh_split (Ok q) old r new (next, reads, is) = each old (reads_used q) next new reads
-
-  fresh_by : (v : Bool) (max_size : ℕ) (vring : RunningVring) (features : ℕ) (old : H) (r : Result AnyQueue QueueError)
-      (new : H) → FreshBy step v max_size vring features old r new → K old new
-  fresh_by true max_size vring features old r new p = same old new p.1
-  fresh_by false max_size vring features old r new p = fresh_split (split_queue max_size vring features) old r new p
-
-  sets_up : (q : BlockQueueState) (max_size : ℕ) (vring : RunningVring) (features : ℕ) (fresh : Bool) (old : H)
-      (r : Reached) (q' : BlockQueueState) (new : H)
-      → queues.SetsUp step q max_size vring features fresh old r q' new → K old new
-  sets_up q max_size vring features true old r q' new (made, is, placed) =
-      fresh_by (has features ring_packed) max_size vring features old made new is
-  sets_up q max_size vring features false old r q' new p = same old new p.1
+  -- ---- one of the queues
 
   queue_keeps : {T : Type 0} (qs : List BlockQueueState) (ring : ℕ) (none : T) (old : H) (r : T)
       (qs' : List BlockQueueState) (new : H) (P : BlockQueueState → T → BlockQueueState → Type 0)
@@ -84,22 +85,6 @@ module _ {H : Type 0} (step : H → (s : MemoryStep) → Returned s → H → Ty
       go None p = same old new p.2
       go (Some q) (q', p, is) = on q q' p
 
-  set_up_at : (w : BlockBackend) (vring : RunningVring) (fresh : Bool) (old : H) (w' : BlockBackend) (new : H)
-      → SetsUpAt step w vring fresh old w' new → K old new
-  set_up_at w vring fresh old w' new (r, qs, sets, is) =
-      queue_keeps w.queues w.todo.ring reached.Fine old r qs new
-      (λ q r q'. queues.SetsUp step q w.max_size vring w.backend.connection.features fresh old r q' new)
-      (λ q q' p. sets_up q w.max_size vring w.backend.connection.features fresh old r q' new p) sets
-
-  places_keep : (w : BlockBackend) (place : Place) (old : H) (w' : BlockBackend) (new : H)
-      → Places step w place old w' new → K old new
-  places_keep w place old w' new = go place.vring
-    where
-      go : (v : Result RunningVring NotRunning) → MatchResult v
-          (λ vring. SetsUpAt step w vring place.fresh old w' new) (λ e. (w' ≡ w) × (new ≡ old)) → K old new
-      go (Ok vring) p = set_up_at w vring place.fresh old w' new p
-      go (Err e) p = same old new p.1
-
   -- ---- returns
 
   request_keeps : (chain : Chain) (moved : ℕ) (failed : Bool) (old new : H) (q : BlockQueueState) (r : Finished)
@@ -107,7 +92,7 @@ module _ {H : Type 0} (step : H → (s : MemoryStep) → Returned s → H → Ty
   request_keeps chain moved failed old new q r q' = go (asked_at q chain.id)
     where
       after : (asked : Asked) (mid : H) (w : Result ℕ GuestMemoryError) → MatchResult w
-          (λ len. (r ≡ finished.Done len) × (q' ≡ q) × Marks step (chain_marks asked.chain) mid new)
+          (λ len. (r ≡ finished.Done (len_left asked len)) × (q' ≡ q) × Marks step (chain_marks asked.chain) mid new)
           (λ e. (r ≡ finished.Forgotten) × (q' ≡ with_asked q chain.id None) × (new ≡ mid)) → K mid new
       after asked mid (Ok len) p = marks_keep (chain_marks asked.chain) mid new p.2
       after asked mid (Err e) p = same mid new p.2
@@ -115,7 +100,7 @@ module _ {H : Type 0} (step : H → (s : MemoryStep) → Returned s → H → Ty
       go : (o : Option Asked) → MatchOption o ((r ≡ finished.NotUnderWay) × (q' ≡ q) × (new ≡ old))
           (λ asked. (w : Result ℕ GuestMemoryError) × (mid : H) × step old (finishes asked.chain
           (status_of asked.request failed) (written_of asked.request moved)) w mid × MatchResult w
-          (λ len. (r ≡ finished.Done len) × (q' ≡ q) × Marks step (chain_marks asked.chain) mid new)
+          (λ len. (r ≡ finished.Done (len_left asked len)) × (q' ≡ q) × Marks step (chain_marks asked.chain) mid new)
           (λ e. (r ≡ finished.Forgotten) × (q' ≡ with_asked q chain.id None) × (new ≡ mid))) → K old new
       go None p = same old new p.2
       go (Some asked) (w, mid, first, rest) = then old mid new (each old (finishes asked.chain
@@ -125,7 +110,7 @@ module _ {H : Type 0} (step : H → (s : MemoryStep) → Returned s → H → Ty
       → queues.Gives step chain len old new q r q' → K old new
   gives_keep chain len old new q r q' (a, ((e, stored, first, rest, made, after), asked), is) =
       then old stored new (each old (adds_used q.queue (buffer_by chain) len) e stored first)
-      (marks_keep (return_marks q.queue) stored new rest)
+      (ring_keeps (return_marks q.queue) stored new rest)
 
   back_keeps : (w : BlockBackend) (t : Returning) (old : H) (w' : BlockBackend) (new : H)
       → GivesBackAt step w t old w' new → K old new
@@ -166,7 +151,7 @@ module _ {H : Type 0} (step : H → (s : MemoryStep) → Returned s → H → Ty
     where
       go : (o : Option Place) → StepsFrom step w o old m w' new → K old new
       go None p = returns_keep w w.returning old m w' new p
-      go (Some place) p = places_keep (record w { todo = record w.todo { place = None } }) place old w' new p.0
+      go (Some place) p = same old new p.2
 
   -- ---- turns
 
@@ -191,20 +176,22 @@ module _ {H : Type 0} (step : H → (s : MemoryStep) → Returned s → H → Ty
       go (Ok None) is = same mid new is.2
       go (Err e) is = same mid new is.2
 
+  asks_keep : (u : AnyQueue) (old : H) (r : Result Bool QueueError) (new : H) → Asks step u old r new → K old new
+  asks_keep u old r new (asked, first, rest) = then old asked new (each old (enables u) r asked first)
+      (ring_keeps (asking_marks u) asked new rest)
+
   waits_keep : (terms : DeviceLimits) (q : BlockQueueState) (old : H) (a : Option RingEvent) (q' : BlockQueueState)
       (new : H) → Waits step terms q old a q' new → K old new
-  waits_keep terms q old a q' new (r, mid, (asked, first, rest), after) =
-      then old asked new (each old (enables q.queue) r asked first)
-      (then asked mid new (marks_keep (asking_marks q.queue) asked mid rest) (go r after))
+  waits_keep terms q old a q' new (r, mid, asks, after) = then old mid new (asks_keep q.queue old r mid asks) (go r after)
     where
       go : (r : Result Bool QueueError) → AfterAsk step terms q r mid a q' new → K mid new
       go (Ok true) (found, is, what) = pops_keep terms q mid found q' new is
       go (Ok false) p = same mid new p.2
       go (Err e) p = same mid new p.2
 
-  next_keeps : (terms : DeviceLimits) (q : BlockQueueState) (old : H) (a : Option RingEvent) (q' : BlockQueueState)
-      (new : H) → HappensNext step terms q old a q' new → K old new
-  next_keeps terms q old a q' new (found, mid_q, mid, first, rest) =
+  pop_or_wait_keeps : (terms : DeviceLimits) (q : BlockQueueState) (old : H) (a : Option RingEvent) (q' : BlockQueueState)
+      (new : H) → PopsOrWaits step terms q old a q' new → K old new
+  pop_or_wait_keeps terms q old a q' new (found, mid_q, mid, first, rest) =
       then old mid new (pops_keep terms q old found mid_q mid first) (go found rest)
     where
       go : (found : Pop) → AfterPop step terms found mid_q mid a q' new → K mid new
@@ -213,23 +200,258 @@ module _ {H : Type 0} (step : H → (s : MemoryStep) → Returned s → H → Ty
       go (pop.Broken e) p = same mid new p.2
       go pop.Later p = same mid new p.2
 
-  turn_keeps : (w : BlockBackend) (b : BackendState) (old new : H) (q : BlockQueueState) (r : Option Todo)
-      (q' : BlockQueueState) → queues.Turns step (terms_of w) w.turn w.backend b old new q r q' → K old new
-  turn_keeps w b old new q r q' = go (may_pop w.backend.rings w.turn)
+  reads_keep : (q : BlockQueueState) (v : Bool) (u : AnyQueue) (old : H) (r : Result (Unit {0}) QueueError)
+      (q' : BlockQueueState) (new : H) → ReadsBy step q v u old r q' new → K old new
+  reads_keep q true (Split u) old r q' new (next, first, is) = each old (reads_used u) next new first
+  reads_keep q true (Packed u) old r q' new p = same old new p.2
+  reads_keep q false u old r q' new p = same old new p.2
+
+  next_keeps : (terms : DeviceLimits) (q : BlockQueueState) (old : H) (a : Option RingEvent) (q' : BlockQueueState)
+      (new : H) → HappensNext step terms q old a q' new → K old new
+  next_keeps terms q old a q' new (read, mid_q, mid, first, rest) =
+      then old mid new (reads_keep q q.is_unread q.queue old read mid_q mid first) (go read rest)
+    where
+      go : (r : Result (Unit {0}) QueueError) → AfterRead step terms r mid_q mid a q' new → K mid new
+      go (Ok done) p = pop_or_wait_keeps terms mid_q mid a q' new p
+      go (Err e) p = same mid new p.2
+
+  -- ---- turns of a ring whose addresses a table translates
+
+  all_kept : (ks : List Kept) (old : H) (r : Result (Unit {0}) AllocError) (new : H) → KeepsAll step ks old r new → K old new
+  all_kept [] old r new p = same old new p.1
+  all_kept (k ∷ ks) old r new (one, mid, first, rest) = then old mid new (each old (keeps k) one mid first)
+      (go one (λ p. all_kept ks mid r new p) rest)
+    where
+      go : (o : Result (Unit {0}) AllocError) → (KeepsAll step ks mid r new → K mid new)
+          → MatchResult o (λ done. KeepsAll step ks mid r new) (λ e. (r ≡ Err e) × (new ≡ mid)) → K mid new
+      go (Ok done) on p = on p
+      go (Err e) on p = same mid new p.1
+
+  all_forgotten : (ks : List Kept) (old : H) (r : Result (Unit {0}) AllocError) (new : H) → ForgetsAll step ks old r new
+      → K old new
+  all_forgotten [] old r new p = same old new p.1
+  all_forgotten (k ∷ ks) old r new (one, mid, first, rest) =
+      then old mid new (each old (forgets k) one mid first) (go one (λ p. all_forgotten ks mid r new p) rest)
+    where
+      go : (o : Result (Unit {0}) AllocError) → (ForgetsAll step ks mid r new → K mid new)
+          → MatchResult o (λ done. ForgetsAll step ks mid r new) (λ e. (r ≡ Err e) × (new ≡ mid)) → K mid new
+      go (Ok done) on p = on p
+      go (Err e) on p = same mid new p.1
+
+  both_forgotten : (l : ReachState) (old : H) (r : Result (Unit {0}) AllocError) (new : H) → ForgetsBoth step l old r new
+      → K old new
+  both_forgotten l old r new (one, mid, first, rest) =
+      then old mid new (all_forgotten l.pages old one mid first) (go one rest)
+    where
+      go : (o : Result (Unit {0}) AllocError)
+          → MatchResult o (λ done. ForgetsAll step l.rows mid r new) (λ e. (r ≡ Err e) × (new ≡ mid)) → K mid new
+      go (Ok done) p = all_forgotten l.rows mid r new p
+      go (Err e) p = same mid new p.1
+
+  rows_keep : (q : BlockQueueState) (kept : List Kept) (old : H) (a : Option RingEvent) (q' : BlockQueueState) (new : H)
+      → KeepsRows step q kept old a q' new → K old new
+  rows_keep q kept old a q' new (Ok done, becomes, (r, them, is)) = all_kept kept old r new them
+  rows_keep q kept old a q' new (Err e, becomes, p) = same old new p.1
+
+  fetched_begins : (terms : DeviceLimits) (q : BlockQueueState) (o : Origin) (chain : List Segment) (kept : List Kept)
+      (old : H) (a : Option RingEvent) (q' : BlockQueueState) (new : H)
+      → BeginsFetched step terms q o chain kept old a q' new → K old new
+  fetched_begins terms q o chain kept old a q' new = go (has_place q o.buffer.id)
     where
       go : (v : Bool) → MatchBool v
-          ((e : Option RingEvent) × HappensNext step (terms_of w) q old e q' new × ((b, r) ≡ turn.told w.backend w.turn e))
+          ((r : Result Request GuestMemoryError) × step old (begins (open_terms terms) chain) r new
+          × ((a, q') ≡ begun_behind q o chain kept r))
+          ((a ≡ event_of (popped o.buffer (Refused 1))) × (q' ≡ past_found q o) × (new ≡ old)) → K old new
+      go true (r, first, is) = each old (begins (open_terms terms) chain) r new first
+      go false p = same old new p.2
+
+  fetched_keeps : (terms : DeviceLimits) (q : BlockQueueState) (o : Origin) (kept : List Kept) (old : H)
+      (a : Option RingEvent) (q' : BlockQueueState) (new : H) → TakesFetched step terms q o kept old a q' new → K old new
+  fetched_keeps terms q o kept old a q' new (Ok done, p) =
+      fetched_begins terms q o (or_empty (guest_chain kept)) kept old a q' new p
+  fetched_keeps terms q o kept old a q' new (Err e, p) = same old new p.2
+
+  uses_keep : (terms : DeviceLimits) (q : BlockQueueState) (g : Goal) (kept : List Kept) (old : H) (a : Option RingEvent)
+      (q' : BlockQueueState) (new : H) → Uses step terms q g kept old a q' new → K old new
+  uses_keep terms q goal.Ring kept old a q' new (r, them, is, becomes) = all_kept kept old r new them
+  uses_keep terms q goal.Rows kept old a q' new p = rows_keep q kept old a q' new p
+  uses_keep terms q (goal.Chain found) kept old a q' new p =
+      fetched_keeps terms q (origin_of found false) kept old a q' new p
+  uses_keep terms q (goal.Status found) kept old a q' new p =
+      fetched_keeps terms q (origin_of found (has_gap found.chain)) kept old a q' new p
+
+  gives_up_keeps : (terms : DeviceLimits) (q : BlockQueueState) (g : Goal) (old : H) (a : Option RingEvent)
+      (q' : BlockQueueState) (new : H) → GivesUp step terms q g old a q' new → K old new
+  gives_up_keeps terms q goal.Ring old a q' new p = same old new p.2
+  gives_up_keeps terms q goal.Rows old a q' new p = same old new p.2
+  gives_up_keeps terms q (goal.Chain found) old a q' new (r, is, becomes, still) = same old new still
+  gives_up_keeps terms q (goal.Status found) old a q' new p =
+      fetched_keeps terms q (origin_of found false) [] old a q' new p
+
+  module _ (f : Says) (can_ask : Bool) (terms : DeviceLimits) where
+    looked_keeps : (q : BlockQueueState) (g : FetchState) (s : State) (old : H) (a : Option RingEvent)
+        (q' : BlockQueueState) (new : H) → AfterLookUp step can_ask terms q g s old a q' new → K old new
+    looked_keeps q g state.Begun old a q' new p = same old new p.2
+    looked_keeps q g (state.Waits iova access) old a q' new p = go can_ask p
+      where
+        go : (v : Bool) → MatchBool v ((a ≡ Some Emptied) × (q' ≡ with_fetch q (Some g)) × (new ≡ old))
+            (GivesUp step terms q g.goal old a q' new) → K old new
+        go true p = same old new p.2
+        go false p = gives_up_keeps terms q g.goal old a q' new p
+    looked_keeps q g state.Stops old a q' new p = gives_up_keeps terms q g.goal old a q' new p
+    looked_keeps q g state.Whole old a q' new p = uses_keep terms q g.goal g.kept old a q' new p
+
+    chain_keeps : (q : BlockQueueState) (found : Found) (old : H) (a : Option RingEvent) (q' : BlockQueueState) (new : H)
+        → FetchesChain step terms q found old a q' new → K old new
+    chain_keeps q found old a q' new (one, them, rest) = all_forgotten q.reach.rows old one new them
+
+    look_keeps : (q : BlockQueueState) (r : Result (Option Found) QueueError) (old : H) (a : Option RingEvent)
+        (q' : BlockQueueState) (new : H) → AfterLook step terms q r old a q' new → K old new
+    look_keeps q (Ok (Some found)) old a q' new p = chain_keeps q found old a q' new p
+    look_keeps q (Ok None) old a q' new p = same old new p.2
+    look_keeps q (Err e) old a q' new p = same old new p.1
+
+    find_keeps : (u : AnyQueue) (old : H) (r : Result (Option Found) QueueError) (new : H) → Finds step u old r new
+        → K old new
+    find_keeps u old r new (p, first, is) = each old (pops u) p new first
+
+    wait_behind_keeps : (q : BlockQueueState) (old : H) (a : Option RingEvent) (q' : BlockQueueState) (new : H)
+        → WaitsBehind step terms q old a q' new → K old new
+    wait_behind_keeps q old a q' new (r, mid, asks, after) = then old mid new (asks_keep q.queue old r mid asks) (go r after)
+      where
+        go : (r : Result Bool QueueError) → AfterAskBehind step terms q r mid a q' new → K mid new
+        go (Ok true) (r, found, finds, after) =
+            then mid found new (find_keeps q.queue mid r found finds) (look_keeps q r found a q' new after)
+        go (Ok false) p = same mid new p.2
+        go (Err e) p = same mid new p.2
+
+    finds_keep : (q : BlockQueueState) (old : H) (a : Option RingEvent) (q' : BlockQueueState) (new : H)
+        → FindsNext step terms q old a q' new → K old new
+    finds_keep q old a q' new (r, mid, finds, after) =
+        then old mid new (find_keeps q.queue old r mid finds) (go r after)
+      where
+        go : (r : Result (Option Found) QueueError) → AfterFind step terms q r mid a q' new → K mid new
+        go (Ok (Some found)) p = chain_keeps q found mid a q' new p
+        go (Ok None) p = wait_behind_keeps q mid a q' new p
+        go (Err e) p = same mid new p.1
+
+    fetches_next_keep : (q : BlockQueueState) (old : H) (a : Option RingEvent) (q' : BlockQueueState) (new : H)
+        → FetchesNext step terms q old a q' new → K old new
+    fetches_next_keep q old a q' new = go q.reach.is_reached
+      where
+        reads : (v : Bool) → MatchBool v (ReadsBehind step q old a q' new)
+            (FindsNext step terms q old a q' new) → K old new
+        reads true (r, done, is) = reads_keep q q.is_unread q.queue old r q' new done
+        reads false p = finds_keep q old a q' new p
+
+        go : (v : Bool) → MatchBool v (MatchBool q.is_unread (ReadsBehind step q old a q' new)
+            (FindsNext step terms q old a q' new)) (ReachesRing step q old a q' new) → K old new
+        go true p = reads q.is_unread p
+        go false (one, them, rest) = both_forgotten q.reach old one new them
+
+    behind_keeps : (q : BlockQueueState) (old : H) (a : Option RingEvent) (q' : BlockQueueState) (new : H)
+        → HappensBehind step f can_ask terms q old a q' new → K old new
+    behind_keeps q old a q' new = go q.reach.fetch
+      where
+        go : (o : Option FetchState) → MatchOption o (FetchesNext step terms q old a q' new)
+            (λ g. Fetches step f can_ask terms (with_fetch q None) g old a q' new) → K old new
+        go None p = fetches_next_keep q old a q' new p
+        go (Some g) (g', looks, after) = looked_keeps (with_fetch q None) g' g'.state old a q' new after
+
+  -- ---- changes of the table
+
+  reach_changes_keep : (c : Change) (l : ReachState) (old : H) (done : Result Bool AllocError) (l' : ReachState) (new : H)
+      → Changes step c l old done l' new → K old new
+  reach_changes_keep c l old done l' new = go (list_any (differs c) l.pages)
+    where
+      others : (v : Bool) → MatchBool v
+          ((one : Result (Unit {0}) AllocError) × ForgetsAll step l.rows old one new
+          × (done ≡ changed_by (is_some l.fetch) one) × (l' ≡ rows_forgotten (record l { fetch = None }) one))
+          ((done ≡ Ok (is_dropped c l.fetch)) × (l' ≡ record l { fetch = after_drop c l.fetch }) × (new ≡ old)) → K old new
+      others true (one, them, is, becomes) = all_forgotten l.rows old one new them
+      others false p = same old new p.2
+
+      go : (v : Bool) → MatchBool v
+          ((one : Result (Unit {0}) AllocError) × ForgetsBoth step l old one new
+          × (done ≡ changed_by (is_some l.fetch) one) × (l' ≡ forgotten (dropped l) one))
+          (ChangesOthers step c l old done l' new) → K old new
+      go true (one, them, is, becomes) = both_forgotten l old one new them
+      go false p = others (list_any (differs c) l.rows) p
+
+  changes_at_keep : (c : Change) (n : ℕ) (qs : List BlockQueueState) (ks : List Bool) (old : H)
+      (done : Result (Unit {0}) AllocError) (qs' : List BlockQueueState) (ks' : List Bool) (new : H)
+      → ChangesAt step c n qs ks old done qs' ks' new → K old new
+  changes_at_keep c n qs ks old (Ok done) qs' ks' new = go (slice_get qs n)
+    where
+      go : (o : Option BlockQueueState) → MatchOption o ((qs' ≡ qs) × (ks' ≡ ks) × (new ≡ old))
+          (λ q. (had : Bool) × (r : ReachState) × Changes step c q.reach old (Ok had) r new
+          × (qs' ≡ slice_set qs n (with_reach q r)) × (ks' ≡ kicked_if had ks n)) → K old new
+      go None p = same old new p.2
+      go (Some q) (had, r, changes, is, becomes) = reach_changes_keep c q.reach old (Ok had) r new changes
+  changes_at_keep c n qs ks old (Err e) qs' ks' new = go (slice_get qs n)
+    where
+      go : (o : Option BlockQueueState) → IsSomeAnd o (λ q. (r : ReachState)
+          × Changes step c q.reach old (Err e) r new × (qs' ≡ slice_set qs n (with_reach q r)) × (ks' ≡ ks)) → K old new
+      go None p = absurd p
+      go (Some q) (r, changes, is, becomes) = reach_changes_keep c q.reach old (Err e) r new changes
+
+  changes_to_keep : (c : Change) (n : ℕ) (qs : List BlockQueueState) (ks : List Bool) (old : H)
+      (qs' : List BlockQueueState) (ks' : List Bool) (new : H) → ChangesTo step c n qs ks old qs' ks' new → K old new
+  changes_to_keep c zero qs ks old qs' ks' new p = same old new p.2
+  changes_to_keep c (suc n) qs ks old qs' ks' new (mid, mid_kicks, between, first, rest) =
+      then old between new (changes_to_keep c n qs ks old mid mid_kicks between first)
+      (changes_at_keep c n mid mid_kicks between (Ok tt) qs' ks' new rest)
+
+  changes_all_keep : (c : Change) (qs : List BlockQueueState) (ks : List Bool) (old : H)
+      (done : Result (Unit {0}) AllocError) (qs' : List BlockQueueState) (ks' : List Bool) (new : H)
+      → ChangesAll step c qs ks old done qs' ks' new → K old new
+  changes_all_keep c qs ks old (Ok done) qs' ks' new p = changes_to_keep c (length qs) qs ks old qs' ks' new p
+  changes_all_keep c qs ks old (Err e) qs' ks' new (n, mid, mid_kicks, between, first, rest) =
+      then old between new (changes_to_keep c n qs ks old mid mid_kicks between first)
+      (changes_at_keep c n mid mid_kicks between (Err e) qs' ks' new rest)
+
+  pub changes_table_keep : (w : BlockBackend) (t : Table) (old : H) (is : Bool) (w' : BlockBackend) (t' : Table) (new : H)
+      → ChangesTable step w t old is w' t' new → K old new
+  changes_table_keep w t old is w' t' new = by w.change
+    where
+      by : (o : Option Change) → ChangesBy step o w t old is w' t' new → K old new
+      by None p = same old new p.3
+      by (Some c) p = go (in_use c w.queues) p
+        where
+          go : (v : Bool) → MatchBool v ((is ≡ false) × (w' ≡ w) × (t' ≡ t) × (new ≡ old))
+              ((done : Result (Unit {0}) AllocError) × (qs : List BlockQueueState) × (ks : List Bool)
+              × ChangesAll step c w.queues w.kicks old done qs ks new
+              × MatchResult done (λ it. AfterChange c (record w { queues = qs; kicks = ks }) t is w' t')
+              (λ e. (is ≡ false) × (w' ≡ record w { queues = qs; kicks = ks }) × (t' ≡ t))) → K old new
+          go true p = same old new p.3
+          go false (done, qs, ks, all, rest) = changes_all_keep c w.queues w.kicks old done qs ks new all
+
+  -- ---- turns, by what translates the addresses of rings
+
+  by_keeps : (way : Option Sight) (terms : DeviceLimits) (q : BlockQueueState) (old : H) (a : Option RingEvent)
+      (q' : BlockQueueState) (new : H) → HappensBy step way terms q old a q' new → K old new
+  by_keeps None terms q old a q' new p = next_keeps terms q old a q' new p
+  by_keeps (Some way) terms q old a q' new p = behind_keeps (says way.table) way.can_ask terms q old a q' new p
+
+  turn_keeps : (way : Option Sight) (w : BlockBackend) (b : BackendState) (old new : H) (q : BlockQueueState) (r : Option Todo)
+      (q' : BlockQueueState) → queues.Turns step way (terms_of w) w.turn w.backend b old new q r q' → K old new
+  turn_keeps way w b old new q r q' = go (may_pop w.backend.rings w.turn)
+    where
+      go : (v : Bool) → MatchBool v
+          ((e : Option RingEvent) × HappensBy step way (terms_of w) q old e q' new × ((b, r) ≡ turn.told w.backend w.turn e))
           ((r ≡ None) × (b ≡ w.backend) × (q' ≡ q) × (new ≡ old)) → K old new
-      go true (e, next, is) = next_keeps (terms_of w) q old e q' new next
+      go true (e, next, is) = by_keeps way (terms_of w) q old e q' new next
       go false p = same old new p.3
 
-  takes_keep : (w : BlockBackend) (old : H) (is : Bool) (w' : BlockBackend) (new : H) → TakesTurn step w old is w' new
+  takes_keep : (way : Option Sight) (w : BlockBackend) (old : H) (is : Bool) (w' : BlockBackend) (new : H)
+      → TakesTurn step way w old is w' new
       → K old new
-  takes_keep w old is w' new (r, b, qs, with, none, was, becomes) =
-      queue_keeps w.queues w.turn None old r qs new (queues.Turns step (terms_of w) w.turn w.backend b old new)
-      (λ q q' p. turn_keeps w b old new q r q' p) with
+  takes_keep way w old is w' new (r, b, qs, with, none, was, becomes) =
+      queue_keeps w.queues w.turn None old r qs new (queues.Turns step way (terms_of w) w.turn w.backend b old new)
+      (λ q q' p. turn_keeps way w b old new q r q' p) with
 
-  pub looks_keep : (w : BlockBackend) (old : H) (is : Bool) (w' : BlockBackend) (new : H) → Looks step w old is w' new
+  pub looks_keep : (way : Option Sight) (w : BlockBackend) (old : H) (is : Bool) (w' : BlockBackend) (new : H)
+      → Looks step way w old is w' new
       → K old new
-  looks_keep w old is w' new (None, kicks, takes, turns) = takes_keep (record w { kicks = kicks }) old is w' new turns
-  looks_keep w old is w' new (Some ring, kicks, takes, (was, becomes, is_same)) = same old new is_same
+  looks_keep way w old is w' new (None, kicks, takes, turns) = takes_keep way (record w { kicks = kicks }) old is w' new turns
+  looks_keep way w old is w' new (Some ring, kicks, takes, (was, becomes, is_same)) = same old new is_same

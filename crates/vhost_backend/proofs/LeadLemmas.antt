@@ -1,9 +1,11 @@
 -- Each move of a run is something that happens to the connection, or nothing, and so is each run.
-use Rattle.std.proofs.Common.{◌≡◌, ◌∙◌, ◌⊎◌, ℕ, ◌==◌, ◌^◌, nat_lt, Bool, true, false, List, [], ◌∷◌, Option, Some, None, if◌then◌else◌, refl, ap, sym, inl, inr}
-use Rattle.vhost_backend.specs.BlockBackend.{gone_on}
+use Rattle.std.proofs.Common.{◌≡◌, ℕ, ◌^◌, nat_lt, Bool, true, false, List, [], ◌∷◌, if◌then◌else◌, ap, inl, inr, is_some, ◌∙◌, ◌⊎◌, ◌==◌, Option, Some, None, refl, sym}
+use Rattle.vhost_backend.specs.BlockBackend.{gone_on, answered}
 use Rattle.vhost_backend.specs.BlockConnection.{looked_after, with_backend}
-use Rattle.vhost_backend.specs.ConnectionMemory.{memory_step}
-use Rattle.vhost_backend.specs.Run.{Course, EventBy, Fills, Follows, GivesBy, LooksBy, Move, MoveBy, Moves, Output, Rests, StepsTo, Stops, after_sent, does, end_of, end_taken, gives_marks, gives_part, goes_on, looked, looks, loses, open_part, part_ended, takes_end, takes_turn}
+use Rattle.vhost_backend.specs.BlockTable.{memory_lost}
+use Rattle.vhost_backend.specs.ConnectionMemory.{emptied, memory_step, way_of}
+use Rattle.vhost_backend.specs.Rings.{all_stopped}
+use Rattle.vhost_backend.specs.Run.{Applies, Course, EventBy, Fills, Follows, GivesBy, LooksBy, Move, MoveBy, Moves, Output, Rests, StepsTo, Stops, after_sent, after_stop, does, end_of, end_taken, gives_marks, gives_part, goes_on, looked, looks, loses, open_part, part_ended, takes_end, takes_turn}
 use Rattle.vhost_backend.specs.Whole.{Leads}
 use Rattle.vhost_backend.specs.declared.block.BlockStep.{BlockStep}
 use Rattle.vhost_backend.specs.declared.block_connection.BlockConnection.{BlockConnection}
@@ -16,7 +18,7 @@ use Rattle.vhost_backend.specs.declared.ring.RingEvent.TheVariants.{Ended}
 use Rattle.vhost_backend.specs.declared.rings.Event.TheVariants as event
 use Rattle.vhost_backend.specs.declared.rows.EndRow.{EndRow}
 use Rattle.vhost_backend.proofs.ConnectionLemmas.{leads_on, looked_after_leads}
-use Rattle.vhost_backend.proofs.WholeLemmas.{answered_leads, gone_on_leads, leads_by, looks_leads, stays, steps_leads, told_leads}
+use Rattle.vhost_backend.proofs.WholeLemmas.{answered_leads, changes_lead, gone_on_leads, leads_by, looks_leads, memory_leads, stays, steps_leads, told_leads}
 
 abbrev Becomes : BlockConnection → BlockConnection → Type 0
 Becomes c c' = Leads c.backend.backend c'.backend.backend
@@ -33,16 +35,30 @@ step_leads c c' m (steps, is) =
 
 look_leads : (c c' : BlockConnection) (v : Bool) → LooksBy c v c' → Becomes c c'
 look_leads c c' v (by, is) =
-    looks_leads (memory_step c.memory) c.backend c.memory.logged v c'.backend c'.memory.logged by
+    looks_leads (memory_step c.memory) (way_of c.memory c.backend) c.backend c.memory.logged v c'.backend c'.memory.logged by
 
 open_leads : (c : BlockConnection) (ring id : ℕ) (part : BlockStep) (left : ℕ) (v : Bool)
     → Becomes c (open_part c ring id part left v)
 open_leads c ring id part left true = stays c.backend.backend
 open_leads c ring id part left false = stays c.backend.backend
 
+stop_leads : (c : BlockConnection) → Becomes c (after_stop c)
+stop_leads c = go (all_stopped c.backend.backend.rings)
+  where
+    go : (v : Bool)
+        → Becomes c (if v then record c { memory = emptied c.memory; backend = memory_lost c.backend } else c)
+    go true = memory_leads c.backend
+    go false = stays c.backend.backend
+
+apply_leads : (c c' : BlockConnection) → Applies c c' → Becomes c c'
+apply_leads c c' (n, w, t, logged, changes, evicts, is) =
+    same c c' _ is (leads_on c.backend.backend w.backend (answered w (is_some n)).backend
+    (changes_lead (memory_step c.memory) c.backend c.memory.table c.memory.logged (is_some n) w t logged changes)
+    (answered_leads w (is_some n)))
+
 follow_leads : (c c' : BlockConnection) (d : Deed) → Follows (after_sent d c) d c' → Becomes c c'
 follow_leads c c' deed.Send is = same c c' _ is (stays c.backend.backend)
-follow_leads c c' deed.UnmapAll is = same c c' _ is (stays c.backend.backend)
+follow_leads c c' deed.UnmapAll is = same c c' _ is (memory_leads c.backend)
 follow_leads c c' (deed.Map region descriptor) is = same c c' _ is (stays c.backend.backend)
 follow_leads c c' deed.Join (m, v, joins, is) = same c c' _ is (answered_leads c.backend v)
 follow_leads c c' (deed.Log size offset) is = same c c' _ is (stays c.backend.backend)
@@ -50,8 +66,11 @@ follow_leads c c' (deed.Keep p v) is = same c c' _ is (stays c.backend.backend)
 follow_leads c c' (deed.Part ring id part left) (v, lies, is) = same c c' _ is (open_leads c ring id part left v)
 follow_leads c c' (deed.Interrupt ring) is = same c c' _ is (stays c.backend.backend)
 follow_leads c c' (deed.Tell ring) is = same c c' _ is (stays c.backend.backend)
-follow_leads c c' (deed.Stopped ring) is = same c c' _ is (stays c.backend.backend)
+follow_leads c c' (deed.Stopped ring) is = same c c' _ is (stop_leads c)
 follow_leads c c' (deed.End y) is = same c c' _ is (stays c.backend.backend)
+follow_leads c c' deed.Table applies = apply_leads c c' applies
+follow_leads c c' (deed.Ask miss) is = same c c' _ is (stays c.backend.backend)
+follow_leads c c' (deed.Deny miss) is = same c c' _ is (stays c.backend.backend)
 
 gives_leads : (c c' : BlockConnection) (m : Move) → GivesBy c m c' → Becomes c c'
 gives_leads c c' (gives_marks range) (l, takes, is) = same c c' _ is (stays c.backend.backend)

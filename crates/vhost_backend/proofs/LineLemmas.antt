@@ -79,7 +79,7 @@ other_settled i j line false differs = in_without i j line differs
 
 -- ---- it stays a line
 
-line-push : (n i : ℕ) (line : List ℕ) → is_line n line ≡ true → i < n → stands_in i line ≡ false
+pub line-push : (n i : ℕ) (line : List ℕ) → is_line n line ≡ true → i < n → stands_in i line ≡ false
     → is_line n (line ++ i ∷ []) ≡ true
 line-push n i [] is below out = rw (lt-ltb i n below) refl
 line-push n i (k ∷ line) is below out =
@@ -97,7 +97,7 @@ line-joined n i line is below = go (stands_in i line) refl
     go true there = rw there is
     go false out = rw out (line-push n i line is below out)
 
-line-without : (n i : ℕ) (line : List ℕ) → is_line n line ≡ true → is_line n (without line i) ≡ true
+pub line-without : (n i : ℕ) (line : List ℕ) → is_line n line ≡ true → is_line n (without line i) ≡ true
 line-without n i [] is = refl
 line-without n i (k ∷ line) is =
     let (there, rest) = and_parts (nat_lt k n) _ is in

@@ -115,25 +115,25 @@ module _ (b : BackendState) where
       ∙ ap (after_all events) (placed_rings old t.1 ∙ waited_rings b.rings until)
       ∙ sym (after-append (events_until until) events b.rings)
 
-  decoded_rings : (h : Header) (payload : List ℕ) (n : ℕ) (o : Result FrontendReq Refusal)
-      → (decoded b h payload n o).0.rings ≡ after_all (events_of_decoded b payload n o) b.rings
-  decoded_rings h payload n (Err e) = refl
-  decoded_rings h payload n (Ok request) = go (n == descriptors_of request)
+  decoded_rings : (h : Header) (payload : List ℕ) (n : ℕ) (used : Bool) (o : Result FrontendReq Refusal)
+      → (decoded b h payload n used o).0.rings ≡ after_all (events_of_decoded b payload n used o) b.rings
+  decoded_rings h payload n used (Err e) = refl
+  decoded_rings h payload n used (Ok request) = go (n == descriptors_of request)
     where
-      go : (right : Bool) → (if right then taken_until b h request payload (until_of b request)
+      go : (right : Bool) → (if right then taken_until b h request payload (until_of b used request)
           else (b, refused b h Descriptors)).0.rings
-          ≡ after_all (if right then events_of_request b request payload (until_of b request) else []) b.rings
-      go true = request_rings h request payload (until_of b request)
+          ≡ after_all (if right then events_of_request b request payload (until_of b used request) else []) b.rings
+      go true = request_rings h request payload (until_of b used request)
       go false = refl
 
-  message_rings : (h : Header) (payload : List ℕ) (n : ℕ)
-      → (stepped b (Came h payload n)).rings ≡ after_all (events_of b (Came h payload n)) b.rings
-  message_rings h payload n = go (is_free b.taken)
+  message_rings : (h : Header) (payload : List ℕ) (n : ℕ) (used : Bool)
+      → (stepped b (Came h payload n used)).rings ≡ after_all (events_of b (Came h payload n used)) b.rings
+  message_rings h payload n used = go (is_free b.taken)
     where
-      go : (free : Bool) → (if free then decoded b h payload n (request_of h payload)
+      go : (free : Bool) → (if free then decoded b h payload n used (request_of h payload)
           else (b, to_do (nothing 0) None Stays)).0.rings
-          ≡ after_all (if free then events_of_decoded b payload n (request_of h payload) else []) b.rings
-      go true = decoded_rings h payload n (request_of h payload)
+          ≡ after_all (if free then events_of_decoded b payload n used (request_of h payload) else []) b.rings
+      go true = decoded_rings h payload n used (request_of h payload)
       go false = refl
 
   -- one that waits, after an event
@@ -217,7 +217,7 @@ end_rings b end (taken.Begun h request) =
     finished_rings request h t ∙ ap (after_all (events_if_done t)) (rebased_rings (released b) request end)
 
 pub step_rings : (b : BackendState) (x : Happening) → (stepped b x).rings ≡ after_all (events_of b x) b.rings
-step_rings b (Came h payload n) = message_rings b h payload n
+step_rings b (Came h payload n used) = message_rings b h payload n used
 step_rings b (Done end) = end_rings b end b.taken
 step_rings b (Told e) = event_rings b e
 step_rings b HungUp = refl
@@ -329,27 +329,27 @@ module _ (i : ℕ) where
     refused_done : (h : Header) (e : Refusal) → ring_actions i (refused b h e ∷ []) ≡ []
     refused_done h e = ap (λ l. l ++ []) (own_none (nothing 0) refl)
 
-    decoded_done : (h : Header) (payload : List ℕ) (n : ℕ) (o : Result FrontendReq Refusal)
-        → ring_actions i ((decoded b h payload n o).1 ∷ [])
-        ≡ actions_of i (all_done (events_of_decoded b payload n o) b.rings)
-    decoded_done h payload n (Err e) = refused_done h e
-    decoded_done h payload n (Ok request) = go (n == descriptors_of request)
+    decoded_done : (h : Header) (payload : List ℕ) (n : ℕ) (used : Bool) (o : Result FrontendReq Refusal)
+        → ring_actions i ((decoded b h payload n used o).1 ∷ [])
+        ≡ actions_of i (all_done (events_of_decoded b payload n used o) b.rings)
+    decoded_done h payload n used (Err e) = refused_done h e
+    decoded_done h payload n used (Ok request) = go (n == descriptors_of request)
       where
-        go : (right : Bool) → ring_actions i ((if right then taken_until b h request payload (until_of b request)
+        go : (right : Bool) → ring_actions i ((if right then taken_until b h request payload (until_of b used request)
             else (b, refused b h Descriptors)).1 ∷ [])
-            ≡ actions_of i (all_done (if right then events_of_request b request payload (until_of b request) else [])
+            ≡ actions_of i (all_done (if right then events_of_request b request payload (until_of b used request) else [])
             b.rings)
-        go true = request_done h request payload (until_of b request)
+        go true = request_done h request payload (until_of b used request)
         go false = refused_done h Descriptors
 
     pub step_done : (x : Happening) → ring_actions i (message.to_do b x)
         ≡ actions_of i (all_done (events_of b x) b.rings)
-    step_done (Came h payload n) = go (is_free b.taken)
+    step_done (Came h payload n used) = go (is_free b.taken)
       where
-        go : (free : Bool) → ring_actions i ((if free then decoded b h payload n (request_of h payload)
+        go : (free : Bool) → ring_actions i ((if free then decoded b h payload n used (request_of h payload)
             else (b, to_do (nothing 0) None Stays)).1 ∷ [])
-            ≡ actions_of i (all_done (if free then events_of_decoded b payload n (request_of h payload) else []) b.rings)
-        go true = decoded_done h payload n (request_of h payload)
+            ≡ actions_of i (all_done (if free then events_of_decoded b payload n used (request_of h payload) else []) b.rings)
+        go true = decoded_done h payload n used (request_of h payload)
         go false = ap (λ l. l ++ []) (own_none (nothing 0) refl)
     step_done (Done end) = sym (end_quiet b end b.taken b.rings)
     step_done HungUp = sym (ending_quiet b.rings)

@@ -43,13 +43,13 @@ nothing_happened old done (taken.Waits h request until) is = absurd (cc)
 nothing_happened old done (taken.Begun h request) is = absurd (cc)
 
 module _ (b : BackendState) (is : b.taken ≡ taken.Over) where
-  message_over : (h : Header) (payload : List ℕ) (n : ℕ)
-      → StaysOver b (stepped b (Came h payload n)) (events_of b (Came h payload n)) (is_taken b (Came h payload n))
-  message_over h payload n = go (is_free b.taken) refl
+  message_over : (h : Header) (payload : List ℕ) (n : ℕ) (used : Bool)
+      → StaysOver b (stepped b (Came h payload n used)) (events_of b (Came h payload n used)) (is_taken b (Came h payload n used))
+  message_over h payload n used = go (is_free b.taken) refl
     where
-      go : (free : Bool) → is_free b.taken ≡ free → StaysOver b (if free then decoded b h payload n (request_of h payload)
+      go : (free : Bool) → is_free b.taken ≡ free → StaysOver b (if free then decoded b h payload n used (request_of h payload)
           else (b, to_do (nothing 0) None Stays)).0
-          (if free then events_of_decoded b payload n (request_of h payload) else []) free
+          (if free then events_of_decoded b payload n used (request_of h payload) else []) free
       go true free = never (is_free b.taken) (ap is_free is) free
       go false free = (is, refl, refl, refl)
 
@@ -77,7 +77,7 @@ module _ (b : BackendState) (is : b.taken ≡ taken.Over) where
       go false outer = (is, refl, refl, refl)
 
   step_over : (x : Happening) → StaysOver b (stepped b x) (events_of b x) (is_taken b x)
-  step_over (Came h payload n) = message_over h payload n
+  step_over (Came h payload n used) = message_over h payload n used
   step_over (Done end) = end_over end
   step_over (Told e) = event_over e
   step_over HungUp = (refl, refl, refl, refl)

@@ -1,5 +1,5 @@
 -- Pages that are to be marked: none is lost.
-use Rattle.std.proofs.Common.{◌≡◌, ◌⊎◌, ℕ, ◌+◌, ◌-◌, ◌/◌, ◌<◌, ◌≤◌, ◌==◌, min, max, nat_le, ◌&&◌, ◌||◌, Bool, true, false, List, [], ◌∷◌, ◌++◌, length, Option, Some, None, if◌then◌else◌, refl, inl, inr, arith}
+use Rattle.std.proofs.Common.{◌⊎◌, ℕ, nat_le, ◌||◌, Bool, true, false, List, [], ◌∷◌, ◌++◌, length, Option, Some, None, if◌then◌else◌, inl, inr, arith}
 use Rattle.std.specs.Option.{option_to_list}
 use Rattle.vhost_backend.specs.PageList.{InAny, InRange, IsToMark, Pages, added, added_to, hull, touch}
 use Rattle.vhost_backend.specs.declared.page_list.PageRange.{PageRange}

@@ -162,24 +162,24 @@ all_by : (c other : Connection) (placings : List Placing) (told : ℕ → Lies) 
 all_by c other placings told same all = rw same all
 
 module _ (b : BackendState) (told : ℕ → Lies) (is_told : ToldIn b told) where
-  message_told : (h : Header) (payload : List ℕ) (n : ℕ)
-      → ToldIn (stepped b (Came h payload n)) (told_after told (message.to_do b (Came h payload n)))
-  message_told h payload n = go b.taken refl
+  message_told : (h : Header) (payload : List ℕ) (n : ℕ) (used : Bool)
+      → ToldIn (stepped b (Came h payload n used)) (told_after told (message.to_do b (Came h payload n used)))
+  message_told h payload n used = go b.taken refl
     where
       stays : (todo : Todo) → todo.place ≡ None → ToldIn b (told_after told (todo ∷ []))
       stays todo none = if_same b.taken b.connection b.placings told (told_after told (todo ∷ []))
           (nothing_told told todo none) is_told
 
-      decoded_told : b.taken ≡ taken.Nothing → (o : Result FrontendReq Refusal) → (let t = decoded b h payload n o in
+      decoded_told : b.taken ≡ taken.Nothing → (o : Result FrontendReq Refusal) → (let t = decoded b h payload n used o in
           ToldIn t.0 (told_after told (t.1 ∷ [])))
       decoded_told is (Err e) = stays (refused b h e) refl
       decoded_told is (Ok request) = right (n == descriptors_of request)
         where
-          right : (r : Bool) → (let t = if r then taken_until b h request payload (until_of b request)
+          right : (r : Bool) → (let t = if r then taken_until b h request payload (until_of b used request)
               else (b, refused b h Descriptors) in ToldIn t.0 (told_after told (t.1 ∷ [])))
           right false = stays (refused b h Descriptors) refl
           right true =
-              let until = until_of b request in
+              let until = until_of b used request in
               let t = waiting b until in
               let all : AllTold b.connection b.placings told = rw is at is_told in
               due_told (placed t.0 t.1) h request payload until (is_due until t.1)
@@ -188,7 +188,7 @@ module _ (b : BackendState) (told : ℕ → Lies) (is_told : ToldIn b told) wher
               (one_more told t.1.ring (to_place t.0 t.1)) (placed_connection t.0 t.1) (placed_told t.0 told all t.1))
 
       go : (t : Taken) → b.taken ≡ t → (let u = if is_free b.taken
-          then decoded b h payload n (request_of h payload) else (b, to_do (nothing 0) None Stays) in
+          then decoded b h payload n used (request_of h payload) else (b, to_do (nothing 0) None Stays) in
           ToldIn u.0 (told_after told (u.1 ∷ [])))
       go taken.Nothing is = rw (ap is_free is) (decoded_told is (request_of h payload))
       go taken.Over is = rw (ap is_free is) (stays (to_do (nothing 0) None Stays) refl)
@@ -299,7 +299,7 @@ end_told b told end (taken.Begun h request) is all = finished_told request h (re
 
 step_told : (b : BackendState) (told : ℕ → Lies) (x : Happening) → ToldIn b told
     → ToldIn (stepped b x) (told_after told (message.to_do b x))
-step_told b told (Came h payload n) all = message_told b told all h payload n
+step_told b told (Came h payload n used) all = message_told b told all h payload n used
 step_told b told (Done end) all = end_told b told end b.taken refl all
 step_told b told (Told e) all = event_told b told all e
 step_told b told HungUp all = tt
@@ -355,25 +355,25 @@ module _ (b : BackendState) (told : ℕ → Lies) (all : AllTold b.connection b.
   quiet_tells todo none some = let (same, acts) = does todo i some in
       never (length todo.actions == 0) acts (ap (λ l. length l == 0) none)
 
-  decoded_tells : (h : Header) (payload : List ℕ) (n : ℕ) (o : Result FrontendReq Refusal)
-      → TellsFirst ((decoded b h payload n o).1 ∷ [])
-  decoded_tells h payload n (Err e) = quiet_tells (refused b h e) refl
-  decoded_tells h payload n (Ok request) = right (n == descriptors_of request)
+  decoded_tells : (h : Header) (payload : List ℕ) (n : ℕ) (used : Bool) (o : Result FrontendReq Refusal)
+      → TellsFirst ((decoded b h payload n used o).1 ∷ [])
+  decoded_tells h payload n used (Err e) = quiet_tells (refused b h e) refl
+  decoded_tells h payload n used (Ok request) = right (n == descriptors_of request)
     where
-      right : (r : Bool) → TellsFirst ((if r then taken_until b h request payload (until_of b request)
+      right : (r : Bool) → TellsFirst ((if r then taken_until b h request payload (until_of b used request)
           else (b, refused b h Descriptors)).1 ∷ [])
       right false some = quiet_tells (refused b h Descriptors) refl some
       right true some =
-          let t = waiting b (until_of b request) in
-          let (same, acts) = does (taken_until b h request payload (until_of b request)).1 i some in
+          let t = waiting b (until_of b used request) in
+          let (same, acts) = does (taken_until b h request payload (until_of b used request)).1 i some in
           to_do_told t.0 told all t.1 i inside same acts
 
   tells_first : (x : Happening) → TellsFirst (message.to_do b x)
-  tells_first (Came h payload n) some = go (is_free b.taken) some
+  tells_first (Came h payload n used) some = go (is_free b.taken) some
     where
-      go : (free : Bool) → TellsFirst ((if free then decoded b h payload n (request_of h payload)
+      go : (free : Bool) → TellsFirst ((if free then decoded b h payload n used (request_of h payload)
           else (b, to_do (nothing 0) None Stays)).1 ∷ [])
-      go true some = decoded_tells h payload n (request_of h payload) some
+      go true some = decoded_tells h payload n used (request_of h payload) some
       go false some = quiet_tells (to_do (nothing 0) None Stays) refl some
   tells_first (Done end) some = absurd (cc)
   tells_first HungUp some = absurd (cc)

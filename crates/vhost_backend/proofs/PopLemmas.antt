@@ -1,18 +1,23 @@
 -- What a step of a turn leaves of a queue's requests: their ids, and all of them if nothing happens to the ring.
-use Rattle.std.proofs.Common.{◌≡◌, ◌∙◌, Bool, true, false, length, Option, Some, None, Result, Ok, Err, MatchBool, ap, sym, subst}
+use Rattle.std.proofs.Common.{◌≡◌, ◌∙◌, Bool, true, false, List, length, Option, Some, None, Result, Ok, Err, MatchBool, ap, sym, subst, inl, inr}
 use Rattle.std.proofs.Math.ListN.{length-set}
+use Rattle.vm_memory_base.specs.Table.{says}
 use Rattle.vm_memory_guest.specs.declared.region.error.GuestMemoryError.{GuestMemoryError}
 use Rattle.virtio_queue.specs.Any.{past}
 use Rattle.virtio_queue.specs.declared.error.QueueError.{QueueError}
 use Rattle.virtio_blk.specs.declared.request.Request.{Request}
 use Rattle.virtio_blk.specs.declared.request.Request.TheVariants.{Refused}
 use Rattle.virtio_blk.specs.declared.request.DeviceLimits.{DeviceLimits}
-use Rattle.vhost_backend.proofs.TurnLemmas.{nothing_popped}
-use Rattle.vhost_backend.specs.BlockQueue.{AfterAsk, AfterPop, BlockQueueState, HappensNext, Pops, begun, event_of, has_place, popped, with_queue}
+use Rattle.vhost_backend.proofs.StageLemmas.{Stage, behind_stage}
+use Rattle.vhost_backend.proofs.TurnLemmas.{nothing_popped, read_asked}
+use Rattle.vhost_backend.specs.Behind.{HappensBy}
+use Rattle.vhost_backend.specs.BlockQueue.{AfterAsk, AfterPop, AfterRead, BlockQueueState, HappensNext, Pops, begun, event_of, has_place, popped, with_queue}
 use Rattle.vhost_backend.specs.RingMemory.{MemoryStep, Returned}
 use Rattle.vhost_backend.specs.RingMemory as memory
+use Rattle.vhost_backend.specs.declared.block_queue.Asked.{Asked}
 use Rattle.vhost_backend.specs.declared.block_queue.Pop.{Pop}
 use Rattle.vhost_backend.specs.declared.block_queue.Pop.TheVariants as pop
+use Rattle.vhost_backend.specs.Sight.{Sight}
 use Rattle.vhost_backend.specs.declared.ring.RingEvent.{RingEvent}
 
 abbrev pub Kept : Option RingEvent → BlockQueueState → BlockQueueState → Type 0
@@ -71,6 +76,27 @@ module _ {H : Type 0} (step : H → (s : MemoryStep) → Returned s → H → Ty
       subst (λ x. Kept e q x) (sym kept)
       (subst (λ x. Kept x q mid_q) (sym is) (pops_kept q old pop.Later mid_q mid pops))
 
-  pub next_kept : (q : BlockQueueState) (old : H) (e : Option RingEvent) (q' : BlockQueueState) (new : H)
+  in_place_kept : (q : BlockQueueState) (old : H) (e : Option RingEvent) (q' : BlockQueueState) (new : H)
       → HappensNext step terms q old e q' new → Kept e q q'
-  next_kept q old e q' new (found, mid_q, mid, pops, after) = after_kept q old found mid_q mid pops e q' new after
+  in_place_kept q old e q' new (read, mid_q, mid, reads, after) =
+      subst (λ (l : List (Option Asked)). (length q'.asked ≡ length l) × (e ≡ None → q'.asked ≡ l))
+      (read_asked step terms q q.is_unread q.queue old read mid_q mid reads) (go read after)
+    where
+      go : (r : Result (Unit {0}) QueueError) → AfterRead step terms r mid_q mid e q' new → Kept e mid_q q'
+      go (Ok done) (found, next_q, next, pops, after) = after_kept mid_q mid found next_q next pops e q' new after
+      go (Err error) (is, kept, still) = same e mid_q q' (ap (λ n. n.asked) kept)
+
+  behind_kept : (q : BlockQueueState) (e : Option RingEvent) (q' : BlockQueueState) (new : H) → Stage step q e q' new
+      → Kept e q q'
+  behind_kept q e q' new (inl (quiet, kept)) = same e q q' kept
+  behind_kept q e q' new (inr (inl (is, kept, stays, ends))) = same e q q' kept
+  behind_kept q e q' new (inr (inr (inl (buffer, request, a, place, set, is)))) =
+      (ap length set ∙ length-set q.asked buffer.id _, λ none. let bad = sym is ∙ none in absurd (cc))
+  behind_kept q e q' new (inr (inr (inr (buffer, place, kept, is)))) = same e q q' kept
+
+module _ {H : Type 0} (step : H → (s : MemoryStep) → Returned s → H → Type 0) where
+  pub next_kept : (way : Option Sight) (terms : DeviceLimits) (q : BlockQueueState) (old : H) (e : Option RingEvent)
+      (q' : BlockQueueState) (new : H) → HappensBy step way terms q old e q' new → Kept e q q'
+  next_kept None terms q old e q' new p = in_place_kept step terms q old e q' new p
+  next_kept (Some way) terms q old e q' new p = behind_kept step terms q e q' new
+      (behind_stage step (says way.table) way.can_ask terms q old e q' new p)

@@ -215,24 +215,24 @@ due_keeps b h request payload until true = begun_keeps b h request payload
 due_keeps b h request payload until false = refl
 
 module _ (b : BackendState) where
-  message_keeps : (h : Header) (payload : List ℕ) (n : ℕ) → Keeps b (after_message b h payload n).0
-  message_keeps h payload n = go (is_free b.taken)
+  message_keeps : (h : Header) (payload : List ℕ) (n : ℕ) (used : Bool) → Keeps b (after_message b h payload n used).0
+  message_keeps h payload n used = go (is_free b.taken)
     where
-      decoded_keeps : (o : Result FrontendReq Refusal) → Keeps b (decoded b h payload n o).0
+      decoded_keeps : (o : Result FrontendReq Refusal) → Keeps b (decoded b h payload n used o).0
       decoded_keeps (Err e) = refl
       decoded_keeps (Ok request) = right (n == descriptors_of request)
         where
-          right : (r : Bool) → Keeps b (if r then taken_until b h request payload (until_of b request)
+          right : (r : Bool) → Keeps b (if r then taken_until b h request payload (until_of b used request)
               else (b, refused b h Descriptors)).0
           right false = refl
           right true =
-              let until = until_of b request in
+              let until = until_of b used request in
               let t = waited b.rings until in
               let old : BackendState = record b { rings = t.0 } in
               due_keeps (placed old t.1) h request payload until (is_due until t.1)
               ∙ ap (λ c. length c.vrings) (placed_connection old t.1)
 
-      go : (free : Bool) → Keeps b (if free then decoded b h payload n (request_of h payload)
+      go : (free : Bool) → Keeps b (if free then decoded b h payload n used (request_of h payload)
           else (b, to_do (nothing 0) None Stays)).0
       go true = decoded_keeps (request_of h payload)
       go false = refl
@@ -283,7 +283,7 @@ module _ (b : BackendState) where
       go (taken.Begun h request) = over request h (rebased (released b) request f) (ended request f)
 
   pub step_keeps : (x : Happening) → Keeps b (stepped b x)
-  step_keeps (Came h payload n) = message_keeps h payload n
+  step_keeps (Came h payload n used) = message_keeps h payload n used
   step_keeps (Done end) = end_keeps end
   step_keeps (Told e) = event_keeps e
   step_keeps HungUp = refl
@@ -388,28 +388,28 @@ module _ (b : BackendState) (count : length b.connection.vrings ≡ length b.rin
       cannot new same (Err x) is_o is_refused = absurd (stops_there b.connection request payload i x is
           (rw count below) (rw (← same) is_o))
 
-pub message_stays : (c : Connection) (ids : ℕ) (xs : List Happening) (h : Header) (payload : List ℕ) (n : ℕ)
+pub message_stays : (c : Connection) (ids : ℕ) (xs : List Happening) (h : Header) (payload : List ℕ) (n : ℕ) (used : Bool)
     (e : Refusal) (told : Header) → (let b = after xs (new_backend c ids) in
-    let t = after_message b h payload n in t.1.message ≡ Refused e told
+    let t = after_message b h payload n used in t.1.message ≡ Refused e told
     → (t.0.connection ≡ b.connection) × (t.0.rings.rings ≡ b.rings.rings))
-message_stays c ids xs h payload n =
+message_stays c ids xs h payload n used =
     let b = after xs (new_backend c ids) in go b (same_count c ids xs) (is_free b.taken)
   where
     go : (b : BackendState) → length b.connection.vrings ≡ length b.rings.rings → (free : Bool) (e : Refusal)
-        (told : Header) → (let t = if free then decoded b h payload n (request_of h payload)
+        (told : Header) → (let t = if free then decoded b h payload n used (request_of h payload)
         else (b, to_do (nothing 0) None Stays) in t.1.message ≡ Refused e told
         → (t.0.connection ≡ b.connection) × (t.0.rings.rings ≡ b.rings.rings))
     go b count false e told is = absurd (cc)
     go b count true e told refuses = by (request_of h payload) e told refuses
       where
-        by : (o : Result FrontendReq Refusal) (e : Refusal) (told : Header) → (let t = decoded b h payload n o in
+        by : (o : Result FrontendReq Refusal) (e : Refusal) (told : Header) → (let t = decoded b h payload n used o in
             t.1.message ≡ Refused e told → (t.0.connection ≡ b.connection) × (t.0.rings.rings ≡ b.rings.rings))
         by (Err x) e told is = (refl, refl)
         by (Ok request) e told refuses = right (n == descriptors_of request) e told refuses
           where
             right : (r : Bool) (e : Refusal) (told : Header) → (let t = if r
-                then taken_until b h request payload (until_of b request) else (b, refused b h Descriptors) in
+                then taken_until b h request payload (until_of b used request) else (b, refused b h Descriptors) in
                 t.1.message ≡ Refused e told → (t.0.connection ≡ b.connection) × (t.0.rings.rings ≡ b.rings.rings))
             right false e told is = (refl, refl)
-            right true e told is = let until = until_of b request in waited_stays b count h request payload until
-                (until_fits b request) (is_due until (waited b.rings until).1) e told is
+            right true e told is = let until = until_of b used request in waited_stays b count h request payload until
+                (until_fits b used request) (is_due until (waited b.rings until).1) e told is

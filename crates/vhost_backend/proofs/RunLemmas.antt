@@ -600,23 +600,23 @@ rebased_places b request (end.At base) = at (stopped_ring request)
 rebased_places b request end.Failed = refl
 
 module _ (b : BackendState) where
-  message_places : (h : Header) (payload : List ℕ) (n : ℕ) → PlacesKept b (after_message b h payload n).0
-  message_places h payload n = go (is_free b.taken)
+  message_places : (h : Header) (payload : List ℕ) (n : ℕ) (used : Bool) → PlacesKept b (after_message b h payload n used).0
+  message_places h payload n used = go (is_free b.taken)
     where
-      decoded_places : (o : Result FrontendReq Refusal) → PlacesKept b (decoded b h payload n o).0
+      decoded_places : (o : Result FrontendReq Refusal) → PlacesKept b (decoded b h payload n used o).0
       decoded_places (Err e) = refl
       decoded_places (Ok request) = right (n == descriptors_of request)
         where
-          right : (r : Bool) → PlacesKept b (if r then taken_until b h request payload (until_of b request)
+          right : (r : Bool) → PlacesKept b (if r then taken_until b h request payload (until_of b used request)
               else (b, refused b h Descriptors)).0
           right false = refl
           right true =
-              let until = until_of b request in
+              let until = until_of b used request in
               let t = waited b.rings until in
               let old : BackendState = record b { rings = t.0 } in
               due_places (placed old t.1) h request payload until (is_due until t.1) ∙ placed_places old t.1
 
-      go : (free : Bool) → PlacesKept b (if free then decoded b h payload n (request_of h payload)
+      go : (free : Bool) → PlacesKept b (if free then decoded b h payload n used (request_of h payload)
           else (b, to_do (nothing 0) None Stays)).0
       go true = decoded_places (request_of h payload)
       go false = refl
@@ -654,7 +654,7 @@ module _ (b : BackendState) where
           over request h (rebased (released b) request f) (rebased_places (released b) request f)
 
   pub step_places : (x : Happening) → PlacesKept b (stepped b x)
-  step_places (Came h payload n) = message_places h payload n
+  step_places (Came h payload n used) = message_places h payload n used
   step_places (Done end) = end_places end
   step_places (Told e) = event_places e
   step_places HungUp = refl
@@ -667,21 +667,21 @@ Whole b = RunsIn b × FitsIn b × (length b.connection.vrings ≡ length b.rings
     × (length b.placings ≡ length b.rings.rings)
 
 module _ (b : BackendState) (whole : Whole b) where
-  message_runs : (h : Header) (payload : List ℕ) (n : ℕ) → RunsIn (stepped b (Came h payload n))
-  message_runs h payload n = go b.taken refl
+  message_runs : (h : Header) (payload : List ℕ) (n : ℕ) (used : Bool) → RunsIn (stepped b (Came h payload n used))
+  message_runs h payload n used = go b.taken refl
     where
-      decoded_runs : b.taken ≡ taken.Nothing → (o : Result FrontendReq Refusal) → RunsIn (decoded b h payload n o).0
+      decoded_runs : b.taken ≡ taken.Nothing → (o : Result FrontendReq Refusal) → RunsIn (decoded b h payload n used o).0
       decoded_runs is (Err e) = whole.0
       decoded_runs is (Ok request) = right (n == descriptors_of request)
         where
-          right : (r : Bool) → RunsIn (if r then taken_until b h request payload (until_of b request)
+          right : (r : Bool) → RunsIn (if r then taken_until b h request payload (until_of b used request)
               else (b, refused b h Descriptors)).0
           right false = whole.0
           right true = let (runs, fits, count, places) = whole in let (agree, none) = rw is at runs in
-              waited_runs b agree none count h request payload (until_of b request) (until_fits b request)
+              waited_runs b agree none count h request payload (until_of b used request) (until_fits b used request)
 
       go : (t : Taken) → b.taken ≡ t → RunsIn (if is_free b.taken
-          then decoded b h payload n (request_of h payload) else (b, to_do (nothing 0) None Stays)).0
+          then decoded b h payload n used (request_of h payload) else (b, to_do (nothing 0) None Stays)).0
       go taken.Nothing is = rw (ap is_free is) (decoded_runs is (request_of h payload))
       go taken.Over is = rw (ap is_free is) whole.0
       go (taken.Waits h' request until) is = rw (ap is_free is) whole.0
@@ -715,7 +715,7 @@ module _ (b : BackendState) (whole : Whole b) where
       (rebased_places (released b) request end ∙ places ∙ sym (ap length rings))
 
   step_runs : (x : Happening) → RunsIn (stepped b x)
-  step_runs (Came h payload n) = message_runs h payload n
+  step_runs (Came h payload n used) = message_runs h payload n used
   step_runs (Done end) = end_runs end b.taken refl
   step_runs (Told e) = event_runs e
   step_runs HungUp = tt

@@ -6,20 +6,32 @@ use Rattle.std.proofs.lemmas.Bool.{and_parts, cases_eq, eq-eqb, ne_eqb}
 use Rattle.std.proofs.lemmas.List.{append-nil}
 use Rattle.std.proofs.lemmas.List.Elements.{filter-append}
 use Rattle.std.proofs.Math.ListN.{length-set}
+use Rattle.vhost_backend.specs.Questions.{QuestionsState, after_reply}
+use Rattle.vhost_backend.specs.declared.deeds.Why.TheVariants as why
+use Rattle.vhost_backend.specs.declared.questions.SentMiss.{SentMiss}
+use Rattle.vhost_message.specs.FrontendReq.{request_of}
+use Rattle.vhost_message.specs.declared.backend_req.BackendReply.{BackendReply}
 use Rattle.vhost_message.specs.declared.header.Header.{Header}
+use Rattle.vhost_message.specs.declared.refusal.Refusal.TheVariants.{Direction}
 use Rattle.vhost_message.specs.declared.refusal.Refusal.{Refusal}
 use Rattle.vhost_user.specs.Connection.{Connection, with_changed_config}
+use Rattle.vm_memory_base.specs.Table.{Table}
 use Rattle.vhost_backend.proofs.AgreeLemmas.{none_asked, other_asked}
 use Rattle.vhost_backend.proofs.IdleLemmas.{done_clear}
 use Rattle.vhost_backend.proofs.OwnWayLemmas.{get-set_other, get-set_same}
+use Rattle.vhost_backend.proofs.TableLemmas.{asking_kept, memory_kept, reply_kept, table_kept}
 use Rattle.vhost_backend.proofs.UnderWayLemmas.{Goes, Quiet, came_quiet, end_quiet, goes, pops_none, story_quiet, told_quiet}
 use Rattle.vhost_backend.specs.Backend.{BackendState, after_event, after_message, is_free, is_over}
-use Rattle.vhost_backend.specs.BlockBackend.{after_reach, answered, answered_at, called_by, came, finished_by, gone_on, hung_up, is_done, mapped, mapped_at, resized, told}
+use Rattle.vhost_backend.specs.BlockBackend.{after_reach, answered, answered_at, called_by, came, finished_by, gone_on, hung_up, is_done, mapped, mapped_at, resized, told, in_use, taken_by, with_change, reply_by, replied_to, with_channel}
+use Rattle.vhost_backend.specs.Behind.{with_reach}
 use Rattle.vhost_backend.specs.BlockQueue.{BlockQueueState, asked_at, asked_count, with_asked}
 use Rattle.vhost_backend.specs.BlockQueues.{WithQueue, base_left, based}
+use Rattle.vhost_backend.specs.BlockTable.{ChangesTable, asked_for, memory_lost}
 use Rattle.vhost_backend.specs.Config.{changed_by}
 use Rattle.vhost_backend.specs.Messages.{Happening, Came, Done, Told, HungUp, events_of, own_actions, ring_actions, stepped, to_do}
+use Rattle.vhost_backend.specs.Reach.{ReachState}
 use Rattle.vhost_backend.specs.Ring.{RingState}
+use Rattle.vhost_backend.specs.RingMemory.{MemoryStep, Returned}
 use Rattle.vhost_backend.specs.SetUp.{is_set_up}
 use Rattle.vhost_backend.specs.Sound.{HasAll, IsClear, Sound, SoundAt, ended_chain, pending}
 use Rattle.vhost_backend.specs.Story.{busy, of_id, returned}
@@ -108,13 +120,14 @@ pub came_sound : (w : BlockBackend) (h : Header) (payload : List ℕ) (descripto
 came_sound w h payload descriptors sound = go (is_done w && is_free w.backend.taken) refl
   where
     go : (v : Bool) → (is_done w && is_free w.backend.taken) ≡ v → (let r : BlockBackend × Bool = (if v
-        then (let t = after_message w.backend h payload descriptors in (record w { backend = t.0; todo = t.1 }, true))
+        then (let v = with_change w (request_of h payload) in (taken_by v h payload descriptors (in_use v), true))
         else (w, false)) in Sound r.0)
     go true is =
-        let todo = (after_message w.backend h payload descriptors).1 in
-        let x = Came h payload descriptors in
+        let used = in_use (with_change w (request_of h payload)) in
+        let todo = (after_message w.backend h payload descriptors used).1 in
+        let x = Came h payload descriptors used in
         happens_sound w.queues w.backend x (pending w)
-        (λ i. ended_chain i w.returning ++ returned (own_actions i todo)) (came_quiet w.backend h payload descriptors)
+        (λ i. ended_chain i w.returning ++ returned (own_actions i todo)) (came_quiet w.backend h payload descriptors used)
         (new_pending w todo (done_clear w (and_parts _ _ is).0)) sound
     go false is = sound
 
@@ -147,7 +160,8 @@ answered_sound w is sound = go w.ask is
   where
     go : (a : Ask) (is : Bool) → Sound (answered_at w a is)
     go ask.Answer true =
-        finished_sound (record w { called = called_by w.called (wanted_at w.backend.taken) }) finish.Done sound
+        let x = wanted_at w.backend.taken in
+        finished_sound (with_channel (record w { called = called_by w.called x }) x) finish.Done sound
     go ask.Answer false = finished_sound w finish.Failed sound
     go ask.Nothing is = sound
     go ask.First is = sound
@@ -274,3 +288,36 @@ based_sound qs rs chains ring sound = go (slice_get qs ring) refl
     go None found = sound
     go (Some q) found = set_sound qs rs chains chains ring q (base_left q).0 found (λ i differs. refl)
         (λ r has. same_has q (base_left q).0 r (chains ring) (left q (is_set_up q.queue) refl) has) sound
+
+-- ---- the table and the channel
+
+-- whatever is kept and fetched for its ring
+reach_set : (w : BlockBackend) (n : ℕ) (q : BlockQueueState) (l : ReachState) → slice_get w.queues n ≡ Some q → Sound w
+    → Sound (record w { queues = slice_set w.queues n (with_reach q l) })
+reach_set w n q l found sound = set_sound w.queues w.backend.rings.rings (pending w) (pending w) n q (with_reach q l) found
+    (λ i differs. refl) (λ r has. same_has q (with_reach q l) r (pending w n) refl has) sound
+
+pub asking_sound : (w : BlockBackend) (ring : ℕ) → Sound w → Sound (asked_for w ring)
+asking_sound = asking_kept Sound (λ v q sound. sound) (λ v ks sound. sound) reach_set
+
+pub memory_sound : (w : BlockBackend) → Sound w → Sound (memory_lost w)
+memory_sound = memory_kept Sound (λ v q sound. sound) (λ v ks sound. sound) reach_set
+
+pub replied_sound : (w : BlockBackend) (r : Result BackendReply Refusal) → Sound w → Sound (replied_to w r).0
+replied_sound w (Err e) sound = hung_up_sound w (why.Refused e) sound
+replied_sound w (Ok r) sound = go (r.request == 1)
+  where
+    by : (t : QuestionsState × Option SentMiss) → Sound (reply_by w r.value t).0
+    by (q, Some one) = reply_kept Sound (λ v q sound. sound) (λ v ks sound. sound) reach_set
+        (record w { questions = q }) one r.value sound
+    by (q, None) = hung_up_sound (record w { questions = q }) (why.Refused Direction) sound
+
+    go : (v : Bool) → (let t : BlockBackend × Bool = (if v then reply_by w r.value (after_reply w.questions)
+        else (hung_up w (why.Refused Direction), false)) in Sound t.0)
+    go true = by (after_reply w.questions)
+    go false = hung_up_sound w (why.Refused Direction) sound
+
+module _ {H : Type 0} (step : H → (s : MemoryStep) → Returned s → H → Type 0) where
+  pub changes_sound : (w : BlockBackend) (t : Table) (old : H) (is : Bool) (w' : BlockBackend) (t' : Table) (new : H)
+      → ChangesTable step w t old is w' t' new → Sound w → Sound w'
+  changes_sound = table_kept Sound (λ v q sound. sound) (λ v ks sound. sound) reach_set step

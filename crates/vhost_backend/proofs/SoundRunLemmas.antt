@@ -1,10 +1,13 @@
 -- Along a run the queues have what rings have under way, and what is to be returned.
-use Rattle.std.proofs.Common.{◌≡◌, ◌⊎◌, ℕ, ◌==◌, ◌^◌, nat_lt, Bool, true, false, List, [], ◌∷◌, Option, Some, None, if◌then◌else◌, refl, ap, sym, subst, inl, inr}
+use Rattle.std.proofs.Common.{◌≡◌, ◌⊎◌, ℕ, ◌==◌, ◌^◌, nat_lt, Bool, true, false, List, [], ◌∷◌, Option, Some, None, if◌then◌else◌, refl, ap, sym, subst, inl, inr, is_some}
+use Rattle.vhost_user.specs.Features.{access_platform, has}
 use Rattle.vhost_user.specs.Log.{log_kept}
 use Rattle.vhost_backend.specs.BlockBackend.{gone_on, hung_up}
-use Rattle.vhost_backend.specs.BlockConnection.{is_covered, looked_after, pages_in, with_backend, with_log}
-use Rattle.vhost_backend.specs.ConnectionMemory.{memory_step, with_pages}
-use Rattle.vhost_backend.specs.Run.{Course, EventBy, Fills, Follows, GivesBy, LooksBy, Move, MoveBy, Moves, Output, Rests, StepsTo, Stops, after_sent, does, end_of, end_taken, gives_marks, gives_part, goes_on, looked, looks, loses, open_part, part_ended, takes_end, takes_turn}
+use Rattle.vhost_backend.specs.BlockConnection.{as_negotiated, is_covered, looked_after, pages_in, with_backend}
+use Rattle.vhost_backend.specs.BlockTable.{memory_lost}
+use Rattle.vhost_backend.specs.ConnectionMemory.{emptied, memory_step, with_behind, with_pages, way_of}
+use Rattle.vhost_backend.specs.Rings.{all_stopped}
+use Rattle.vhost_backend.specs.Run.{Applies, Course, EventBy, Fills, Follows, GivesBy, LooksBy, Move, MoveBy, Moves, Output, Rests, StepsTo, Stops, after_sent, after_stop, does, end_of, end_taken, gives_marks, gives_part, goes_on, looked, looks, loses, open_part, part_ended, takes_end, takes_turn}
 use Rattle.vhost_backend.specs.Sound.{IsClear, Sound}
 use Rattle.vhost_backend.specs.declared.block.BlockStep.{BlockStep}
 use Rattle.vhost_backend.specs.declared.block_backend.BlockBackend.{BlockBackend}
@@ -19,7 +22,7 @@ use Rattle.vhost_backend.specs.declared.ring.RingEvent.TheVariants.{Ended}
 use Rattle.vhost_backend.specs.declared.rings.Event.TheVariants as event
 use Rattle.vhost_backend.specs.declared.rows.EndRow.{EndRow}
 use Rattle.vhost_backend.proofs.IdleLemmas.{done_clear, hung_up_clear, looked_clear}
-use Rattle.vhost_backend.proofs.SoundLemmas.{answered_sound, gone_on_sound, hung_up_sound, told_sound}
+use Rattle.vhost_backend.proofs.SoundLemmas.{answered_sound, changes_sound, gone_on_sound, hung_up_sound, memory_sound, told_sound}
 use Rattle.vhost_backend.proofs.SoundStepLemmas.{steps_sound}
 use Rattle.vhost_backend.proofs.SoundTurnLemmas.{looks_sound}
 
@@ -33,14 +36,14 @@ same c d is sound = subst IsSound (sym is) sound
 
 module _ (P : BlockBackend → Type 0) (over : (w : BlockBackend) → P w → P (hung_up w Log))
     (saw : (w : BlockBackend) → P w → P (record w { finished = false })) where
-  log_keeps : (c : BlockConnection) → P c.backend → P (with_log c).backend
+  log_keeps : (c : BlockConnection) → P c.backend → P (as_negotiated c).backend
   log_keeps c p = go (is_covered c.backend.backend.connection)
     where
       logs : BlockConnection
       logs = record c {
-        memory = with_pages c.memory (record c.memory.logged.pages {
+        memory = with_behind (with_pages c.memory (record c.memory.logged.pages {
           pages = pages_in (log_kept c.backend.backend.connection);
-        });
+        })) (has c.backend.backend.connection.features access_platform);
       }
 
       go : (v : Bool) → P (if v then logs else with_backend logs (hung_up logs.backend Log)).backend
@@ -53,7 +56,7 @@ module _ (P : BlockBackend → Type 0) (over : (w : BlockBackend) → P w → P 
       seen : BlockConnection
       seen = with_backend c (record c.backend { finished = false })
 
-      go : (v : Bool) → P (if v then with_log seen else seen).backend
+      go : (v : Bool) → P (if v then as_negotiated seen else seen).backend
       go true = log_keeps seen (saw c.backend p)
       go false = saw c.backend p
 
@@ -74,9 +77,22 @@ open_sound : (c : BlockConnection) (ring id : ℕ) (part : BlockStep) (left : �
 open_sound c ring id part left true sound = sound
 open_sound c ring id part left false sound = sound
 
+stop_sound : (c : BlockConnection) → IsSound c → IsSound (after_stop c)
+stop_sound c sound = go (all_stopped c.backend.backend.rings)
+  where
+    go : (v : Bool)
+        → IsSound (if v then record c { memory = emptied c.memory; backend = memory_lost c.backend } else c)
+    go true = memory_sound c.backend sound
+    go false = sound
+
+apply_sound : (c c' : BlockConnection) → Applies c c' → IsSound c → IsSound c'
+apply_sound c c' (n, w, t, logged, changes, evicts, is) sound = same c' _ is (answered_sound w (is_some n)
+    (changes_sound (memory_step c.memory) c.backend c.memory.table c.memory.logged (is_some n) w t logged changes
+    sound))
+
 follow_sound : (c c' : BlockConnection) (d : Deed) → Follows (after_sent d c) d c' → IsSound c → IsSound c'
 follow_sound c c' deed.Send is sound = same c' _ is sound
-follow_sound c c' deed.UnmapAll is sound = same c' _ is sound
+follow_sound c c' deed.UnmapAll is sound = same c' _ is (memory_sound c.backend sound)
 follow_sound c c' (deed.Map region descriptor) is sound = same c' _ is sound
 follow_sound c c' deed.Join (m, v, joins, is) sound = same c' _ is (answered_sound c.backend v sound)
 follow_sound c c' (deed.Log size offset) is sound = same c' _ is sound
@@ -85,8 +101,11 @@ follow_sound c c' (deed.Part ring id part left) (v, lies, is) sound =
     same c' _ is (open_sound c ring id part left v sound)
 follow_sound c c' (deed.Interrupt ring) is sound = same c' _ is sound
 follow_sound c c' (deed.Tell ring) is sound = same c' _ is sound
-follow_sound c c' (deed.Stopped ring) is sound = same c' _ is sound
+follow_sound c c' (deed.Stopped ring) is sound = same c' _ is (stop_sound c sound)
 follow_sound c c' (deed.End y) is sound = same c' _ is sound
+follow_sound c c' deed.Table applies sound = apply_sound c c' applies sound
+follow_sound c c' (deed.Ask miss) is sound = same c' _ is sound
+follow_sound c c' (deed.Deny miss) is sound = same c' _ is sound
 
 gives_sound : (c c' : BlockConnection) (m : Move) → GivesBy c m c' → IsSound c → IsSound c'
 gives_sound c c' (gives_marks range) (l, takes, is) sound = same c' _ is sound
@@ -103,11 +122,11 @@ gives_sound c c' takes_turn none sound = absurd none
 
 look_sound : (c c' : BlockConnection) (v : Bool) → LooksBy c v c' → IsClear c.backend → IsSound c → IsSound c'
 look_sound c c' v (by, is) clear sound =
-    looks_sound (memory_step c.memory) c.backend c.memory.logged v c'.backend c'.memory.logged by clear sound
+    looks_sound (memory_step c.memory) (way_of c.memory c.backend) c.backend c.memory.logged v c'.backend c'.memory.logged by clear sound
 
 look_clear : (c c' : BlockConnection) → LooksBy c false c' → IsClear c.backend → IsClear c'.backend
 look_clear c c' (by, is) clear =
-    looked_clear (memory_step c.memory) c.backend c.memory.logged c'.backend c'.memory.logged by clear
+    looked_clear (memory_step c.memory) (way_of c.memory c.backend) c.backend c.memory.logged c'.backend c'.memory.logged by clear
 
 end_sound : (c : BlockConnection) (e : EndRow) → IsClear c.backend → IsSound c → IsSound (end_taken c e)
 end_sound c e clear sound = go (nat_lt e.id (2 ^ 16))

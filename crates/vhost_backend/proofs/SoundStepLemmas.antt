@@ -1,8 +1,9 @@
 -- Each step leaves a back end sound.
-use Rattle.std.proofs.Common.{◌≡◌, ◌∙◌, ℕ, ◌+◌, ◌==◌, nat_lt, Bool, true, false, List, [], ◌∷◌, ◌++◌, length, drop, Option, Some, None, is_some, Result, Ok, Err, MatchOption, MatchResult, if◌then◌else◌, refl, ap, sym, subst, arith, length-append}
+use Rattle.std.proofs.Common.{◌≡◌, ◌∙◌, ℕ, ◌+◌, ◌==◌, ◌||◌, not, nat_lt, Bool, true, false, List, [], ◌∷◌, ◌++◌, length, drop, Option, Some, None, is_some, Result, Ok, Err, MatchOption, MatchResult, if◌then◌else◌, refl, ap, sym, subst, arith, length-append}
 use Rattle.std.specs.List.{slice_get, slice_set}
 use Rattle.std.proofs.lemmas.Bool.{eq-eqb, ne_eqb}
 use Rattle.std.proofs.lemmas.List.Elements.{filter-append}
+use Rattle.vhost_backend.proofs.ChannelLemmas.{on_channel}
 use Rattle.vhost_user.specs.Reply.{refused}
 use Rattle.vhost_user.specs.declared.vring.NotRunning.{NotRunning}
 use Rattle.vhost_user.specs.declared.vring.RunningVring.{RunningVring}
@@ -11,14 +12,18 @@ use Rattle.virtio_queue.specs.declared.any.AnyQueue.{AnyQueue}
 use Rattle.virtio_queue.specs.declared.error.QueueError.{QueueError}
 use Rattle.vhost_backend.specs.Backend.{mapping_at}
 use Rattle.vhost_backend.specs.Block.{status_of, written_of}
-use Rattle.vhost_backend.specs.BlockBackend.{Acts, ActsFirst, GivesBackAt, Places, Returns, SetsUpAt, Steps, StepsFrom, asked_by, asked_first_by, asked_more_by, broke_if, called_up, counted, ended_by, ended_with, hung_up, messaged, replied, said_last, stepped_on_by}
-use Rattle.vhost_backend.specs.BlockQueue.{BlockQueueState, FinishesRequest, asked_at, asked_count, with_asked}
-use Rattle.vhost_backend.specs.BlockQueues.{Asks, Finishes, FinishesAt, Gives, SetsUp, based, placed}
+use Rattle.vm_memory_base.specs.declared.iotlb.Permissions.{Permissions}
+use Rattle.vhost_backend.specs.BlockTable.{freed_by}
+use Rattle.vhost_backend.specs.TableUse.{awaited}
+use Rattle.vhost_backend.specs.BlockBackend.{Acts, ActsFirst, GivesBackAt, Returns, Steps, StepsFrom, asked_by, asked_first_by, asked_more_by, broke_if, called_up, counted, ended_by, ended_with, hung_up, messaged, placed_by, replied, said_last, stepped_on_by}
+use Rattle.vhost_backend.specs.BlockQueue.{BlockQueueState, FinishesRequest, asked_at, asked_count, len_left, with_asked}
+use Rattle.vhost_backend.specs.BlockQueues.{Asks, Finishes, FinishesAt, Gives, based, began, set_up, set_up_at, stays_at, went_on}
 use Rattle.vhost_backend.specs.Marks.{Marks, chain_marks}
 use Rattle.vhost_backend.specs.PageList.{capped}
+use Rattle.vhost_backend.specs.Questions.{stale}
 use Rattle.vhost_backend.specs.Ring.{RingState}
 use Rattle.vhost_backend.specs.RingMemory.{MemoryStep, Returned, finishes}
-use Rattle.vhost_backend.specs.SetUp.{is_set_up, moved_queue}
+use Rattle.vhost_backend.specs.SetUp.{fresh_queue, is_set_up, moved_queue}
 use Rattle.vhost_backend.specs.Sound.{IsClear, Sound, SoundAt, ended_chain, pending}
 use Rattle.vhost_backend.specs.Story.{chain_of, of_id, returned}
 use Rattle.vhost_backend.specs.Wanted.{wanted_at}
@@ -47,7 +52,7 @@ use Rattle.vhost_backend.specs.declared.ring.actions.RingAction.TheVariants as a
 use Rattle.vhost_backend.specs.declared.rings.Event.TheVariants as event
 use Rattle.vhost_backend.specs.declared.wanted.Wanted.{Wanted}
 use Rattle.vhost_backend.specs.declared.wanted.Wanted.TheVariants as wanted
-use Rattle.vhost_backend.proofs.SoundLemmas.{SoundOf, based_sound, chains_of, finished_sound, gone_sound, hung_up_sound, kept_sound, reach_sound, told_sound}
+use Rattle.vhost_backend.proofs.SoundLemmas.{SoundOf, based_sound, chains_of, finished_sound, gone_sound, hung_up_sound, kept_sound, reach_sound, same_has, set_sound, told_sound}
 
 -- ---- steps without memory
 
@@ -64,8 +69,9 @@ first_sound w (wanted.Log size offset) sound = sound
 first_sound w (wanted.Descriptor purpose is) sound = sound
 first_sound w (wanted.Base ring) sound =
     let t = based w.queues ring (slice_get w.queues ring) in
-    finished_sound (record w { queues = t.0 }) t.1
+    finished_sound (record w { queues = t.0; questions = stale w.questions ring }) t.1
     (based_sound w.queues w.backend.rings.rings (pending w) ring sound)
+first_sound w wanted.Table sound = sound
 first_sound w wanted.Finish sound = finished_sound w finish.Done sound
 
 more_sound : (w : BlockBackend) (number : ℕ) (m : Option Mapping) → Sound w → Sound (asked_more_by w number m).0
@@ -81,7 +87,7 @@ counted_sound w n sound = go (nat_lt w.limits.unread n)
     go false = sound
 
 ended_sound : (w : BlockBackend) (o : Option Why) → Sound w → Sound (ended_by w o).0
-ended_sound w None sound = sound
+ended_sound w None sound = on_channel w (λ t. Sound t.0) (λ is. sound) (λ q d. sound) (λ q. sound)
 ended_sound w (Some y) sound = sound
 
 called_sound : (w : BlockBackend) (o : Option ℕ) → Sound w → Sound (called_up w o).0
@@ -153,9 +159,52 @@ other_given : (t : Returning) (ring : ℕ) (acts : List RingAction) (i : ℕ) �
     → chains_of None ring acts i ≡ chains_of (Some t) ring acts i
 other_given t ring acts i differs = rw (ne_eqb t.ring i (λ same. differs (sym same))) refl
 
-placed_asked : (q : BlockQueueState) (made : Result AnyQueue QueueError) → (placed q made).1.asked ≡ q.asked
-placed_asked q (Ok queue) = refl
-placed_asked q (Err e) = refl
+began_asked : (q : BlockQueueState) (made : Result AnyQueue QueueError) (log : Option ℕ)
+    → (began q made log).0.asked ≡ q.asked
+began_asked q (Ok queue) log = refl
+began_asked q (Err e) log = refl
+
+went_on_asked : (q : BlockQueueState) (made : Result AnyQueue QueueError) (log : Option ℕ)
+    → (went_on q made log).0.asked ≡ q.asked
+went_on_asked q (Ok queue) log = refl
+went_on_asked q (Err e) log = refl
+
+set_up_asked : (q : BlockQueueState) (max_size : ℕ) (vring : RunningVring) (features : ℕ) (fresh : Bool)
+    → (set_up q max_size vring features fresh).0.asked ≡ q.asked
+set_up_asked q max_size vring features true = began_asked q (fresh_queue max_size vring features) vring.log
+set_up_asked q max_size vring features false = go (not (is_set_up q.queue) || stays_at q vring)
+  where
+    go : (v : Bool) → (let t : BlockQueueState × Reached = if v then (q, reached.Fine)
+        else went_on q (moved_queue q.queue vring) vring.log in t.0.asked ≡ q.asked)
+    go true = refl
+    go false = went_on_asked q (moved_queue q.queue vring) vring.log
+
+set_up_sound : (qs : List BlockQueueState) (rs : List RingState) (chains : ℕ → List Chain) (ring max_size : ℕ)
+    (vring : RunningVring) (features : ℕ) (fresh : Bool) → SoundOf qs rs chains
+    → SoundOf (set_up_at qs ring max_size vring features fresh (slice_get qs ring)).0 rs chains
+set_up_sound qs rs chains ring max_size vring features fresh sound = go (slice_get qs ring) refl
+  where
+    go : (o : Option BlockQueueState) → slice_get qs ring ≡ o
+        → SoundOf (set_up_at qs ring max_size vring features fresh o).0 rs chains
+    go None found = sound
+    go (Some q) found = let q' = (set_up q max_size vring features fresh).0 in
+        set_sound qs rs chains chains ring q q' found (λ i differs. refl)
+        (λ r has. same_has q q' r (chains ring) (set_up_asked q max_size vring features fresh) has) sound
+
+places_sound : (w : BlockBackend) (v : Result RunningVring NotRunning) (fresh : Bool) → Sound w
+    → Sound (placed_by w v fresh)
+places_sound w (Err e) fresh sound = sound
+places_sound w (Ok vring) fresh sound =
+    let features = w.backend.connection.features in
+    let t = set_up_at w.queues w.todo.ring w.max_size vring features fresh (slice_get w.queues w.todo.ring) in
+    reach_sound (record w { queues = t.0 }) t.1
+    (set_up_sound w.queues w.backend.rings.rings (pending w) w.todo.ring w.max_size vring features fresh sound)
+
+freed_sound : (w : BlockBackend) (ring : ℕ) (before after : Option (ℕ × Permissions)) → Sound w
+    → Sound (freed_by w ring before after)
+freed_sound w ring None after sound = sound
+freed_sound w ring (Some t) None sound = sound
+freed_sound w ring (Some t) (Some u) sound = sound
 
 -- what the end of a request leaves of its queue
 abbrev Left : BlockQueueState → BlockQueueState → ℕ → Finished → Type 0
@@ -164,37 +213,6 @@ Left q q' id finished.Forgotten = q' ≡ with_asked q id None
 Left q q' id finished.NotUnderWay = is_some (asked_at q id) ≡ false
 
 module _ {H : Type 0} (step : H → (s : MemoryStep) → Returned s → H → Type 0) where
-  set_up_asked : (q : BlockQueueState) (max_size : ℕ) (vring : RunningVring) (features : ℕ) (fresh : Bool) (old : H)
-      (r : Reached) (q' : BlockQueueState) (new : H) → SetsUp step q max_size vring features fresh old r q' new
-      → q'.asked ≡ q.asked
-  set_up_asked q max_size vring features true old r q' new (made, reads, is) =
-      ap (λ t. t.1.asked) is ∙ placed_asked q made
-  set_up_asked q max_size vring features false old r q' new (is, still) =
-      ap (λ t. t.1.asked) is ∙ go (is_set_up q.queue)
-    where
-      go : (v : Bool) → (let t : Reached × BlockQueueState = if v then placed q (moved_queue q.queue vring)
-          else (reached.Fine, q) in t.1.asked ≡ q.asked)
-      go true = placed_asked q (moved_queue q.queue vring)
-      go false = refl
-
-  sets_up_sound : (w : BlockBackend) (vring : RunningVring) (fresh : Bool) (old : H) (w' : BlockBackend) (new : H)
-      → SetsUpAt step w vring fresh old w' new → Sound w → Sound w'
-  sets_up_sound w vring fresh old w' new (r, qs, with, is) sound =
-      let features = w.backend.connection.features in
-      subst Sound (sym is) (reach_sound (record w { queues = qs }) r (
-      kept_sound w.queues qs w.backend.rings.rings w.todo.ring reached.Fine old r new
-      (λ q r q'. SetsUp step q w.max_size vring features fresh old r q' new) with (pending w)
-      (λ q q' p. set_up_asked q w.max_size vring features fresh old r q' new p) sound))
-
-  places_sound : (w : BlockBackend) (place : Place) (old : H) (w' : BlockBackend) (new : H)
-      → Places step w place old w' new → Sound w → Sound w'
-  places_sound w place old w' new places sound = go place.vring places
-    where
-      go : (v : Result RunningVring NotRunning) → MatchResult v
-          (λ vring. SetsUpAt step w vring place.fresh old w' new) (λ e. (w' ≡ w) × (new ≡ old)) → Sound w'
-      go (Ok vring) p = sets_up_sound w vring place.fresh old w' new p sound
-      go (Err e) p = subst Sound (sym p.0) sound
-
   gives_sound : (w : BlockBackend) (t : Returning) (old : H) (w' : BlockBackend) (new : H)
       → GivesBackAt step (record w { returning = None }) t old w' new
       → SoundOf w.queues w.backend.rings.rings (chains_of (Some t) w.todo.ring w.todo.actions) → Sound w'
@@ -212,7 +230,7 @@ module _ {H : Type 0} (step : H → (s : MemoryStep) → Returned s → H → Ty
   finish_left q chain moved failed old r q' new = go (asked_at q chain.id) refl
     where
       wrote : (asked : Asked) (mid : H) (w : Result ℕ GuestMemoryError) → MatchResult w
-          (λ n. (r ≡ finished.Done n) × (q' ≡ q) × Marks step (chain_marks asked.chain) mid new)
+          (λ n. (r ≡ finished.Done (len_left asked n)) × (q' ≡ q) × Marks step (chain_marks asked.chain) mid new)
           (λ e. (r ≡ finished.Forgotten) × (q' ≡ with_asked q chain.id None) × (new ≡ mid)) → Left q q' chain.id r
       wrote asked mid (Ok n) (is, same, marks) = subst (Left q q' chain.id) (sym is) same
       wrote asked mid (Err e) (is, gone, still) = subst (Left q q' chain.id) (sym is) gone
@@ -222,7 +240,7 @@ module _ {H : Type 0} (step : H → (s : MemoryStep) → Returned s → H → Ty
           (λ asked. (w : Result ℕ GuestMemoryError) × (mid : H) × step old (finishes asked.chain
           (status_of asked.request failed) (written_of asked.request moved)) w mid
           × MatchResult w
-          (λ n. (r ≡ finished.Done n) × (q' ≡ q) × Marks step (chain_marks asked.chain) mid new)
+          (λ n. (r ≡ finished.Done (len_left asked n)) × (q' ≡ q) × Marks step (chain_marks asked.chain) mid new)
           (λ e. (r ≡ finished.Forgotten) × (q' ≡ with_asked q chain.id None) × (new ≡ mid))) → Left q q' chain.id r
       go None none (is, same, still) = subst (Left q q' chain.id) (sym is) (ap is_some none)
       go (Some asked) there (w, mid, steps, p) = wrote asked mid w p
@@ -356,8 +374,10 @@ module _ {H : Type 0} (step : H → (s : MemoryStep) → Returned s → H → Ty
 
       from : (o : Option Place) → StepsFrom step w o old m w' new → Sound w'
       from None p = returns w.returning refl p
-      from (Some place) (places, made) =
-          places_sound (record w { todo = record w.todo { place = None } }) place old w' new places sound
+      from (Some place) p = let v : BlockBackend = record w { todo = record w.todo { place = None } } in
+          let v' = placed_by v place.vring place.fresh in
+          subst Sound (sym p.0) (freed_sound v' v.todo.ring (awaited (slice_get v.queues v.todo.ring))
+          (awaited (slice_get v'.queues v.todo.ring)) (places_sound v place.vring place.fresh sound))
 
   -- so no return ends without one
   pub never_misses : (w : BlockBackend) (chain : Chain) (moved : ℕ) (failed : Bool) (old : H) (r : Finished)

@@ -11,11 +11,12 @@ use Rattle.vhost_user.specs.declared.backend_req_handler.Offer.{Offer}
 use Rattle.vhost_backend.proofs.AgreeLemmas.{all_found, turn_grows}
 use Rattle.vhost_backend.proofs.OwnWayLemmas.{get-set_other, get-set_same}
 use Rattle.vhost_backend.proofs.PopLemmas.{next_kept}
-use Rattle.vhost_backend.proofs.SoundLemmas.{SoundOf, at_goes, at_most_one, clear_pending, new_pending, same_has, set_sound, told_sound}
+use Rattle.vhost_backend.proofs.SoundLemmas.{SoundOf, asking_sound, at_goes, at_most_one, clear_pending, new_pending, same_has, set_sound, told_sound}
 use Rattle.vhost_backend.proofs.UnderWayLemmas.{counts, goes, goes_to, same_ids, story, story_quiet, waiting_quiet}
 use Rattle.vhost_backend.specs.Backend.{BackendState, after_event, is_outer}
+use Rattle.vhost_backend.specs.Behind.{HappensBy}
 use Rattle.vhost_backend.specs.BlockBackend.{Looks, TakesTurn, looked, new_block_backend, terms_of}
-use Rattle.vhost_backend.specs.BlockQueue.{Agrees, BlockQueueState, HappensNext, asked_at, asked_count, given, new_queue}
+use Rattle.vhost_backend.specs.BlockQueue.{Agrees, BlockQueueState, asked_at, asked_count, given, new_queue}
 use Rattle.vhost_backend.specs.BlockQueues.{Turns}
 use Rattle.vhost_backend.specs.BlockTurn as turn
 use Rattle.vhost_backend.specs.Messages.{Happening, Told, events_of_waiting, own_actions, ring_actions, to_do}
@@ -28,6 +29,7 @@ use Rattle.vhost_backend.specs.Story as ring_story
 use Rattle.vhost_backend.specs.Turns.{steps_of, story_of}
 use Rattle.vhost_backend.specs.declared.backend.Todo.{Todo}
 use Rattle.vhost_backend.specs.declared.block_backend.BlockBackend.{BlockBackend}
+use Rattle.vhost_backend.specs.Sight.{Sight}
 use Rattle.vhost_backend.specs.declared.deeds.Limits.{Limits}
 use Rattle.vhost_backend.specs.declared.request.Chain.{Chain}
 use Rattle.vhost_backend.specs.declared.ring.RingEvent.{RingEvent}
@@ -113,12 +115,12 @@ turn_parts s ring may = go (slice_get s.rings ring) refl may
 
 module _ {H : Type 0} (step : H → (s : MemoryStep) → Returned s → H → Type 0) where
   -- something happens to the ring that has its turn
-  event_sound : (w : BlockBackend) (q : BlockQueueState) (old : H) (e : RingEvent) (q' : BlockQueueState) (new : H)
+  event_sound : (way : Option Sight) (w : BlockBackend) (q : BlockQueueState) (old : H) (e : RingEvent) (q' : BlockQueueState) (new : H)
       → slice_get w.queues w.turn ≡ Some q → may_pop w.backend.rings w.turn ≡ true
-      → HappensNext step (terms_of w) q old (Some e) q' new → IsClear w → Sound w
+      → HappensBy step way (terms_of w) q old (Some e) q' new → IsClear w → Sound w
       → (let t = after_event w.backend (event.Ring w.turn e) in
       Sound (record w { queues = slice_set w.queues w.turn q'; backend = t.0; todo = t.1 }))
-  event_sound w q old e q' new found may next clear sound i = elim (cases_eq i w.turn) [
+  event_sound way w q old e q' new found may next clear sound i = elim (cases_eq i w.turn) [
     | inl same ↦ subst (λ k. SoundAt (slice_get (slice_set w.queues w.turn q') k) (slice_get b'.rings.rings k) (later k))
         (sym same) (subst (λ o. SoundAt o (slice_get b'.rings.rings w.turn) (later w.turn))
         (sym (get-set_same w.queues w.turn q' q found)) (own (slice_get b.rings.rings w.turn) refl
@@ -149,7 +151,7 @@ module _ {H : Type 0} (step : H → (s : MemoryStep) → Returned s → H → Ty
           → SoundAt (Some q') (slice_get b'.rings.rings w.turn) (later w.turn)
       own None there none = absurd none
       own (Some r) there (count, ids) = subst (λ o. SoundAt (Some q') o (later w.turn)) (sym (goes_to b x w.turn r there))
-          (has, (next_kept step (terms_of w) q old (Some e) q' new next).0 ∙ ids ∙ sym (same_ids b x w.turn r))
+          (has, (next_kept step way (terms_of w) q old (Some e) q' new next).0 ∙ ids ∙ sym (same_ids b x w.turn r))
         where
           clean : (id : ℕ) → asked_count q id ≡ busy r id
           clean id =
@@ -160,7 +162,7 @@ module _ {H : Type 0} (step : H → (s : MemoryStep) → Returned s → H → Ty
               ≡ length (of_id id (later w.turn)) + busy (after (story b x w.turn) r) id
           has id =
               let (turns, runs) = turn_parts b.rings w.turn may in
-              let grows = turn_grows step (terms_of w) q r clean ids (runs r there) old e q' new next id in
+              let grows = turn_grows step way (terms_of w) q r clean ids (runs r there) old e q' new next id in
               let pops : length (of_id id (popped (story b x w.turn) r)) ≡ length (of_id id (taken r (On e))) =
               ap (λ cs. length (of_id id cs)) (own_popped b w.turn e r turns) in
               let gone : length (of_id id (later w.turn)) ≡ length (of_id id (returned (ring_actions w.turn (to_do b x)))) =
@@ -168,9 +170,9 @@ module _ {H : Type 0} (step : H → (s : MemoryStep) → Returned s → H → Ty
               ∙ ap (λ cs. cs ++ returned (ring_actions w.turn (to_do b x))) (clear_pending w clear w.turn)) in
               omega (arith, grows, pops, gone, counts b x w.turn r there id, clean id)
 
-  turn_sound : (w : BlockBackend) (old : H) (is : Bool) (w' : BlockBackend) (new : H)
-      → TakesTurn step w old is w' new → IsClear w → Sound w → Sound w'
-  turn_sound w old is w' new (r, b, qs, with, none, was, becomes) clear sound =
+  turn_sound : (way : Option Sight) (w : BlockBackend) (old : H) (is : Bool) (w' : BlockBackend) (new : H)
+      → TakesTurn step way w old is w' new → IsClear w → Sound w → Sound w'
+  turn_sound way w old is w' new (r, b, qs, with, none, was, becomes) clear sound =
       subst Sound (sym becomes) (go (slice_get w.queues w.turn) refl with)
     where
       -- nothing happened to a ring
@@ -188,20 +190,21 @@ module _ {H : Type 0} (step : H → (s : MemoryStep) → Returned s → H → Ty
 
       told_something : (q q' : BlockQueueState) → slice_get w.queues w.turn ≡ Some q → qs ≡ slice_set w.queues w.turn q'
           → may_pop w.backend.rings w.turn ≡ true → (e : Option RingEvent)
-          → HappensNext step (terms_of w) q old e q' new → (b, r) ≡ turn.told w.backend w.turn e
+          → HappensBy step way (terms_of w) q old e q' new → (b, r) ≡ turn.told w.backend w.turn e
           → Sound (looked (record w { queues = qs; backend = b }) r)
       told_something q q' found set may None next is = still (ap (λ t. t.1) is) (ap (λ t. t.0) is)
           (subst (λ l. SoundOf l w.backend.rings.rings (pending w)) (sym set)
-          (kept q q' found ((next_kept step (terms_of w) q old None q' new next).1 refl)))
+          (kept q q' found ((next_kept step way (terms_of w) q old None q' new next).1 refl)))
       told_something q q' found set may (Some e) next is =
+          let t = after_event w.backend (event.Ring w.turn e) in
           subst (λ t. Sound (looked (record w { queues = qs; backend = t.0 }) t.1)) (sym is)
-          (subst (λ l. let t = after_event w.backend (event.Ring w.turn e) in
-          Sound (record w { queues = l; backend = t.0; todo = t.1 })) (sym set)
-          (event_sound w q old e q' new found may next clear sound))
+          (asking_sound (record w { queues = qs; backend = t.0; todo = t.1 }) w.turn
+          (subst (λ l. Sound (record w { queues = l; backend = t.0; todo = t.1 })) (sym set)
+          (event_sound way w q old e q' new found may next clear sound)))
 
       runs : (q q' : BlockQueueState) → slice_get w.queues w.turn ≡ Some q → qs ≡ slice_set w.queues w.turn q'
           → (v : Bool) → may_pop w.backend.rings w.turn ≡ v → MatchBool v
-          ((e : Option RingEvent) × HappensNext step (terms_of w) q old e q' new × ((b, r) ≡ turn.told w.backend w.turn e))
+          ((e : Option RingEvent) × HappensBy step way (terms_of w) q old e q' new × ((b, r) ≡ turn.told w.backend w.turn e))
           ((r ≡ None) × (b ≡ w.backend) × (q' ≡ q) × (new ≡ old))
           → Sound (looked (record w { queues = qs; backend = b }) r)
       runs q q' found set true may (e, next, is) = told_something q q' found set may e next is
@@ -211,17 +214,17 @@ module _ {H : Type 0} (step : H → (s : MemoryStep) → Returned s → H → Ty
 
       go : (o : Option BlockQueueState) → slice_get w.queues w.turn ≡ o
           → MatchOption o ((r ≡ None) × (qs ≡ w.queues) × (new ≡ old))
-          (λ q. (q' : BlockQueueState) × Turns step (terms_of w) w.turn w.backend b old new q r q'
+          (λ q. (q' : BlockQueueState) × Turns step way (terms_of w) w.turn w.backend b old new q r q'
           × (qs ≡ slice_set w.queues w.turn q')) → Sound (looked (record w { queues = qs; backend = b }) r)
       go None found (nil, same, quiet) = still nil (none found)
           (subst (λ l. SoundOf l w.backend.rings.rings (pending w)) (sym same) sound)
       go (Some q) found (q', turns, set) = runs q q' found set (may_pop w.backend.rings w.turn) refl turns
 
-  pub looks_sound : (w : BlockBackend) (old : H) (is : Bool) (w' : BlockBackend) (new : H)
-      → Looks step w old is w' new → IsClear w → Sound w → Sound w'
-  looks_sound w old is w' new (None, kicks, takes, turns) clear sound =
-      turn_sound (record w { kicks = kicks }) old is w' new turns clear sound
-  looks_sound w old is w' new (Some ring, kicks, takes, (was, becomes, same)) clear sound =
+  pub looks_sound : (way : Option Sight) (w : BlockBackend) (old : H) (is : Bool) (w' : BlockBackend) (new : H)
+      → Looks step way w old is w' new → IsClear w → Sound w → Sound w'
+  looks_sound way w old is w' new (None, kicks, takes, turns) clear sound =
+      turn_sound way (record w { kicks = kicks }) old is w' new turns clear sound
+  looks_sound way w old is w' new (Some ring, kicks, takes, (was, becomes, same)) clear sound =
       subst Sound (sym becomes) (told_sound (record w { kicks = kicks }) (event.Ring ring Kick) refl clear sound)
 
 -- ---- what that means

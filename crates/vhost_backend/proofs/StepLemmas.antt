@@ -1,9 +1,10 @@
 -- What a step has the program do: nothing only if nothing is left, and no reply comes but by a step without a deed.
-use Rattle.std.proofs.Common.{◌≡◌, ◌∙◌, ℕ, ◌+◌, ◌==◌, nat_lt, ◌&&◌, not, Bool, true, false, List, [], ◌∷◌, length, drop, Option, Some, None, is_none, Result, Ok, Err, if◌then◌else◌, refl, ap, sym, subst, arith}
+use Rattle.std.proofs.Common.{◌≡◌, ◌∙◌, ℕ, ◌+◌, ◌==◌, nat_lt, ◌&&◌, not, Bool, true, false, List, [], ◌∷◌, length, drop, Option, Some, None, is_none, Result, Ok, Err, if◌then◌else◌, refl, ap, sym, subst}
 use Rattle.std.specs.List.{slice_get}
 use Rattle.virtio_queue.specs.declared.error.QueueError.{QueueError}
+use Rattle.vhost_backend.proofs.ChannelLemmas.{on_channel}
 use Rattle.vhost_backend.specs.Backend.{is_over, mapping_at, over}
-use Rattle.vhost_backend.specs.BlockBackend.{Acts, ActsFirst, Returns, Steps, StepsFrom, asked_by, asked_first_by, asked_more_by, broke_if, called_up, counted, ended_by, hung_up, is_asked, is_done, is_quiet, notified, part_deed, replied, said_last, stepped_on, stepped_on_by}
+use Rattle.vhost_backend.specs.BlockBackend.{Acts, ActsFirst, Returns, Steps, StepsFrom, asked_by, asked_first_by, asked_more_by, broke_if, called_up, counted, ended_by, hung_up, is_asked, is_done, is_quiet, notified, part_deed, replied, said_last, stepped_on, stepped_on_by, may_ask}
 use Rattle.vhost_backend.specs.BlockQueues.{part_of}
 use Rattle.vhost_backend.specs.PageList.{capped}
 use Rattle.vhost_backend.specs.RingMemory.{MemoryStep, Returned}
@@ -58,6 +59,7 @@ first_keeps w wanted.Memory = refl
 first_keeps w (wanted.Log size offset) = refl
 first_keeps w (wanted.Descriptor purpose is) = refl
 first_keeps w (wanted.Base ring) = tt
+first_keeps w wanted.Table = refl
 first_keeps w wanted.Finish = tt
 
 more_keeps : (w : BlockBackend) (number : ℕ) (m : Option Mapping) → Keeps w.reply (asked_more_by w number m)
@@ -68,7 +70,7 @@ more_keeps w number (Some (Map region descriptor)) = refl
 
 ended_keeps : (w : BlockBackend) (o : Option Why) → Keeps w.reply (ended_by w o)
 unfolding Keeps
-ended_keeps w None = tt
+ended_keeps w None = on_channel w (Keeps w.reply) (λ is. tt) (λ q d. refl) (λ q. tt)
 ended_keeps w (Some y) = refl
 
 called_keeps : (w : BlockBackend) (o : Option ℕ) → Keeps w.reply (called_up w o)
@@ -106,6 +108,12 @@ kept : (d : Deed) (w' : BlockBackend) (reply : List ℕ) (t : BlockBackend × Ma
 unfolding Keeps
 kept d w' reply t is keeps = subst (Keeps reply) (sym is) keeps
 
+-- a message of which nothing becomes yet is no step
+pub quiet_goes_on : (w : BlockBackend) (o : Outcome) → true ≡ is_quiet o → broke_if w w.broken ≡ stepped_on_by w o
+quiet_goes_on w outcome.Stays is = refl
+quiet_goes_on w outcome.Begins is = absurd (cc)
+quiet_goes_on w (outcome.Refused e h) is = absurd (cc)
+
 -- ---- a step without a deed, after which none comes
 
 OnIdle : (BlockBackend → Type 0) → BlockBackend × Made → Type 0
@@ -114,7 +122,7 @@ OnIdle P (w, _) = Unit {0}
 
 -- what is left by then
 Said : BlockBackend → BlockBackend → Type 0
-Said w w' = (w' ≡ w) × ((length w.reply == 0) ≡ true) × (w.called ≡ None) × (w.end ≡ None)
+Said w w' = (w' ≡ w) × ((length w.reply == 0) ≡ true) × (w.called ≡ None) × (w.end ≡ None) × (may_ask w ≡ false)
 
 Asked : BlockBackend → Ask → BlockBackend → Type 0
 Asked w a w' = Said w w' × (is_asked a ≡ true)
@@ -136,7 +144,8 @@ last_idle w = go (length w.reply == 0) refl
           where
             end : (o : Option Why) → w.end ≡ o → OnIdle (Said w) (ended_by w o)
             end (Some y) none = tt
-            end None none = (refl, is, at, none)
+            end None none =
+                on_channel w (OnIdle (Said w)) (λ may. (refl, is, at, none, may)) (λ q d. tt) (λ q. tt)
 
 first_idle : (w : BlockBackend) (P : BlockBackend → Type 0) (x : Wanted) → OnIdle P (asked_first_by w x)
 unfolding OnIdle
@@ -145,6 +154,7 @@ first_idle w P wanted.Memory = tt
 first_idle w P (wanted.Log size offset) = tt
 first_idle w P (wanted.Descriptor purpose is) = tt
 first_idle w P (wanted.Base ring) = tt
+first_idle w P wanted.Table = tt
 first_idle w P wanted.Finish = tt
 
 more_idle : (w : BlockBackend) (P : BlockBackend → Type 0) (number : ℕ) (m : Option Mapping)
@@ -189,18 +199,18 @@ no_first : (acts : List RingAction) → slice_get acts 0 ≡ None → acts ≡ [
 no_first [] is = refl
 no_first (a ∷ acts) is = absurd (cc)
 
-nine : (a b c d e f g h i : Bool) → a ≡ true → b ≡ true → c ≡ true → d ≡ true → e ≡ false → f ≡ true → g ≡ true
-    → h ≡ true → i ≡ true → (a && b && c && d && not e && f && g && h && i) ≡ true
-nine a b c d e f g h i p q r s t u v x y = rw (p, q, r, s, t, u, v, x, y) refl
+ten : (a b c d e f g h i j : Bool) → a ≡ true → b ≡ true → c ≡ true → d ≡ true → e ≡ false → f ≡ true → g ≡ true
+    → h ≡ true → i ≡ true → j ≡ false → (a && b && c && d && not e && f && g && h && i && not j) ≡ true
+ten a b c d e f g h i j p q r s t u v x y z = rw (p, q, r, s, t, u, v, x, y, z) refl
 
 all_done : (w : BlockBackend) → w.todo.place ≡ None → w.todo.actions ≡ [] → is_quiet w.todo.message ≡ true
     → w.returning ≡ None → w.broken ≡ false → is_asked w.ask ≡ true → (length w.reply == 0) ≡ true
-    → w.called ≡ None → w.end ≡ None → is_done w ≡ true
-all_done w place actions quiet returning broken asked reply called end =
-    nine (is_none w.todo.place) (length w.todo.actions == 0) (is_quiet w.todo.message) (is_none w.returning) w.broken
-    (is_asked w.ask) (length w.reply == 0) (is_none w.called) (is_none w.end)
+    → w.called ≡ None → w.end ≡ None → may_ask w ≡ false → is_done w ≡ true
+all_done w place actions quiet returning broken asked reply called end may =
+    ten (is_none w.todo.place) (length w.todo.actions == 0) (is_quiet w.todo.message) (is_none w.returning) w.broken
+    (is_asked w.ask) (length w.reply == 0) (is_none w.called) (is_none w.end) (may_ask w)
     (ap is_none place) (ap (λ (acts : List RingAction). length acts == 0) actions) quiet (ap is_none returning) broken asked
-    reply (ap is_none called) (ap is_none end)
+    reply (ap is_none called) (ap is_none end) may
 
 -- ---- steps
 
@@ -274,7 +284,7 @@ module _ {H : Type 0} (step : H → (s : MemoryStep) → Returned s → H → Ty
           let known : On taken w.todo.message w' =
           idle_at (On taken w.todo.message) w' (stepped_on taken) p.0 (on_idle taken w.todo.message) in
           let said = known.0.0 in (
-            all_done w at empty known.2 none known.1 known.0.1 said.1 said.2 said.3,
+            all_done w at empty known.2 none known.1 known.0.1 said.1 said.2 said.3 said.4,
             said.0 ∙ ap (λ (acts : List RingAction). record w { todo = record w.todo { actions = acts } })
                 (same w.todo.actions empty),
             p.1,

@@ -210,20 +210,20 @@ module _ (b : BackendState) where
       quiet-append (events_until u) (events_if_due b request payload (is_due u (waited b.rings u).1)) (until_quiet u)
       (due_quiet b request payload (is_due u (waited b.rings u).1))
 
-  decoded_quiet : (payload : List ℕ) (n : ℕ) (o : Result FrontendReq Refusal)
-      → Quiet (events_of_decoded b payload n o)
-  decoded_quiet payload n (Err e) = tt
-  decoded_quiet payload n (Ok request) = go (n == descriptors_of request)
+  decoded_quiet : (payload : List ℕ) (n : ℕ) (used : Bool) (o : Result FrontendReq Refusal)
+      → Quiet (events_of_decoded b payload n used o)
+  decoded_quiet payload n used (Err e) = tt
+  decoded_quiet payload n used (Ok request) = go (n == descriptors_of request)
     where
-      go : (right : Bool) → Quiet (if right then events_of_request b request payload (until_of b request) else [])
-      go true = request_quiet request payload (until_of b request)
+      go : (right : Bool) → Quiet (if right then events_of_request b request payload (until_of b used request) else [])
+      go true = request_quiet request payload (until_of b used request)
       go false = tt
 
-  pub came_quiet : (h : Header) (payload : List ℕ) (n : ℕ) → Quiet (events_of b (Came h payload n))
-  came_quiet h payload n = go (is_free b.taken)
+  pub came_quiet : (h : Header) (payload : List ℕ) (n : ℕ) (used : Bool) → Quiet (events_of b (Came h payload n used))
+  came_quiet h payload n used = go (is_free b.taken)
     where
-      go : (free : Bool) → Quiet (if free then events_of_decoded b payload n (request_of h payload) else [])
-      go true = decoded_quiet payload n (request_of h payload)
+      go : (free : Bool) → Quiet (if free then events_of_decoded b payload n used (request_of h payload) else [])
+      go true = decoded_quiet payload n used (request_of h payload)
       go false = tt
 
   pub end_quiet : (end : Finish) → Quiet (events_of b (Done end))

@@ -1,16 +1,20 @@
 -- A page that waits to be marked waits until it is given, and marks come before all else.
-use Rattle.std.proofs.Common.{◌≡◌, ◌∙◌, ◌⊎◌, ℕ, ◌+◌, ◌-◌, ◌==◌, ◌^◌, nat_lt, ◌&&◌, Bool, true, false, List, [], ◌∷◌, ◌++◌, Option, Some, None, is_none, if◌then◌else◌, refl, ap, sym, subst, inl, inr, arith, append_assoc}
+use Rattle.std.proofs.Common.{◌≡◌, ◌∙◌, ◌⊎◌, ℕ, ◌^◌, nat_lt, ◌&&◌, Bool, true, false, List, [], ◌∷◌, ◌++◌, Option, Some, None, is_none, if◌then◌else◌, refl, ap, sym, subst, inl, inr, append_assoc, ◌+◌, ◌-◌, ◌==◌, arith, is_some}
 use Rattle.std.specs.List.{flat_map, slice_get}
 use Rattle.std.specs.Option.{option_to_list}
 use Rattle.vm_memory_guest.specs.Memory.{Memory}
+use Rattle.vm_memory_guest.specs.declared.host.TlbId.{TlbId}
 use Rattle.vhost_message.specs.declared.regions.MemoryRegion.{MemoryRegion}
+use Rattle.vhost_user.specs.Features.{access_platform, has}
 use Rattle.vhost_user.specs.Log.{log_kept}
 use Rattle.vhost_backend.specs.BlockBackend.{hung_up, is_done}
-use Rattle.vhost_backend.specs.BlockConnection.{is_covered, looked_after, pages_in, with_backend, with_log}
-use Rattle.vhost_backend.specs.ConnectionMemory.{Joins, MemoryState, marks_nothing, memory_of, memory_step, with_pages}
-use Rattle.vhost_backend.specs.PageList.{InAny, InRange, IsToMark, NoneToMark, Pages, TakesRange, added_if, marked, pages_of}
-use Rattle.vhost_backend.specs.RingMemory.{Logs, MemoryStep, Returned, adds_used, begins, enables, finishes, marks, needs, pops, reads_used}
-use Rattle.vhost_backend.specs.Run.{Course, EventBy, Follows, GivesBy, LooksBy, MayStep, Move, MoveBy, Moves, StepsTo, after_sent, does, end_of, end_taken, ends_of, gives_marks, gives_part, goes_on, looked, looks, loses, open_part, part_ended, takes_end, takes_turn, with_connection}
+use Rattle.vhost_backend.specs.BlockConnection.{as_negotiated, is_covered, looked_after, pages_in, with_backend}
+use Rattle.vhost_backend.specs.BlockTable.{memory_lost}
+use Rattle.vhost_backend.specs.ConnectionMemory.{Joins, MemoryState, marks_nothing, memory_of, memory_step, ring_memory_of, ring_table_of, way_of, with_behind, with_pages, emptied}
+use Rattle.vhost_backend.specs.PageList.{InAny, InRange, IsToMark, NoneToMark, Pages, TakesRange}
+use Rattle.vhost_backend.specs.RingMemory.{Logs, MemoryStep, Returned, adds_used, begins, enables, finishes, forgets, keeps, marks, marks_ring, needs, pops, reads_used}
+use Rattle.vhost_backend.specs.Run.{Applies, Course, EventBy, Follows, GivesBy, LooksBy, MayStep, Move, MoveBy, Moves, StepsTo, after_sent, after_stop, does, end_of, end_taken, ends_of, gives_marks, gives_part, goes_on, looked, looks, loses, open_part, part_ended, takes_end, takes_turn, with_connection}
+use Rattle.vhost_backend.specs.Rings.{all_stopped}
 use Rattle.vhost_backend.specs.RunLaws.{GivesPage, IsGiven, Waits, is_marks}
 use Rattle.vhost_backend.specs.declared.block.BlockStep.{BlockStep}
 use Rattle.vhost_backend.specs.declared.block_backend.BlockBackend.{BlockBackend}
@@ -23,8 +27,9 @@ use Rattle.vhost_backend.specs.declared.deeds.Why.TheVariants.{Log}
 use Rattle.vhost_backend.specs.declared.page_list.PageRange.{PageRange}
 use Rattle.vhost_backend.specs.declared.ring_memory.Logged.{Logged}
 use Rattle.vhost_backend.specs.declared.rows.EndRow.{EndRow}
-use Rattle.vhost_backend.proofs.KeepLemmas.{looks_keep, steps_keep}
-use Rattle.vhost_backend.proofs.PageLemmas.{any_of, still_to_mark}
+use Rattle.vhost_backend.proofs.KeepLemmas.{changes_table_keep, looks_keep, steps_keep}
+use Rattle.vhost_backend.proofs.PageLemmas.{any_of}
+use Rattle.vhost_backend.proofs.RingMarkLemmas.{marked_still, ring_still}
 
 -- ---- steps
 
@@ -44,22 +49,22 @@ grows_same : (old new : Logged (Unit {0})) → new.pages ≡ old.pages → Grows
 unfolding Grows
 grows_same old new is page was = subst (IsToMark page) (sym is) was
 
-grows_marked : (l : Pages) (o : Option PageRange) (page : ℕ) → IsToMark page l → IsToMark page (added_if l o)
-grows_marked l None page is = is
-grows_marked l (Some range) page is = still_to_mark page l range is
-
-grows_each : (m : Memory) (old : Logged (Unit {0})) (s : MemoryStep) (r : Returned s) (new : Logged (Unit {0}))
-    → Logs marks_nothing m old s r new → Grows old new
+grows_each : (m guest : Memory) (t : Option TlbId) (old : Logged (Unit {0})) (s : MemoryStep) (r : Returned s)
+    (new : Logged (Unit {0})) → Logs marks_nothing m guest t old s r new → Grows old new
 unfolding Grows
-grows_each m old (marks base offset len) r new p =
-    λ page is. subst (IsToMark page) (sym p.1) (grows_marked old.pages (pages_of old.pages.pages base offset len) page is)
-grows_each m old (pops q) r new p = grows_same old new p.1
-grows_each m old (adds_used q buffer len) r new p = grows_same old new p.1
-grows_each m old (needs q) r new p = grows_same old new p.1
-grows_each m old (enables q) r new p = grows_same old new p.1
-grows_each m old (begins terms chain) r new p = grows_same old new p.1
-grows_each m old (finishes chain status moved) r new p = grows_same old new p.1
-grows_each m old (reads_used q) r new p = grows_same old new p.1
+grows_each m guest t old (marks base offset len) r new p =
+    λ page is. subst (IsToMark page) (sym p.1) (marked_still old.pages base offset len page is)
+grows_each m guest t old (marks_ring base offset len) r new p =
+    λ page is. subst (IsToMark page) (sym p.1) (ring_still t old.host.tables old.pages base offset len page is)
+grows_each m guest t old (pops q) r new p = grows_same old new p.1
+grows_each m guest t old (adds_used q buffer len) r new p = grows_same old new p.1
+grows_each m guest t old (needs q) r new p = grows_same old new p.1
+grows_each m guest t old (enables q) r new p = grows_same old new p.1
+grows_each m guest t old (begins terms chain) r new p = grows_same old new p.1
+grows_each m guest t old (finishes chain status moved) r new p = grows_same old new p.1
+grows_each m guest t old (reads_used q) r new p = grows_same old new p.1
+grows_each m guest t old (keeps k) r new p = grows_same old new p.1
+grows_each m guest t old (forgets k) r new p = grows_same old new p.1
 
 -- ---- a connection
 
@@ -74,12 +79,13 @@ keeps_by c c' is page was = subst (IsToMark page) (sym is) was
 step_keeps : (c c' : BlockConnection) (m : Made) → StepsTo c m c' → Keeps c c'
 unfolding Keeps Grows
 step_keeps c c' m (steps, is) = steps_keep (memory_step c.memory) Grows grows_stay grows_then
-    (grows_each (memory_of c.memory)) c.backend c.memory.logged m c'.backend c'.memory.logged steps
+    (grows_each (ring_memory_of c.memory) (memory_of c.memory) (ring_table_of c.memory)) c.backend c.memory.logged m c'.backend c'.memory.logged steps
 
 look_keeps : (c c' : BlockConnection) (v : Bool) → LooksBy c v c' → Keeps c c'
 unfolding Keeps Grows
 look_keeps c c' v (by, is) = looks_keep (memory_step c.memory) Grows grows_stay grows_then
-    (grows_each (memory_of c.memory)) c.backend c.memory.logged v c'.backend c'.memory.logged by
+    (grows_each (ring_memory_of c.memory) (memory_of c.memory) (ring_table_of c.memory)) (way_of c.memory c.backend)
+    c.backend c.memory.logged v c'.backend c'.memory.logged by
 
 sent_pages : (d : Deed) (c : BlockConnection) → (after_sent d c).memory.logged.pages ≡ c.memory.logged.pages
 sent_pages deed.Send c = refl
@@ -93,6 +99,9 @@ sent_pages (deed.Interrupt ring) c = refl
 sent_pages (deed.Tell ring) c = refl
 sent_pages (deed.Stopped ring) c = refl
 sent_pages (deed.End y) c = refl
+sent_pages deed.Table c = refl
+sent_pages (deed.Ask miss) c = refl
+sent_pages (deed.Deny miss) c = refl
 
 open_pages : (c : BlockConnection) (ring id : ℕ) (part : BlockStep) (left : ℕ) (v : Bool)
     → (open_part c ring id part left v).memory.logged.pages ≡ c.memory.logged.pages
@@ -101,33 +110,55 @@ open_pages c ring id part left false = refl
 
 joined_pages : (m m' : MemoryState) (regions : List MemoryRegion) (v : Bool) → Joins m regions v m'
     → m'.logged.pages ≡ m.logged.pages
-joined_pages m m' regions true joins = ap (λ (l : Logged (Unit {0})). l.pages) joins.0
+joined_pages m m' regions true (none, lies, is) = ap (λ (n : MemoryState). n.logged.pages) is
 joined_pages m m' regions false is = ap (λ (n : MemoryState). n.logged.pages) is
 
-follow_pages : (c c' : BlockConnection) (d : Deed) → Follows c d c' → c'.memory.logged.pages ≡ c.memory.logged.pages
-follow_pages c c' deed.Send is = ap (λ (v : BlockConnection). v.memory.logged.pages) is
-follow_pages c c' deed.UnmapAll is = ap (λ (v : BlockConnection). v.memory.logged.pages) is
-follow_pages c c' (deed.Map region descriptor) is = ap (λ (v : BlockConnection). v.memory.logged.pages) is
-follow_pages c c' deed.Join (m, v, joins, is) = ap (λ (v : BlockConnection). v.memory.logged.pages) is
-    ∙ joined_pages c.memory m c.backend.backend.connection.memory v joins
-follow_pages c c' (deed.Log size offset) is = ap (λ (v : BlockConnection). v.memory.logged.pages) is
-follow_pages c c' (deed.Keep p v) is = ap (λ (v : BlockConnection). v.memory.logged.pages) is
-follow_pages c c' (deed.Part ring id part left) (v, lies, is) = ap (λ (v : BlockConnection). v.memory.logged.pages) is
-    ∙ open_pages c ring id part left v
-follow_pages c c' (deed.Interrupt ring) is = ap (λ (v : BlockConnection). v.memory.logged.pages) is
-follow_pages c c' (deed.Tell ring) is = ap (λ (v : BlockConnection). v.memory.logged.pages) is
-follow_pages c c' (deed.Stopped ring) is = ap (λ (v : BlockConnection). v.memory.logged.pages) is
-follow_pages c c' (deed.End y) is = ap (λ (v : BlockConnection). v.memory.logged.pages) is
+stop_pages : (c : BlockConnection) → (after_stop c).memory.logged.pages ≡ c.memory.logged.pages
+stop_pages c = go (all_stopped c.backend.backend.rings)
+  where
+    go : (v : Bool) → (let d : BlockConnection = if v
+        then record c { memory = emptied c.memory; backend = memory_lost c.backend } else c in
+        d.memory.logged.pages ≡ c.memory.logged.pages)
+    go true = refl
+    go false = refl
+
+apply_keeps : (c c' : BlockConnection) → Applies c c' → Keeps c c'
+unfolding Keeps Grows
+apply_keeps c c' (n, w, t, logged, changes, evicts, is) page was = subst (IsToMark page)
+    (sym (ap (λ (d : BlockConnection). d.memory.logged.pages) is))
+    (changes_table_keep (memory_step c.memory) Grows grows_stay grows_then
+    (grows_each (ring_memory_of c.memory) (memory_of c.memory) (ring_table_of c.memory)) c.backend c.memory.table
+    c.memory.logged (is_some n) w t logged changes page was)
+
+follow_keeps : (c c' : BlockConnection) (d : Deed) → Follows c d c' → Keeps c c'
+follow_keeps c c' deed.Send is = keeps_by c c' (ap (λ (v : BlockConnection). v.memory.logged.pages) is)
+follow_keeps c c' deed.UnmapAll is = keeps_by c c' (ap (λ (v : BlockConnection). v.memory.logged.pages) is)
+follow_keeps c c' (deed.Map region descriptor) is =
+    keeps_by c c' (ap (λ (v : BlockConnection). v.memory.logged.pages) is)
+follow_keeps c c' deed.Join (m, v, joins, is) = keeps_by c c' (ap (λ (v : BlockConnection). v.memory.logged.pages) is
+    ∙ joined_pages c.memory m c.backend.backend.connection.memory v joins)
+follow_keeps c c' (deed.Log size offset) is = keeps_by c c' (ap (λ (v : BlockConnection). v.memory.logged.pages) is)
+follow_keeps c c' (deed.Keep p v) is = keeps_by c c' (ap (λ (v : BlockConnection). v.memory.logged.pages) is)
+follow_keeps c c' (deed.Part ring id part left) (v, lies, is) =
+    keeps_by c c' (ap (λ (v : BlockConnection). v.memory.logged.pages) is ∙ open_pages c ring id part left v)
+follow_keeps c c' (deed.Interrupt ring) is = keeps_by c c' (ap (λ (v : BlockConnection). v.memory.logged.pages) is)
+follow_keeps c c' (deed.Tell ring) is = keeps_by c c' (ap (λ (v : BlockConnection). v.memory.logged.pages) is)
+follow_keeps c c' (deed.Stopped ring) is =
+    keeps_by c c' (ap (λ (v : BlockConnection). v.memory.logged.pages) is ∙ stop_pages c)
+follow_keeps c c' (deed.End y) is = keeps_by c c' (ap (λ (v : BlockConnection). v.memory.logged.pages) is)
+follow_keeps c c' deed.Table applies = apply_keeps c c' applies
+follow_keeps c c' (deed.Ask miss) is = keeps_by c c' (ap (λ (v : BlockConnection). v.memory.logged.pages) is)
+follow_keeps c c' (deed.Deny miss) is = keeps_by c c' (ap (λ (v : BlockConnection). v.memory.logged.pages) is)
 
 log_keeps : (page : ℕ) (c : BlockConnection) → IsToMark page c.memory.logged.pages
-    → IsToMark page (with_log c).memory.logged.pages
+    → IsToMark page (as_negotiated c).memory.logged.pages
 log_keeps page c was = go (is_covered c.backend.backend.connection)
   where
     logs : BlockConnection
     logs = record c {
-      memory = with_pages c.memory (record c.memory.logged.pages {
+      memory = with_behind (with_pages c.memory (record c.memory.logged.pages {
         pages = pages_in (log_kept c.backend.backend.connection);
-      });
+      })) (has c.backend.backend.connection.features access_platform);
     }
 
     go : (v : Bool) → IsToMark page (if v then logs else with_backend logs (hung_up logs.backend Log)).memory.logged.pages
@@ -141,7 +172,7 @@ looked_keeps page c was = go c.backend.finished
     seen : BlockConnection
     seen = with_backend c (record c.backend { finished = false })
 
-    go : (v : Bool) → IsToMark page (if v then with_log seen else seen).memory.logged.pages
+    go : (v : Bool) → IsToMark page (if v then as_negotiated seen else seen).memory.logged.pages
     go true = log_keeps page seen was
     go false = was
 
@@ -169,9 +200,8 @@ gives_keep page c c' (gives_marks range) (l, takes, is) was =
 gives_keep page c c' (gives_part p pieces to) (may, at, gives) was =
     inl (subst (λ (v : BlockConnection). IsToMark page v.memory.logged.pages) (sym gives.2) was)
 gives_keep page c c' (does d bytes) (may, none, (mid, steps, sent, follows)) was =
-    let same : c'.memory.logged.pages ≡ mid.memory.logged.pages =
-    follow_pages (after_sent d mid) c' d follows ∙ sent_pages d mid in
-    inl (subst (IsToMark page) (sym same) (step_keeps c mid (made.Deed d) steps page was))
+    inl (follow_keeps (after_sent d mid) c' d follows page (subst (IsToMark page) (sym (sent_pages d mid))
+    (step_keeps c mid (made.Deed d) steps page was)))
 gives_keep page c c' goes_on (may, none, steps) was = inl (step_keeps c c' made.Again steps page was)
 gives_keep page c c' loses none was = absurd none
 gives_keep page c c' (takes_end e) none was = absurd none
@@ -229,7 +259,8 @@ both false b is = absurd (cc)
 
 done_returns_none : (w : BlockBackend) → is_done w ≡ true → is_none w.returning ≡ true
 done_returns_none w is =
-    let a = both _ _ is in
+    let all = both _ _ is in
+    let a = both _ _ all.0 in
     let b = both _ _ a.0 in
     let c = both _ _ b.0 in
     let d = both _ _ c.0 in
@@ -274,11 +305,22 @@ sent_marks (deed.Interrupt ring) c = refl
 sent_marks (deed.Tell ring) c = refl
 sent_marks (deed.Stopped ring) c = refl
 sent_marks (deed.End y) c = refl
+sent_marks deed.Table c = refl
+sent_marks (deed.Ask miss) c = refl
+sent_marks (deed.Deny miss) c = refl
 
 open_marks : (c : BlockConnection) (ring id : ℕ) (part : BlockStep) (left : ℕ) (v : Bool)
     → (open_part c ring id part left v).marks ≡ c.marks
 open_marks c ring id part left true = refl
 open_marks c ring id part left false = refl
+
+stop_marks : (c : BlockConnection) → (after_stop c).marks ≡ c.marks
+stop_marks c = go (all_stopped c.backend.backend.rings)
+  where
+    go : (v : Bool) → (let d : BlockConnection = if v
+        then record c { memory = emptied c.memory; backend = memory_lost c.backend } else c in d.marks ≡ c.marks)
+    go true = refl
+    go false = refl
 
 follow_marks : (c c' : BlockConnection) (d : Deed) → Follows c d c' → c'.marks ≡ c.marks
 follow_marks c c' deed.Send is = ap (λ (v : BlockConnection). v.marks) is
@@ -291,17 +333,20 @@ follow_marks c c' (deed.Part ring id part left) (v, lies, is) = ap (λ (v : Bloc
     ∙ open_marks c ring id part left v
 follow_marks c c' (deed.Interrupt ring) is = ap (λ (v : BlockConnection). v.marks) is
 follow_marks c c' (deed.Tell ring) is = ap (λ (v : BlockConnection). v.marks) is
-follow_marks c c' (deed.Stopped ring) is = ap (λ (v : BlockConnection). v.marks) is
+follow_marks c c' (deed.Stopped ring) is = ap (λ (v : BlockConnection). v.marks) is ∙ stop_marks c
 follow_marks c c' (deed.End y) is = ap (λ (v : BlockConnection). v.marks) is
+follow_marks c c' deed.Table (n, w, t, logged, changes, evicts, is) = ap (λ (v : BlockConnection). v.marks) is
+follow_marks c c' (deed.Ask miss) is = ap (λ (v : BlockConnection). v.marks) is
+follow_marks c c' (deed.Deny miss) is = ap (λ (v : BlockConnection). v.marks) is
 
-log_marks : (c : BlockConnection) → (with_log c).marks ≡ c.marks
+log_marks : (c : BlockConnection) → (as_negotiated c).marks ≡ c.marks
 log_marks c = go (is_covered c.backend.backend.connection)
   where
     logs : BlockConnection
     logs = record c {
-      memory = with_pages c.memory (record c.memory.logged.pages {
+      memory = with_behind (with_pages c.memory (record c.memory.logged.pages {
         pages = pages_in (log_kept c.backend.backend.connection);
-      });
+      })) (has c.backend.backend.connection.features access_platform);
     }
 
     go : (v : Bool) → (if v then logs else with_backend logs (hung_up logs.backend Log)).marks ≡ c.marks
@@ -314,7 +359,7 @@ looked_marks c = go c.backend.finished
     seen : BlockConnection
     seen = with_backend c (record c.backend { finished = false })
 
-    go : (v : Bool) → (if v then with_log seen else seen).marks ≡ c.marks
+    go : (v : Bool) → (if v then as_negotiated seen else seen).marks ≡ c.marks
     go true = log_marks seen
     go false = refl
 

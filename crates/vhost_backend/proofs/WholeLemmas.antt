@@ -1,15 +1,28 @@
 -- Each call of a back end as a whole is something that happens to its connection, or nothing.
-use Rattle.std.proofs.Common.{◌≡◌, ◌∙◌, ℕ, ◌+◌, nat_lt, ◌&&◌, ◌==◌, Bool, true, false, List, [], ◌∷◌, length, drop, Option, Some, None, Result, Ok, Err, MatchBool, MatchOption, MatchResult, if◌then◌else◌, refl, ap}
+use Rattle.std.proofs.Common.{◌≡◌, ◌∙◌, ℕ, ◌+◌, nat_lt, ◌&&◌, ◌==◌, Bool, true, false, List, [], ◌∷◌, length, drop, Option, Some, None, Result, Ok, Err, MatchBool, MatchOption, if◌then◌else◌, refl, ap}
 use Rattle.std.specs.List.{slice_get, slice_set}
+use Rattle.vm_memory_base.specs.Table.{Table}
+use Rattle.vhost_backend.proofs.ChannelLemmas.{on_channel}
+use Rattle.vhost_backend.proofs.TableLemmas.{asking_kept, memory_kept, reply_kept, table_kept}
+use Rattle.vm_memory_base.specs.declared.iotlb.Permissions.{Permissions}
+use Rattle.vhost_backend.specs.BlockTable.{ChangesTable, freed_by, memory_lost}
+use Rattle.vhost_backend.specs.TableUse.{awaited}
+use Rattle.vhost_backend.specs.Questions.{QuestionsState, after_reply}
+use Rattle.vhost_backend.specs.declared.questions.SentMiss.{SentMiss}
+use Rattle.vhost_message.specs.FrontendReq.{request_of}
+use Rattle.vhost_message.specs.declared.backend_req.BackendReply.{BackendReply}
 use Rattle.vhost_message.specs.declared.header.Header.{Header}
+use Rattle.vhost_message.specs.declared.refusal.Refusal as reason
+use Rattle.vhost_message.specs.declared.refusal.Refusal.TheVariants.{Direction}
 use Rattle.vhost_user.specs.Reply.{refused}
 use Rattle.vhost_user.specs.declared.vring.NotRunning.{NotRunning}
 use Rattle.vhost_user.specs.declared.vring.RunningVring.{RunningVring}
 use Rattle.virtio_queue.specs.declared.error.QueueError.{QueueError}
 use Rattle.vhost_backend.specs.Backend.{BackendState, after_message, is_free, is_over, mapping_at}
-use Rattle.vhost_backend.specs.BlockBackend.{Acts, ActsFirst, GivesBackAt, Looks, Places, Returns, SetsUpAt, Steps, StepsFrom, TakesTurn, after_reach, answered, answered_at, asked_by, asked_first_by, asked_more_by, broke_if, called_up, came, counted, ended_by, ended_with, finished_by, gone_on, hung_up, is_done, looked, mapped, mapped_at, messaged, replied, said_last, stepped_on_by, terms_of, told}
+use Rattle.vhost_backend.specs.BlockBackend.{Acts, ActsFirst, GivesBackAt, Looks, Returns, Steps, StepsFrom, TakesTurn, after_reach, answered, answered_at, asked_by, asked_first_by, asked_more_by, broke_if, called_up, came, counted, ended_by, ended_with, finished_by, gone_on, hung_up, is_done, looked, mapped, mapped_at, messaged, placed_by, replied, said_last, stepped_on_by, terms_of, told, in_use, taken_by, with_change, reply_by, replied_to}
+use Rattle.vhost_backend.specs.Behind.{HappensBy}
 use Rattle.vhost_backend.specs.BlockQueue.{BlockQueueState, HappensNext}
-use Rattle.vhost_backend.specs.BlockQueues.{Turns, based}
+use Rattle.vhost_backend.specs.BlockQueues.{Turns, based, set_up_at}
 use Rattle.vhost_backend.specs.BlockTurn as turn
 use Rattle.vhost_backend.specs.Messages.{Came, Done, Told, HungUp, stepped}
 use Rattle.vhost_backend.specs.PageList.{capped}
@@ -27,6 +40,7 @@ use Rattle.vhost_backend.specs.declared.deeds.Ask.{Ask}
 use Rattle.vhost_backend.specs.declared.deeds.Ask.TheVariants as ask
 use Rattle.vhost_backend.specs.declared.block_backend.BlockBackend.{BlockBackend}
 use Rattle.vhost_backend.specs.declared.block_backend.Returning.{Returning}
+use Rattle.vhost_backend.specs.Sight.{Sight}
 use Rattle.vhost_backend.specs.declared.block_queue.Finished.{Finished}
 use Rattle.vhost_backend.specs.declared.block_queue.Finished.TheVariants as finished
 use Rattle.vhost_backend.specs.declared.request.Chain.{Chain}
@@ -79,9 +93,9 @@ pub came_leads : (w : BlockBackend) (h : Header) (payload : List ℕ) (descripto
 came_leads w h payload descriptors = go (is_done w && is_free w.backend.taken)
   where
     go : (v : Bool) → Leads w.backend (let r : BlockBackend × Bool = (if v
-        then (let t = after_message w.backend h payload descriptors in (record w { backend = t.0; todo = t.1 }, true))
+        then (let v = with_change w (request_of h payload) in (taken_by v h payload descriptors (in_use v), true))
         else (w, false)) in r.0.backend)
-    go true = (Came h payload descriptors ∷ [], refl)
+    go true = (Came h payload descriptors (in_use (with_change w (request_of h payload))) ∷ [], refl)
     go false = stays w.backend
 
 pub mapped_leads : (w : BlockBackend) (is : Bool) → Leads w.backend (mapped w is).backend
@@ -106,6 +120,24 @@ answered_leads w is = go w.ask is
     go (ask.Mapped number) is = stays w.backend
     go (ask.Region number) is = stays w.backend
 
+pub replied_leads : (w : BlockBackend) (r : Result BackendReply reason.Refusal) → Leads w.backend (replied_to w r).0.backend
+replied_leads w (Err e) = hung_up_leads w (why.Refused e)
+replied_leads w (Ok r) = go (r.request == 1)
+  where
+    by : (t : QuestionsState × Option SentMiss) → Leads w.backend (reply_by w r.value t).0.backend
+    by (q, Some one) = reply_kept (λ v. Leads w.backend v.backend) (λ v q p. p) (λ v ks p. p) (λ v n q l found p. p)
+        (record w { questions = q }) one r.value (stays w.backend)
+    by (q, None) = hung_up_leads (record w { questions = q }) (why.Refused Direction)
+
+    go : (v : Bool) → Leads w.backend (let t : BlockBackend × Bool = (if v
+        then reply_by w r.value (after_reply w.questions) else (hung_up w (why.Refused Direction), false)) in t.0.backend)
+    go true = by (after_reply w.questions)
+    go false = hung_up_leads w (why.Refused Direction)
+
+pub memory_leads : (w : BlockBackend) → Leads w.backend (memory_lost w).backend
+memory_leads w = memory_kept (λ v. Leads w.backend v.backend) (λ v q p. p) (λ v ks p. p) (λ v n q l found p. p) w
+    (stays w.backend)
+
 -- ---- steps without memory
 
 messaged_leads : (w : BlockBackend) (o : Outcome) → Leads w.backend (messaged w o).backend
@@ -120,6 +152,7 @@ first_leads w wanted.Memory = stays w.backend
 first_leads w (wanted.Log size offset) = stays w.backend
 first_leads w (wanted.Descriptor purpose is) = stays w.backend
 first_leads w (wanted.Base ring) = (Done (based w.queues ring (slice_get w.queues ring)).1 ∷ [], refl)
+first_leads w wanted.Table = stays w.backend
 first_leads w wanted.Finish = (Done finish.Done ∷ [], refl)
 
 more_leads : (w : BlockBackend) (number : ℕ) (m : Option Mapping) → Leads w.backend (asked_more_by w number m).0.backend
@@ -136,7 +169,8 @@ counted_leads w n = go (nat_lt w.limits.unread n)
     go false = stays w.backend
 
 ended_leads : (w : BlockBackend) (o : Option Why) → Leads w.backend (ended_by w o).0.backend
-ended_leads w None = stays w.backend
+ended_leads w None = on_channel w (λ t. Leads w.backend t.0.backend) (λ is. stays w.backend) (λ q d. stays w.backend)
+    (λ q. stays w.backend)
 ended_leads w (Some y) = stays w.backend
 
 called_leads : (w : BlockBackend) (o : Option ℕ) → Leads w.backend (called_up w o).0.backend
@@ -177,24 +211,22 @@ ended_with_leads w ring chain (finished.Done len) = stays w.backend
 ended_with_leads w ring chain finished.Forgotten = hung_up_leads w why.Memory
 ended_with_leads w ring chain finished.NotUnderWay = stays w.backend
 
+places_lead : (w : BlockBackend) (v : Result RunningVring NotRunning) (fresh : Bool)
+    → Leads w.backend (placed_by w v fresh).backend
+places_lead w (Err e) fresh = stays w.backend
+places_lead w (Ok vring) fresh =
+    let t = set_up_at w.queues w.todo.ring w.max_size vring w.backend.connection.features fresh
+    (slice_get w.queues w.todo.ring) in reach_leads (record w { queues = t.0 }) t.1
+
+freed_leads : (b : BackendState) (w : BlockBackend) (ring : ℕ) (before after : Option (ℕ × Permissions)) → Leads b w.backend
+    → Leads b (freed_by w ring before after).backend
+freed_leads b w ring None after leads = leads
+freed_leads b w ring (Some t) None leads = leads
+freed_leads b w ring (Some t) (Some u) leads = leads
+
 -- ---- steps on memory
 
 module _ {H : Type 0} (step : H → (s : MemoryStep) → Returned s → H → Type 0) where
-  sets_up_leads : (w : BlockBackend) (vring : RunningVring) (fresh : Bool) (old : H) (w' : BlockBackend) (new : H)
-      → SetsUpAt step w vring fresh old w' new → Leads w.backend w'.backend
-  sets_up_leads w vring fresh old w' new (r, qs, sets, is) =
-      leads_by (ap (λ v. v.backend) is) (reach_leads (record w { queues = qs }) r)
-
-  places_leads : (w : BlockBackend) (place : Place) (old : H) (w' : BlockBackend) (new : H)
-      → Places step w place old w' new → Leads w.backend w'.backend
-  places_leads w place old w' new = go place.vring
-    where
-      go : (v : Result RunningVring NotRunning) → MatchResult v
-          (λ vring. SetsUpAt step w vring place.fresh old w' new) (λ e. (w' ≡ w) × (new ≡ old))
-          → Leads w.backend w'.backend
-      go (Ok vring) p = sets_up_leads w vring place.fresh old w' new p
-      go (Err e) p = leads_by (ap (λ v. v.backend) p.0) (stays w.backend)
-
   acts_leads : (w : BlockBackend) (ring : ℕ) (a : RingAction) (old : H) (m : Made) (w' : BlockBackend) (new : H)
       → Acts step w ring a old m w' new → Leads w.backend w'.backend
   acts_leads w ring action.Pop old m w' new p = leads_by (ap (λ v. v.backend) p.0) (stays w.backend)
@@ -229,8 +261,10 @@ module _ {H : Type 0} (step : H → (s : MemoryStep) → Returned s → H → Ty
     where
       go : (o : Option Place) → StepsFrom step w o old m w' new → Leads w.backend w'.backend
       go None p = returns_leads w w.returning old m w' new p
-      go (Some place) p =
-          places_leads (record w { todo = record w.todo { place = None } }) place old w' new p.0
+      go (Some place) p = let v = record w { todo = record w.todo { place = None } } in
+          let v' = placed_by v place.vring place.fresh in
+          leads_by (ap (λ v. v.backend) p.0) (freed_leads v.backend v' v.todo.ring (awaited (slice_get v.queues v.todo.ring))
+          (awaited (slice_get v'.queues v.todo.ring)) (places_lead v place.vring place.fresh))
 
   -- ---- turns
 
@@ -239,23 +273,25 @@ module _ {H : Type 0} (step : H → (s : MemoryStep) → Returned s → H → Ty
   turn_told b b' ring None r is = leads_by (ap (λ t. t.0) is) (stays b)
   turn_told b b' ring (Some e) r is = leads_by (ap (λ t. t.0) is) (Told (event.Ring ring e) ∷ [], refl)
 
-  turn_leads : (w : BlockBackend) (old : H) (is : Bool) (w' : BlockBackend) (new : H)
-      → TakesTurn step w old is w' new → Leads w.backend w'.backend
-  turn_leads w old is w' new (r, b, qs, with, none, was, becomes) =
+  turn_leads : (way : Option Sight) (w : BlockBackend) (old : H) (is : Bool) (w' : BlockBackend) (new : H)
+      → TakesTurn step way w old is w' new → Leads w.backend w'.backend
+  turn_leads way w old is w' new (r, b, qs, with, none, was, becomes) =
       leads_by (looks r becomes) (go (slice_get w.queues w.turn) with none)
     where
       looks : (r : Option Todo) → w' ≡ looked (record w { queues = qs; backend = b }) r → w'.backend ≡ b
       looks None becomes = ap (λ v. v.backend) becomes
       looks (Some todo) becomes = ap (λ v. v.backend) becomes
+          ∙ asking_kept (λ v. v.backend ≡ b) (λ v q p. p) (λ v ks p. p) (λ v n q l found p. p)
+          (record w { queues = qs; backend = b; todo = todo }) w.turn refl
 
       runs : (q q' : BlockQueueState) (v : Bool) → MatchBool v
-          ((e : Option RingEvent) × HappensNext step (terms_of w) q old e q' new × ((b, r) ≡ turn.told w.backend w.turn e))
+          ((e : Option RingEvent) × HappensBy step way (terms_of w) q old e q' new × ((b, r) ≡ turn.told w.backend w.turn e))
           ((r ≡ None) × (b ≡ w.backend) × (q' ≡ q) × (new ≡ old)) → Leads w.backend b
       runs q q' true (e, next, is) = turn_told w.backend b w.turn e r is
       runs q q' false p = leads_by p.1 (stays w.backend)
 
       go : (o : Option BlockQueueState) → MatchOption o ((r ≡ None) × (qs ≡ w.queues) × (new ≡ old))
-          (λ q. (q' : BlockQueueState) × Turns step (terms_of w) w.turn w.backend b old new q r q'
+          (λ q. (q' : BlockQueueState) × Turns step way (terms_of w) w.turn w.backend b old new q r q'
           × (qs ≡ slice_set w.queues w.turn q'))
           → (o ≡ None → b ≡ w.backend) → Leads w.backend b
       go None p none = leads_by (none refl) (stays w.backend)
@@ -263,15 +299,23 @@ module _ {H : Type 0} (step : H → (s : MemoryStep) → Returned s → H → Ty
 
   -- ---- looks
 
-  pub looks_leads : (w : BlockBackend) (old : H) (is : Bool) (w' : BlockBackend) (new : H)
-      → Looks step w old is w' new → Leads w.backend w'.backend
-  looks_leads w old is w' new (None, kicks, takes, turns) =
-      turn_leads (record w { kicks = kicks }) old is w' new turns
-  looks_leads w old is w' new (Some ring, kicks, takes, (was, becomes, same)) =
+  pub looks_leads : (way : Option Sight) (w : BlockBackend) (old : H) (is : Bool) (w' : BlockBackend) (new : H)
+      → Looks step way w old is w' new → Leads w.backend w'.backend
+  looks_leads way w old is w' new (None, kicks, takes, turns) =
+      turn_leads way (record w { kicks = kicks }) old is w' new turns
+  looks_leads way w old is w' new (Some ring, kicks, takes, (was, becomes, same)) =
       leads_by (ap (λ v. v.backend) becomes) (told_leads (record w { kicks = kicks }) (event.Ring ring Kick))
 
   -- one that finds nothing to do leaves no ring that was kicked
-  pub none_kicked : (w : BlockBackend) (old : H) (w' : BlockBackend) (new : H) → Looks step w old false w' new
+  pub none_kicked : (way : Option Sight) (w : BlockBackend) (old : H) (w' : BlockBackend) (new : H)
+      → Looks step way w old false w' new
       → (k : ℕ) → slice_get w.kicks k ≡ Some true → ⊥
-  none_kicked w old w' new (None, kicks, takes, turns) k is = takes.0 k is
-  none_kicked w old w' new (Some ring, kicks, takes, (was, becomes, same)) k is = absurd (cc)
+  none_kicked way w old w' new (None, kicks, takes, turns) k is = takes.0 k is
+  none_kicked way w old w' new (Some ring, kicks, takes, (was, becomes, same)) k is = absurd (cc)
+
+  -- ---- the table
+
+  pub changes_lead : (w : BlockBackend) (t : Table) (old : H) (is : Bool) (w' : BlockBackend) (t' : Table) (new : H)
+      → ChangesTable step w t old is w' t' new → Leads w.backend w'.backend
+  changes_lead w t old is w' t' new changes = table_kept (λ v. Leads w.backend v.backend) (λ v q p. p) (λ v ks p. p)
+      (λ v n q l found p. p) step w t old is w' t' new changes (stays w.backend)

@@ -4,7 +4,7 @@ use Rattle.std.specs.Prelude.{ℕ, zero, suc, Bool, true, false, ◌&&◌, ◌==
 use Rattle.std.specs.List.{list_any}
 use Rattle.vhost_message.specs.FrontendReq.{descriptors_of, request_of}
 use Rattle.vhost_message.specs.declared.frontend_req.FrontendReq.{FrontendReq}
-use Rattle.vhost_message.specs.declared.frontend_req.FrontendReq.TheVariants.{SetFeatures, SetMemTable, SetLogBase, SetVringAddr, GetVringBase}
+use Rattle.vhost_message.specs.declared.frontend_req.FrontendReq.TheVariants.{SetFeatures, SetMemTable, SetLogBase, SetVringAddr, GetVringBase, IotlbMsg}
 use Rattle.vhost_message.specs.declared.header.Header.{Header}
 use Rattle.vhost_message.specs.declared.refusal.Refusal.{Refusal}
 use Rattle.vhost_message.specs.declared.refusal.Refusal.TheVariants.{Descriptors}
@@ -92,15 +92,16 @@ moved Fresh = Fresh
 
 -- ---- messages
 
--- what has to be returned before a request takes effect: all that is under way, if it changes memory, features or log, or
--- where a ring lies that is not stopped; and what is under way of a ring that it stops
-abbrev pub until_of : BackendState → FrontendReq → Until
-until_of b (SetMemTable table) = AllRings
-until_of b (SetFeatures features) = AllRings
-until_of b (SetLogBase size offset) = AllRings
-until_of b (SetVringAddr address) = if is_stopped_at b.rings address.index then Now else AllRings
-until_of b (GetVringBase index) = if nat_lt index (length b.rings.rings) then Ring index else Now
-until_of b _ = Now
+-- what has to be returned before a request takes effect: all that is under way, if it changes memory, features or log,
+-- where a ring lies that is not stopped, or mappings that are in use; and what is under way of a ring that it stops
+abbrev pub until_of : BackendState → Bool → FrontendReq → Until
+until_of b in_use (SetMemTable table) = AllRings
+until_of b in_use (SetFeatures features) = AllRings
+until_of b in_use (SetLogBase size offset) = AllRings
+until_of b in_use (SetVringAddr address) = if is_stopped_at b.rings address.index then Now else AllRings
+until_of b in_use (GetVringBase index) = if nat_lt index (length b.rings.rings) then Ring index else Now
+until_of b in_use (IotlbMsg message) = if in_use then AllRings else Now
+until_of b in_use _ = Now
 
 -- what it makes of the rings
 abbrev pub waited : RingsState → Until → RingsState × Actions
@@ -145,15 +146,18 @@ abbrev pub taken_until : BackendState → Header → FrontendReq → List ℕ �
 taken_until b h request payload until = let t = waiting b until in
     with_outcome t.1 (to_place t.0 t.1) (begun_or_waits (placed t.0 t.1) h request payload until (is_due until t.1))
 
-abbrev pub decoded : BackendState → Header → List ℕ → ℕ → Result FrontendReq Refusal → BackendState × Todo
-decoded b h payload descriptors (Err e) = (b, refused b h e)
-decoded b h payload descriptors (Ok request) = if descriptors == descriptors_of request
-    then taken_until b h request payload (until_of b request) else (b, refused b h Descriptors)
+abbrev pub decoded : BackendState → Header → List ℕ → ℕ → Bool → Result FrontendReq Refusal → BackendState × Todo
+decoded b h payload descriptors in_use (Err e) = (b, refused b h e)
+decoded b h payload descriptors in_use (Ok request) = if descriptors == descriptors_of request
+    then taken_until b h request payload (until_of b in_use request) else (b, refused b h Descriptors)
 
 -- one that comes while another one was not finished is ignored
-abbrev pub after_message : BackendState → Header → List ℕ → ℕ → BackendState × Todo
-after_message b h payload descriptors = if is_free b.taken
-    then decoded b h payload descriptors (request_of h payload) else (b, to_do (nothing 0) None Stays)
+abbrev pub after_request : BackendState → Header → Result FrontendReq Refusal → List ℕ → ℕ → Bool → BackendState × Todo
+after_request b h asked payload descriptors in_use = if is_free b.taken
+    then decoded b h payload descriptors in_use asked else (b, to_do (nothing 0) None Stays)
+
+abbrev pub after_message : BackendState → Header → List ℕ → ℕ → Bool → BackendState × Todo
+after_message b h payload descriptors in_use = after_request b h (request_of h payload) payload descriptors in_use
 
 -- ---- what happens to rings
 

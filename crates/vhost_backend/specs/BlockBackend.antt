@@ -1,22 +1,32 @@
 -- A block device's back end as a whole: what each event makes of it, and what is to be done, step by step.
-use Rattle.std.specs.Prelude.{◌≡◌, ℕ, ◌+◌, ◌-◌, ◌^◌, ◌==◌, ◌&&◌, not, min, nat_lt, bit_and, Bool, true, false, if◌then◌else◌, List, [], length, drop, replicate, slice_get, Option, Some, None, is_none, is_some, Result, Ok, Err, MatchResult}
+use Rattle.std.specs.Prelude.{◌≡◌, ℕ, ◌+◌, ◌-◌, ◌^◌, ◌==◌, ◌&&◌, not, min, nat_lt, bit_and, Bool, true, false, if◌then◌else◌, List, [], length, drop, replicate, slice_get, slice_set, Option, Some, None, is_none, is_some, Result, Ok, Err}
 use Rattle.std.specs.Int.{to_le_bytes, w64}
 use Rattle.std.specs.declared.alloc.Global.{Global}
 use Rattle.virtio_blk.specs.declared.request.DeviceLimits.{DeviceLimits}
 use Rattle.virtio_queue.specs.declared.error.QueueError.{QueueError}
+use Rattle.vhost_message.specs.FrontendReq.{request_of}
+use Rattle.vhost_message.specs.declared.backend_req.BackendReply.{BackendReply}
+use Rattle.vhost_message.specs.declared.frontend_req.FrontendReq.{FrontendReq}
 use Rattle.vhost_message.specs.declared.header.Header.{Header}
+use Rattle.vhost_message.specs.declared.refusal.Refusal.{Refusal}
+use Rattle.vhost_message.specs.declared.refusal.Refusal.TheVariants.{Direction}
 use Rattle.vhost_message.specs.declared.regions.MemoryRegion.{MemoryRegion}
 use Rattle.vhost_user.specs.Connection.{connected}
 use Rattle.vhost_user.specs.Reply.{refused}
 use Rattle.vhost_user.specs.declared.backend_req_handler.Offer.{Offer}
+use Rattle.vhost_user.specs.declared.vring.NotRunning.{NotRunning}
 use Rattle.vhost_user.specs.declared.vring.RunningVring.{RunningVring}
 use Rattle.vhost_backend.specs.Backend.{BackendState, after_event, after_finish, after_message, is_free, is_over, mapping_at, new_backend, over}
+use Rattle.vhost_iotlb.specs.declared.kept.Change.{Change}
 use Rattle.vhost_backend.specs.BlockQueue.{BlockQueueState}
-use Rattle.vhost_backend.specs.BlockQueues.{Asks, FinishesAt, Gives, SetsUp, Turns, WithQueue, based, new_queues, part_of}
+use Rattle.vhost_backend.specs.BlockQueues.{Asks, FinishesAt, Gives, Turns, WithQueue, based, new_queues, part_of, set_up_at}
+use Rattle.vhost_backend.specs.BlockTable.{asked_for, freed_by}
 use Rattle.vhost_backend.specs.Config.{config_changed}
 use Rattle.vhost_backend.specs.Kicks.{TakesKick}
 use Rattle.vhost_backend.specs.PageList.{capped}
+use Rattle.vhost_backend.specs.Questions.{QuestionsState, after_reply, has_next, lost, no_questions, stale, taken_denial, taken_due}
 use Rattle.vhost_backend.specs.RingMemory.{MemoryStep, Returned}
+use Rattle.vhost_backend.specs.TableChange.{change_in}
 use Rattle.vhost_backend.specs.Wanted.{wanted_at}
 use Rattle.vhost_backend.specs.declared.backend.Finish.{Finish}
 use Rattle.vhost_backend.specs.declared.backend.Finish.TheVariants as finish
@@ -26,6 +36,8 @@ use Rattle.vhost_backend.specs.declared.backend.Outcome.{Outcome}
 use Rattle.vhost_backend.specs.declared.backend.Outcome.TheVariants as outcome
 use Rattle.vhost_backend.specs.declared.backend.Place.{Place}
 use Rattle.vhost_backend.specs.declared.backend.Todo.{Todo}
+use Rattle.vhost_backend.specs.TableUse as use_of
+use Rattle.vhost_backend.specs.TableUse.{awaited, kicked_to, refused_at}
 use Rattle.vhost_backend.specs.declared.block.BlockStep.{BlockStep}
 use Rattle.vhost_backend.specs.declared.deeds.Ask.{Ask}
 use Rattle.vhost_backend.specs.declared.deeds.Ask.TheVariants as ask
@@ -33,6 +45,7 @@ use Rattle.vhost_backend.specs.declared.block_backend.BlockBackend.{BlockBackend
 use Rattle.vhost_backend.specs.declared.block_backend.Returning.{Returning}
 use Rattle.vhost_backend.specs.declared.block_queue.Finished.{Finished}
 use Rattle.vhost_backend.specs.declared.block_queue.Finished.TheVariants as finished
+use Rattle.vhost_backend.specs.Sight.{Sight}
 use Rattle.vhost_backend.specs.declared.deeds.Deed.TheVariants as deed
 use Rattle.vhost_backend.specs.declared.deeds.Limits.{Limits}
 use Rattle.vhost_backend.specs.declared.deeds.Made.{Made}
@@ -43,13 +56,15 @@ use Rattle.vhost_backend.specs.declared.block_queues.Reached.{Reached}
 use Rattle.vhost_backend.specs.declared.block_queues.Reached.TheVariants as reached
 use Rattle.vhost_backend.specs.declared.mapping.Mapping.{Mapping}
 use Rattle.vhost_backend.specs.declared.mapping.Mapping.TheVariants.{Map}
+use Rattle.vhost_backend.specs.declared.questions.Miss.{Miss}
+use Rattle.vhost_backend.specs.declared.questions.SentMiss.{SentMiss}
 use Rattle.vhost_backend.specs.declared.request.Chain.{Chain}
 use Rattle.vhost_backend.specs.declared.ring.RingEvent.TheVariants.{Break, Kick}
 use Rattle.vhost_backend.specs.declared.ring.actions.RingAction.{RingAction}
 use Rattle.vhost_backend.specs.declared.ring.actions.RingAction.TheVariants as action
 use Rattle.vhost_backend.specs.declared.rings.Event.{Event}
 use Rattle.vhost_backend.specs.declared.rings.Event.TheVariants as event
-use Rattle.vhost_backend.specs.declared.wanted.Purpose.TheVariants.{Call}
+use Rattle.vhost_backend.specs.declared.wanted.Purpose.TheVariants.{Call, Channel}
 use Rattle.vhost_backend.specs.declared.wanted.Wanted.{Wanted}
 use Rattle.vhost_backend.specs.declared.wanted.Wanted.TheVariants as wanted
 
@@ -72,6 +87,9 @@ new_block_backend alloc offer count config limits = record {
   turn = 0;
   unread = 0;
   finished = false;
+  change = None;
+  channel = false;
+  questions = no_questions count;
 }
 
 -- ---- what requests are held against
@@ -104,9 +122,13 @@ is_asked ask.First = false
 is_asked (ask.Mapped count) = false
 is_asked _ = true
 
+-- the front end is asked or told something on the channel, but not between a message and its reply
+abbrev pub may_ask : BlockBackend → Bool
+may_ask w = is_free w.backend.taken && has_next w.questions
+
 abbrev pub is_done : BlockBackend → Bool
 is_done w = is_none w.todo.place && (length w.todo.actions == 0) && is_quiet w.todo.message && is_none w.returning
-    && not w.broken && is_asked w.ask && (length w.reply == 0) && is_none w.called && is_none w.end
+    && not w.broken && is_asked w.ask && (length w.reply == 0) && is_none w.called && is_none w.end && not (may_ask w)
 
 -- ---- events
 
@@ -114,10 +136,26 @@ is_done w = is_none w.todo.place && (length w.todo.actions == 0) && is_quiet w.t
 abbrev pub told : BlockBackend → Event → BlockBackend
 told w e = let t = after_event w.backend e in record w { backend = t.0; todo = t.1 }
 
+abbrev pub in_use_by : List BlockQueueState → Option Change → Bool
+in_use_by qs None = false
+in_use_by qs (Some c) = use_of.in_use c qs
+
+-- whether the message on the table changes mappings that are in use
+abbrev pub in_use : BlockBackend → Bool
+in_use w = in_use_by w.queues w.change
+
+-- what it changes is known when it comes
+abbrev pub with_change : BlockBackend → Result FrontendReq Refusal → BlockBackend
+with_change w asked = record w { change = change_in w.backend.connection.memory asked }
+
+abbrev pub taken_by : BlockBackend → Header → List ℕ → ℕ → Bool → BlockBackend
+taken_by w h payload descriptors used =
+    let t = after_message w.backend h payload descriptors used in record w { backend = t.0; todo = t.1 }
+
 -- a message is taken if nothing is left to be done, and the one before it is over
 abbrev pub came : BlockBackend → Header → List ℕ → ℕ → BlockBackend × Bool
 came w h payload descriptors = if is_done w && is_free w.backend.taken
-    then (let t = after_message w.backend h payload descriptors in (record w { backend = t.0; todo = t.1 }, true))
+    then (let v = with_change w (request_of h payload) in (taken_by v h payload descriptors (in_use v), true))
     else (w, false)
 
 -- the first ring in the line has its turn
@@ -166,14 +204,65 @@ abbrev pub called_by : Option ℕ → Wanted → Option ℕ
 called_by before (wanted.Descriptor (Call ring) is) = Some ring
 called_by before _ = before
 
+-- nothing is without a reply on a new channel
+abbrev pub channel_by : Bool → Wanted → Bool
+channel_by before (wanted.Descriptor Channel is) = is
+channel_by before _ = before
+
+abbrev pub questions_by : QuestionsState → Wanted → QuestionsState
+questions_by before (wanted.Descriptor Channel is) = lost before
+questions_by before _ = before
+
+-- a ring that waits for a mapping asks for it there, or gives up
+abbrev pub kicks_by : List BlockQueueState → List Bool → Wanted → List Bool
+kicks_by qs before (wanted.Descriptor Channel is) = kicked_to (length qs) qs before
+kicks_by qs before _ = before
+
+abbrev pub with_channel : BlockBackend → Wanted → BlockBackend
+with_channel w x = record w {
+  channel = channel_by w.channel x;
+  questions = questions_by w.questions x;
+  kicks = kicks_by w.queues w.kicks x;
+}
+
 abbrev pub answered_at : BlockBackend → Ask → Bool → BlockBackend
-answered_at w ask.Answer true =
-    finished_by (record w { called = called_by w.called (wanted_at w.backend.taken) }) finish.Done
+answered_at w ask.Answer true = let x = wanted_at w.backend.taken in
+    finished_by (with_channel (record w { called = called_by w.called x }) x) finish.Done
 answered_at w ask.Answer false = finished_by w finish.Failed
 answered_at w _ is = w
 
 abbrev pub answered : BlockBackend → Bool → BlockBackend
 answered w is = answered_at w w.ask is
+
+-- no reply comes any more, and what waits for a mapping gives up
+abbrev pub channel_lost : BlockBackend → BlockBackend
+channel_lost w = record w {
+  channel = false;
+  questions = lost w.questions;
+  kicks = kicked_to (length w.queues) w.queues w.kicks;
+}
+
+-- a ring that waits for a mapping which the front end does not have gives up
+abbrev pub refused_one : BlockBackend → SentMiss → ℕ → BlockBackend
+refused_one w one value = if one.is_awaited && not (value == 0)
+    then record w { queues = refused_at w.queues one.ring (slice_get w.queues one.ring) } else w
+
+-- and it is looked at: if it still waits, it asks again
+abbrev pub reply_for : BlockBackend → SentMiss → ℕ → BlockBackend
+reply_for w one value = let w' = refused_one w one value in record w' { kicks = slice_set w'.kicks one.ring true }
+
+-- a reply that nobody asked for ends the connection
+abbrev pub reply_by : BlockBackend → ℕ → QuestionsState × Option SentMiss → BlockBackend × Bool
+reply_by w value (questions, Some one) = (reply_for (record w { questions = questions }) one value, true)
+reply_by w value (questions, None) = (hung_up (record w { questions = questions }) (why.Refused Direction), false)
+
+abbrev pub reply_taken : BlockBackend → BackendReply → BlockBackend × Bool
+reply_taken w r = if r.request == 1 then reply_by w r.value (after_reply w.questions)
+    else (hung_up w (why.Refused Direction), false)
+
+abbrev pub replied_to : BlockBackend → Result BackendReply Refusal → BlockBackend × Bool
+replied_to w (Ok r) = reply_taken w r
+replied_to w (Err e) = (hung_up w (why.Refused e), false)
 
 -- the disk has so many sectors, and the configuration begins with them
 abbrev pub resized : BlockBackend → ℕ → BlockBackend
@@ -197,7 +286,8 @@ asked_first_by w wanted.Memory = (record w { ask = ask.Mapped 1 }, made.Deed dee
 asked_first_by w (wanted.Log size offset) = (record w { ask = ask.Answer }, made.Deed (deed.Log size offset))
 asked_first_by w (wanted.Descriptor purpose is) = (record w { ask = ask.Answer }, made.Deed (deed.Keep purpose is))
 asked_first_by w (wanted.Base ring) = let t = based w.queues ring (slice_get w.queues ring) in
-    (finished_by (record w { queues = t.0 }) t.1, made.Again)
+    (finished_by (record w { queues = t.0; questions = stale w.questions ring }) t.1, made.Again)
+asked_first_by w wanted.Table = (record w { ask = ask.Answer }, made.Deed deed.Table)
 asked_first_by w wanted.Finish = (finished_by w finish.Done, made.Again)
 
 abbrev pub asked_first : BlockBackend → BlockBackend × Made
@@ -220,9 +310,24 @@ counted w unread = if nat_lt w.limits.unread unread then hung_up (record w { unr
 abbrev pub replied : BlockBackend → BlockBackend × Made
 replied w = (counted w (capped (w.unread + length w.reply)), made.Deed deed.Send)
 
+-- the front end is told of an access that a mapping forbids, or asked for a mapping
+abbrev pub asked_due : BlockBackend → QuestionsState × Option Miss → BlockBackend × Made
+asked_due w (questions, Some miss) = (record w { questions = questions }, made.Deed (deed.Ask miss))
+asked_due w (questions, None) = (record w { questions = questions }, made.Again)
+
+abbrev pub asked_or_told : BlockBackend → QuestionsState × Option Miss → BlockBackend × Made
+asked_or_told w (questions, Some miss) = (record w { questions = questions }, made.Deed (deed.Deny miss))
+asked_or_told w (questions, None) = asked_due (record w { questions = questions }) (taken_due questions)
+
+abbrev pub asked_next : BlockBackend → BlockBackend × Made
+asked_next w = asked_or_told w (taken_denial w.questions)
+
+abbrev pub said_on_channel : BlockBackend → BlockBackend × Made
+said_on_channel w = if may_ask w then asked_next w else (w, made.Idle)
+
 abbrev pub ended_by : BlockBackend → Option Why → BlockBackend × Made
 ended_by w (Some y) = (record w { end = None }, made.Deed (deed.End y))
-ended_by w None = (w, made.Idle)
+ended_by w None = said_on_channel w
 
 abbrev pub called_up : BlockBackend → Option ℕ → BlockBackend × Made
 called_up w (Some ring) = (record w { called = None }, made.Deed (deed.Interrupt ring))
@@ -254,6 +359,20 @@ abbrev pub after_reach : BlockBackend → Reached → BlockBackend
 after_reach w reached.Fine = w
 after_reach w reached.Broken = record w { broken = true }
 
+abbrev pub set_up_by : BlockBackend → RunningVring → Bool → BlockBackend
+set_up_by w vring fresh =
+    let t = set_up_at w.queues w.todo.ring w.max_size vring w.backend.connection.features fresh
+    (slice_get w.queues w.todo.ring) in after_reach (record w { queues = t.0 }) t.1
+
+-- a queue is told where its ring lies, if that runs
+abbrev pub placed_by : BlockBackend → Result RunningVring NotRunning → Bool → BlockBackend
+placed_by w (Ok vring) fresh = set_up_by w vring fresh
+placed_by w (Err e) fresh = w
+
+abbrev pub placed : BlockBackend → Place → BlockBackend
+placed w place = let w' = placed_by w place.vring place.fresh in
+    freed_by w' w.todo.ring (awaited (slice_get w.queues w.todo.ring)) (awaited (slice_get w'.queues w.todo.ring))
+
 -- a part is served, after which its request has one less
 abbrev pub part_deed : ℕ → ℕ → ℕ → Option BlockStep → Made
 part_deed ring id left None = made.Again
@@ -272,22 +391,12 @@ notified ring (Ok false) = made.Again
 notified ring (Ok true) = made.Deed (deed.Interrupt ring)
 notified ring (Err e) = made.Deed (deed.Interrupt ring)
 
+-- a step of a turn that was taken. If the ring waits for a mapping then, it asks for that
 abbrev pub looked : BlockBackend → Option Todo → BlockBackend
 looked w None = w
-looked w (Some todo) = record w { todo = todo }
+looked w (Some todo) = asked_for (record w { todo = todo }) w.turn
 
 module _ {H : Type 0} (step : H → (s : MemoryStep) → Returned s → H → Type 0) where
-  abbrev pub SetsUpAt : BlockBackend → RunningVring → Bool → H → BlockBackend → H → Type 0
-  SetsUpAt w vring fresh old w' new = (r : Reached) × (qs : List BlockQueueState)
-      × WithQueue w.queues w.todo.ring reached.Fine old r qs new
-      (λ q r q'. SetsUp step q w.max_size vring w.backend.connection.features fresh old r q' new)
-      × (w' ≡ after_reach (record w { queues = qs }) r)
-
-  -- a queue is told where its ring lies, if that runs
-  abbrev pub Places : BlockBackend → Place → H → BlockBackend → H → Type 0
-  Places w place old w' new =
-      MatchResult place.vring (λ vring. SetsUpAt w vring place.fresh old w' new) (λ e. (w' ≡ w) × (new ≡ old))
-
   -- what is to be done for a ring is done, or is to be done by the program
   abbrev pub Acts : BlockBackend → ℕ → RingAction → H → Made → BlockBackend → H → Type 0
   Acts w ring action.Pop old m w' new = (w' ≡ w) × (m ≡ made.Again) × (new ≡ old)
@@ -322,21 +431,22 @@ module _ {H : Type 0} (step : H → (s : MemoryStep) → Returned s → H → Ty
   abbrev pub StepsFrom : BlockBackend → Option Place → H → Made → BlockBackend → H → Type 0
   StepsFrom w None old m w' new = Returns w w.returning old m w' new
   StepsFrom w (Some place) old m w' new =
-      Places (record w { todo = record w.todo { place = None } }) place old w' new × (m ≡ made.Again)
+      (w' ≡ placed (record w { todo = record w.todo { place = None } }) place) × (m ≡ made.Again) × (new ≡ old)
 
   abbrev pub Steps : BlockBackend → H → Made → BlockBackend → H → Type 0
   Steps w = StepsFrom w w.todo.place
 
   -- a ring that was kicked is looked at, or else the one that has its turn takes a step of it
-  abbrev pub TakesTurn : BlockBackend → H → Bool → BlockBackend → H → Type 0
-  TakesTurn w old is w' new = (r : Option Todo) × (b : BackendState) × (qs : List BlockQueueState)
-      × WithQueue w.queues w.turn None old r qs new (Turns step (terms_of w) w.turn w.backend b old new)
-      × (slice_get w.queues w.turn ≡ None → b ≡ w.backend) × (is ≡ is_some r) × (w' ≡ looked (record w { queues = qs; backend = b }) r)
+  abbrev pub TakesTurn : Option Sight → BlockBackend → H → Bool → BlockBackend → H → Type 0
+  TakesTurn way w old is w' new = (r : Option Todo) × (b : BackendState) × (qs : List BlockQueueState)
+      × WithQueue w.queues w.turn None old r qs new (Turns step way (terms_of w) w.turn w.backend b old new)
+      × (slice_get w.queues w.turn ≡ None → b ≡ w.backend) × (is ≡ is_some r)
+      × (w' ≡ looked (record w { queues = qs; backend = b }) r)
 
-  abbrev pub LooksAt : BlockBackend → Option ℕ → H → Bool → BlockBackend → H → Type 0
-  LooksAt w (Some ring) old is w' new = (is ≡ true) × (w' ≡ told w (event.Ring ring Kick)) × (new ≡ old)
-  LooksAt w None old is w' new = TakesTurn w old is w' new
+  abbrev pub LooksAt : Option Sight → BlockBackend → Option ℕ → H → Bool → BlockBackend → H → Type 0
+  LooksAt way w (Some ring) old is w' new = (is ≡ true) × (w' ≡ told w (event.Ring ring Kick)) × (new ≡ old)
+  LooksAt way w None old is w' new = TakesTurn way w old is w' new
 
-  abbrev pub Looks : BlockBackend → H → Bool → BlockBackend → H → Type 0
-  Looks w old is w' new = (ring : Option ℕ) × (kicks : List Bool) × TakesKick w.kicks ring kicks
-      × LooksAt (record w { kicks = kicks }) ring old is w' new
+  abbrev pub Looks : Option Sight → BlockBackend → H → Bool → BlockBackend → H → Type 0
+  Looks way w old is w' new = (ring : Option ℕ) × (kicks : List Bool) × TakesKick w.kicks ring kicks
+      × LooksAt way (record w { kicks = kicks }) ring old is w' new

@@ -1,20 +1,25 @@
 -- A connection of a block device with its guest memory: what each call makes of it.
-use Rattle.std.specs.Prelude.{◌≡◌, ℕ, ◌+◌, ◌-◌, ◌*◌, ◌==◌, ◌≤◌, ◌||◌, nat_lt, Bool, true, false, not, if◌then◌else◌, List, length, drop, slice_set, Option, Some, None, is_some, Result, Ok, Err, MatchOption}
+use Rattle.std.specs.Prelude.{◌≡◌, ℕ, ◌+◌, ◌-◌, ◌*◌, ◌==◌, ◌||◌, nat_lt, bit_and, Bool, true, false, not, if◌then◌else◌, List, length, drop, slice_set, Option, Some, None, is_some, Result, Ok, Err, MatchOption}
 use Rattle.std.specs.List.{list_all}
 use Rattle.std.specs.declared.alloc.Global.{Global}
 use Rattle.vhost_calls.specs.Codes.{code_of_offer}
 use Rattle.vhost_calls.specs.Values.{offer_of}
 use Rattle.vhost_calls.specs.declared.values.VhostOffer.{VhostOffer}
+use Rattle.vhost_message.specs.BackendReq.{backend_reply}
 use Rattle.vhost_message.specs.Header.{header_in}
-use Rattle.vhost_message.specs.declared.regions.MemoryRegion.{MemoryRegion}
+use Rattle.vhost_message.specs.declared.backend_req.BackendReply.{BackendReply}
+use Rattle.vhost_message.specs.declared.refusal.Refusal.{Refusal}
+use Rattle.vhost_message.specs.declared.refusal.Refusal.TheVariants.{PayloadSize}
 use Rattle.vhost_user.specs.Connection.{Connection, can_offer}
+use Rattle.vhost_user.specs.Features.{access_platform, has}
 use Rattle.vhost_user.specs.Log.{log_kept, logged}
 use Rattle.vhost_user.specs.declared.backend_req_handler.Offer.{Offer}
 use Rattle.vhost_user.specs.declared.backend_req_handler.OfferError.{OfferError}
 use Rattle.vhost_user.specs.declared.backend_req_handler.OfferError.TheVariants.{Invalid, Memory}
-use Rattle.vhost_backend.specs.BlockBackend.{answered, came, hung_up, mapped, new_block_backend, region_at}
-use Rattle.vhost_backend.specs.ConnectionMemory.{MemoryState, no_memory, with_pages}
+use Rattle.vhost_backend.specs.BlockBackend.{answered, came, hung_up, mapped, new_block_backend, region_at, replied_to}
+use Rattle.vhost_backend.specs.ConnectionMemory.{MemoryState, no_memory, with_behind, with_pages}
 use Rattle.vhost_backend.specs.PageList.{capped}
+use Rattle.vhost_backend.specs.TableCounts.{no_table_counts}
 use Rattle.vhost_backend.specs.declared.block.BlockStep.{BlockStep}
 use Rattle.vhost_backend.specs.declared.block.BlockStep.TheVariants as step
 use Rattle.vhost_backend.specs.declared.block_backend.BlockBackend.{BlockBackend}
@@ -33,24 +38,33 @@ limits_of disk = record {
   seg_max = disk.seg_max;
   size_max = disk.size_max;
   unread = disk.unread;
+  table_limit = disk.table_limit;
 }
+
+-- what is offered by a device whose table keeps so many ranges: without one all features but ACCESS_PLATFORM
+abbrev pub offered : Offer → ℕ → Offer
+offered offer limit = if nat_lt 0 limit then offer
+    else record offer { features = bit_and offer.features 0xffff_fffd_ffff_ffff }
 
 -- one with nothing negotiated, without memory
 abbrev pub new_connection : Global → Offer → ℕ → List ℕ → Limits → BlockConnection
 new_connection alloc offer count config limits = record {
   backend = new_block_backend alloc offer count config limits;
-  memory = no_memory;
+  memory = no_memory limits.table_limit;
   part = None;
   lost = None;
   marks = false;
+  table_counts = no_table_counts;
 }
 
 -- it is made, or nothing like it can be offered, or an allocation failed
 abbrev pub Connects : Global → Offer → ℕ → List ℕ → Limits → Result BlockConnection OfferError → Type 0
-Connects alloc offer count config limits (Ok c) =
-    (can_offer offer count config ≡ true) × (c ≡ new_connection alloc offer count config limits)
-Connects alloc offer count config limits (Err Invalid) = can_offer offer count config ≡ false
-Connects alloc offer count config limits (Err Memory) = can_offer offer count config ≡ true
+Connects alloc offer count config limits (Ok c) = let all = offered offer limits.table_limit in
+    (can_offer all count config ≡ true) × (c ≡ new_connection alloc all count config limits)
+Connects alloc offer count config limits (Err Invalid) =
+    can_offer (offered offer limits.table_limit) count config ≡ false
+Connects alloc offer count config limits (Err Memory) =
+    can_offer (offered offer limits.table_limit) count config ≡ true
 
 abbrev pub Opens : Global → VhostOffer → List ℕ → BlockDisk → Result BlockConnection ℕ → Type 0
 Opens alloc offer config disk (Ok c) =
@@ -83,17 +97,18 @@ pages_in (Some bytes) = capped (bytes * 8)
 abbrev pub is_covered : Connection → Bool
 is_covered s = list_all (λ region. is_some (logged s region.guest_address.0 region.size)) s.memory
 
--- pages are marked as the connection has it. If one has no bit, the connection is over
-abbrev pub with_log : BlockConnection → BlockConnection
-with_log c = let s = c.backend.backend.connection in
+-- pages are marked, and rings lie at I/O addresses, as the connection has it. If a page has no bit, the connection is
+-- over
+abbrev pub as_negotiated : BlockConnection → BlockConnection
+as_negotiated c = let s = c.backend.backend.connection in
     let pages = record c.memory.logged.pages { pages = pages_in (log_kept s) } in
-    let logs = record c { memory = with_pages c.memory pages } in
+    let logs = record c { memory = with_behind (with_pages c.memory pages) (has s.features access_platform) } in
     if is_covered s then logs else with_backend logs (hung_up logs.backend Log)
 
 -- after a message was finished
 abbrev pub looked_after : BlockConnection → BlockConnection
 looked_after c = let seen = with_backend c (record c.backend { finished = false }) in
-    if c.backend.finished then with_log seen else seen
+    if c.backend.finished then as_negotiated seen else seen
 
 -- ---- events
 
@@ -111,6 +126,16 @@ kicked c ring = with_backend c (record c.backend { kicks = slice_set c.backend.k
 
 abbrev pub sent : BlockConnection → ℕ → BlockConnection
 sent c count = with_backend c (record c.backend { unread = c.backend.unread - count })
+
+-- a reply that came on the channel is taken, or ends the connection
+unfoldable pub whole_reply : List ℕ → Result BackendReply Refusal
+whole_reply message = backend_reply (header_in message) (drop 12 message)
+
+abbrev pub reply_in : List ℕ → Result BackendReply Refusal
+reply_in message = if nat_lt (length message) 12 then Err PayloadSize else whole_reply message
+
+abbrev pub reply_came : BlockConnection → List ℕ → BlockConnection × Bool
+reply_came c message = let t = replied_to c.backend (reply_in message) in (with_backend c t.0, t.1)
 
 abbrev pub ended : BlockConnection → BlockConnection
 ended c = with_backend c (hung_up c.backend HungUp)

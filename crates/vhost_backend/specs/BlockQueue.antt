@@ -2,8 +2,10 @@
 use Rattle.std.specs.Prelude.{◌≡◌, ◌⊎◌, ℕ, ◌<◌, ◌^◌, Bool, true, false, not, ◌&&◌, nat_le, nat_lt, if◌then◌else◌, List, [], ◌∷◌, length, replicate, slice_get, slice_index_or, slice_set, Option, Some, None, is_some, Result, Ok, Err, MatchBool, MatchOption, MatchResult}
 use Rattle.vm_memory_guest.specs.declared.region.error.GuestMemoryError.{GuestMemoryError}
 use Rattle.vm_memory_device.specs.declared.chain.Segment.{Segment}
-use Rattle.virtio_queue.specs.Any.{after_used, past}
+use Rattle.virtio_queue.specs.Any.{after_used, past, with_ready}
+use Rattle.virtio_queue.specs.State.{Virtqueue}
 use Rattle.virtio_queue.specs.declared.any.AnyQueue.{AnyQueue}
+use Rattle.virtio_queue.specs.declared.any.AnyQueue.TheVariants.{Split, Packed}
 use Rattle.virtio_queue.specs.declared.error.QueueError.{QueueError}
 use Rattle.virtio_queue.specs.declared.error.QueueError.TheVariants as errors
 use Rattle.virtio_queue.specs.declared.packed.state.PackedBuffer.{PackedBuffer}
@@ -11,9 +13,12 @@ use Rattle.virtio_blk.specs.declared.request.Request.{Request}
 use Rattle.virtio_blk.specs.declared.request.Request.TheVariants.{Refused}
 use Rattle.virtio_blk.specs.declared.request.DeviceLimits.{DeviceLimits}
 use Rattle.vhost_backend.specs.Block.{Short, block_parts, len_of, status_of, written_of}
-use Rattle.vhost_backend.specs.Marks.{Marks, asking_marks, chain_marks, return_marks}
+use Rattle.vhost_backend.specs.Fetch.{is_same_place}
+use Rattle.vhost_backend.specs.Marks.{Marks, MarksRing, asking_marks, chain_marks, return_marks}
 use Rattle.vhost_backend.specs.Ring.{RingState, Step}
-use Rattle.vhost_backend.specs.RingMemory.{MemoryStep, Returned, adds_used, begins, enables, finishes, pops}
+use Rattle.vhost_backend.specs.Reach.{ReachState, moved_to, same_log, unreached}
+use Rattle.vhost_backend.specs.RingMemory.{MemoryStep, Returned, adds_used, begins, enables, finishes, pops, reads_used}
+use Rattle.vhost_backend.specs.SetUp.{is_split}
 use Rattle.vhost_backend.specs.Story.{busy, of_id, returned}
 use Rattle.vhost_backend.specs.declared.block_queue.Asked.{Asked}
 use Rattle.vhost_backend.specs.declared.block_queue.Finished.{Finished}
@@ -28,11 +33,15 @@ use Rattle.vhost_backend.specs.declared.ring.RingEvent.TheVariants.{Break, Poppe
 
 pub record BlockQueueState : Type 0 where
   pub queue : AnyQueue
+  -- the split queue of a ring that was started did not have its turn: where it returns its next chain is not known
+  pub is_unread : Bool
   -- for each id the request that is under way, if one is
   pub asked : List (Option Asked)
+  -- what is kept for its ring, and what is fetched
+  pub reach : ReachState
 
 abbrev pub new_queue : AnyQueue → ℕ → BlockQueueState
-new_queue queue ids = record { queue = queue; asked = replicate ids None }
+new_queue queue ids = record { queue = queue; is_unread = false; asked = replicate ids None; reach = unreached }
 
 abbrev pub asked_at : BlockQueueState → ℕ → Option Asked
 asked_at q id = slice_index_or q.asked id None
@@ -42,6 +51,22 @@ with_asked q id asked = record q { asked = slice_set q.asked id asked }
 
 abbrev pub with_queue : BlockQueueState → AnyQueue → BlockQueueState
 with_queue q queue = record q { queue = queue }
+
+-- the queue of a ring that was started
+abbrev pub started : BlockQueueState → AnyQueue → Option ℕ → BlockQueueState
+started q queue log =
+    record q { queue = queue; is_unread = is_split queue; reach = moved_to q.reach log }
+
+-- one that may lie elsewhere
+abbrev pub moved : BlockQueueState → AnyQueue → Option ℕ → BlockQueueState
+moved q queue log = record q {
+  queue = queue;
+  reach = if is_same_place q.queue queue && same_log q.reach.log log then q.reach else moved_to q.reach log;
+}
+
+-- one that is not set up from then on
+abbrev pub unset : BlockQueueState → BlockQueueState
+unset q = record q { queue = with_ready q.queue false; reach = record q.reach { fetch = None } }
 
 -- a chain can be under way if its id has a place, and no other of this id is
 abbrev pub has_place : BlockQueueState → ℕ → Bool
@@ -55,6 +80,16 @@ AllShort asked = (i : ℕ) (a : Asked) → slice_get asked i ≡ Some (Some a) �
 abbrev pub shortened : ℕ → ℕ → Request → Request
 shortened most segments request =
     if nat_lt (len_of request) (2 ^ 32) && nat_le segments most then request else Refused 1
+
+-- ---- where chains are returned
+
+-- a split queue returns its next chain where its used ring says
+abbrev pub returns_at : Virtqueue → ℕ → Virtqueue
+returns_at q next = record { state = record q.state { next_used = next }; added = None }
+
+abbrev pub read_by : BlockQueueState → Virtqueue → Result ℕ QueueError → BlockQueueState × Result (Unit {0}) QueueError
+read_by q u (Ok next) = (record q { queue = Split (returns_at u next); is_unread = false }, Ok tt)
+read_by q u (Err e) = (q, Err e)
 
 -- ---- pops
 
@@ -76,7 +111,7 @@ popped buffer request = pop.Chain (chain_by buffer) (block_parts request) (len_o
 abbrev pub begun : AnyQueue → BlockQueueState → PackedBuffer → List Segment → Result Request GuestMemoryError
     → Pop × BlockQueueState
 begun back q buffer chain (Ok request) = let short = shortened (length q.asked) (length chain) request in
-    (popped buffer short, with_asked q buffer.id (Some (record { chain = chain; request = short })))
+    (popped buffer short, with_asked q buffer.id (Some (record { chain = chain; request = short; kept = []; gap = false })))
 begun back q buffer chain (Err e) = (pop.Later, with_queue q back)
 
 -- what happens to the ring by that
@@ -88,11 +123,25 @@ event_of pop.Later = None
 
 -- ---- returns
 
+-- the bytes before its status were not found of a chain with a gap, so none were written there
+abbrev pub len_left : Asked → ℕ → ℕ
+len_left asked len = if asked.gap then 0 else len
+
 abbrev pub gave : Result (Unit {0}) QueueError → GiveBack
 gave (Ok done) = back.Done
 gave (Err e) = back.Broken e
 
 module _ {H : Type 0} (step : H → (s : MemoryStep) → Returned s → H → Type 0) where
+  abbrev pub ReadsBy : BlockQueueState → Bool → AnyQueue → H → Result (Unit {0}) QueueError → BlockQueueState → H → Type 0
+  ReadsBy q true (Split u) old r q' new =
+      (next : Result ℕ QueueError) × step old (reads_used u) next new × ((q', r) ≡ read_by q u next)
+  ReadsBy q true (Packed u) old r q' new = (r ≡ Ok tt) × (q' ≡ record q { is_unread = false }) × (new ≡ old)
+  ReadsBy q false u old r q' new = (r ≡ Ok tt) × (q' ≡ q) × (new ≡ old)
+
+  -- where a queue returns its next chain is read, if it was not
+  abbrev pub Reads : BlockQueueState → H → Result (Unit {0}) QueueError → BlockQueueState → H → Type 0
+  Reads q = ReadsBy q q.is_unread q.queue
+
   -- a chain was popped: its header is read, if it can be under way. If not, it breaks the ring, which the event says
   abbrev pub Begins : DeviceLimits → AnyQueue → BlockQueueState → PackedBuffer → List Segment → H → Pop → BlockQueueState → H
       → Type 0
@@ -115,7 +164,7 @@ module _ {H : Type 0} (step : H → (s : MemoryStep) → Returned s → H → Ty
 
   -- the driver is asked to notify, and the ring looked at again; and then its pages are marked
   abbrev pub Asks : AnyQueue → H → Result Bool QueueError → H → Type 0
-  Asks q old r new = (mid : H) × step old (enables q) r mid × Marks step (asking_marks q) mid new
+  Asks q old r new = (mid : H) × step old (enables q) r mid × MarksRing step (asking_marks q) mid new
 
   -- the driver was asked to notify, and a look after that found no chain
   abbrev pub FoundNone : AnyQueue → H → Type 0
@@ -137,10 +186,19 @@ module _ {H : Type 0} (step : H → (s : MemoryStep) → Returned s → H → Ty
   AfterPop terms pop.None q old a q' new = Waits terms q old a q' new
   AfterPop terms found q old a q' new = (a ≡ event_of found) × (q' ≡ q) × (new ≡ old)
 
+  abbrev pub PopsOrWaits : DeviceLimits → BlockQueueState → H → Option RingEvent → BlockQueueState → H → Type 0
+  PopsOrWaits terms q old a q' new = (found : Pop) × (mid_q : BlockQueueState) × (mid : H)
+      × Pops terms q old found mid_q mid × AfterPop terms found mid_q mid a q' new
+
+  abbrev pub AfterRead : DeviceLimits → Result (Unit {0}) QueueError → BlockQueueState → H → Option RingEvent
+      → BlockQueueState → H → Type 0
+  AfterRead terms (Ok done) q old a q' new = PopsOrWaits terms q old a q' new
+  AfterRead terms (Err e) q old a q' new = (a ≡ event_of (refused e)) × (q' ≡ q) × (new ≡ old)
+
   -- what happens to a ring next in its turn
   abbrev pub HappensNext : DeviceLimits → BlockQueueState → H → Option RingEvent → BlockQueueState → H → Type 0
-  HappensNext terms q old a q' new = (found : Pop) × (mid_q : BlockQueueState) × (mid : H)
-      × Pops terms q old found mid_q mid × AfterPop terms found mid_q mid a q' new
+  HappensNext terms q old a q' new = (read : Result (Unit {0}) QueueError) × (mid_q : BlockQueueState) × (mid : H)
+      × Reads q old read mid_q mid × AfterRead terms read mid_q mid a q' new
 
   -- a request is over: its status is written, and then the pages that it may have changed are marked. If an allocation
   -- fails, the request is forgotten
@@ -149,14 +207,14 @@ module _ {H : Type 0} (step : H → (s : MemoryStep) → Returned s → H → Ty
       ((r ≡ finished.NotUnderWay) × (q' ≡ q) × (new ≡ old))
       (λ asked. (w : Result ℕ GuestMemoryError) × (mid : H) × step old (finishes asked.chain
       (status_of asked.request failed) (written_of asked.request moved)) w mid
-      × MatchResult w (λ len. (r ≡ finished.Done len) × (q' ≡ q) × Marks step (chain_marks asked.chain) mid new)
+      × MatchResult w (λ len. (r ≡ finished.Done (len_left asked len)) × (q' ≡ q) × Marks step (chain_marks asked.chain) mid new)
       (λ e. (r ≡ finished.Forgotten) × (q' ≡ with_asked q chain.id None) × (new ≡ mid)))
 
   -- a chain is returned, and then the pages of its ring are marked
   abbrev pub Publishes : AnyQueue → PackedBuffer → ℕ → H → GiveBack → AnyQueue → H → Type 0
   Publishes q buffer len old a q' new = (r : Result (Unit {0}) QueueError) × (stored : H)
       × step old (adds_used q buffer len) r stored
-      × Marks step (return_marks q) stored new × (a ≡ gave r) × (q' ≡ after_used q buffer r)
+      × MarksRing step (return_marks q) stored new × (a ≡ gave r) × (q' ≡ after_used q buffer r)
 
   abbrev pub GivesBack : BlockQueueState → Chain → ℕ → H → GiveBack → BlockQueueState → H → Type 0
   GivesBack q chain len old a q' new = Publishes q.queue (buffer_by chain) len old a q'.queue new

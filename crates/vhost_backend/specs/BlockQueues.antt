@@ -1,9 +1,9 @@
 -- The queues of a block device's rings: what is done for one of them, step by step, and what it leaves.
-use Rattle.std.specs.Prelude.{◌≡◌, ℕ, ◌&&◌, nat_le, nat_lt, Bool, true, false, if◌then◌else◌, List, replicate, slice_get, slice_set, Option, Some, None, Result, Ok, Err, MatchOption, option_map}
+use Rattle.std.specs.Prelude.{◌≡◌, ℕ, not, ◌&&◌, ◌||◌, nat_le, nat_lt, Bool, true, false, if◌then◌else◌, List, replicate, slice_get, slice_set, Option, Some, None, Result, Ok, Err, MatchOption, option_map}
 use Rattle.vm_memory_device.specs.declared.chain.Segment.{Segment}
 use Rattle.virtio_blk.specs.declared.request.Request.{Request}
 use Rattle.virtio_blk.specs.declared.request.DeviceLimits.{DeviceLimits}
-use Rattle.virtio_queue.specs.Any.{after_asked, with_ready}
+use Rattle.virtio_queue.specs.Any.{after_asked}
 use Rattle.virtio_queue.specs.Packed as packed
 use Rattle.virtio_queue.specs.declared.any.AnyQueue.{AnyQueue}
 use Rattle.virtio_queue.specs.declared.any.AnyQueue.TheVariants.{Packed}
@@ -11,10 +11,11 @@ use Rattle.virtio_queue.specs.declared.error.QueueError.{QueueError}
 use Rattle.vhost_user.specs.declared.vring.RunningVring.{RunningVring}
 use Rattle.vhost_backend.specs.Backend.{BackendState}
 use Rattle.vhost_backend.specs.Block.{block_parts, block_step}
-use Rattle.vhost_backend.specs.BlockQueue.{BlockQueueState, FinishesRequest, GivesBack, asked_at, new_queue, with_queue}
+use Rattle.vhost_backend.specs.BlockQueue.{BlockQueueState, FinishesRequest, GivesBack, asked_at, moved, new_queue, started, unset, with_queue}
 use Rattle.vhost_backend.specs.BlockTurn.{TakesStep}
 use Rattle.vhost_backend.specs.RingMemory.{MemoryStep, Returned, needs}
-use Rattle.vhost_backend.specs.SetUp.{Fresh, base_of, is_set_up, moved_queue}
+use Rattle.vhost_backend.specs.Reach.{same_log}
+use Rattle.vhost_backend.specs.SetUp.{base_of, fresh_queue, is_set_up, lies_at, moved_queue}
 use Rattle.vhost_backend.specs.declared.backend.Finish.{Finish}
 use Rattle.vhost_backend.specs.declared.backend.Finish.TheVariants.{Done, At}
 use Rattle.vhost_backend.specs.declared.backend.Todo.{Todo}
@@ -23,6 +24,7 @@ use Rattle.vhost_backend.specs.declared.block_queue.Finished.{Finished}
 use Rattle.vhost_backend.specs.declared.block_queue.Finished.TheVariants.{NotUnderWay}
 use Rattle.vhost_backend.specs.declared.block_queue.GiveBack.{GiveBack}
 use Rattle.vhost_backend.specs.declared.block_queue.GiveBack.TheVariants as back
+use Rattle.vhost_backend.specs.Sight.{Sight}
 use Rattle.vhost_backend.specs.declared.block_queues.Reached.{Reached}
 use Rattle.vhost_backend.specs.declared.block_queues.Reached.TheVariants.{Fine, Broken}
 use Rattle.vhost_backend.specs.declared.request.Chain.{Chain}
@@ -54,18 +56,38 @@ chain_of id (Some q) = option_map (λ asked. asked.chain) (asked_at q id)
 
 -- the base of a ring that is stopped, if its queue was set up, which it is not from then on
 abbrev pub base_left : BlockQueueState → BlockQueueState × Finish
-base_left q = if is_set_up q.queue then (with_queue q (with_ready q.queue false), At (base_of q.queue)) else (q, Done)
+base_left q = if is_set_up q.queue then (unset q, At (base_of q.queue)) else (q, Done)
 
 abbrev pub based : List BlockQueueState → ℕ → Option BlockQueueState → List BlockQueueState × Finish
 based qs ring None = (qs, Done)
 based qs ring (Some q) = let t = base_left q in (slice_set qs ring t.0, t.1)
 
--- ---- on memory
+-- a ring begins with its queue, or goes on with it. It cannot be reached if there is no such queue
+abbrev pub began : BlockQueueState → Result AnyQueue QueueError → Option ℕ → BlockQueueState × Reached
+began q (Ok made) log = (started q made log, Fine)
+began q (Err e) log = (q, Broken)
 
--- a queue was told where its ring lies, or cannot be reached there
-abbrev pub placed : BlockQueueState → Result AnyQueue QueueError → Reached × BlockQueueState
-placed q (Ok made) = (Fine, with_queue q made)
-placed q (Err e) = (Broken, q)
+abbrev pub went_on : BlockQueueState → Result AnyQueue QueueError → Option ℕ → BlockQueueState × Reached
+went_on q (Ok made) log = (moved q made log, Fine)
+went_on q (Err e) log = (q, Broken)
+
+-- it lies where it did, and is logged there
+abbrev pub stays_at : BlockQueueState → RunningVring → Bool
+stays_at q vring = lies_at q.queue vring && same_log q.reach.log vring.log
+
+-- a ring that was started begins at its base, and another one goes on where it is, if it was set up
+abbrev pub set_up : BlockQueueState → ℕ → RunningVring → ℕ → Bool → BlockQueueState × Reached
+set_up q max_size vring features true = began q (fresh_queue max_size vring features) vring.log
+set_up q max_size vring features false = if not (is_set_up q.queue) || stays_at q vring then (q, Fine)
+    else went_on q (moved_queue q.queue vring) vring.log
+
+abbrev pub set_up_at : List BlockQueueState → ℕ → ℕ → RunningVring → ℕ → Bool → Option BlockQueueState
+    → List BlockQueueState × Reached
+set_up_at qs ring max_size vring features fresh None = (qs, Fine)
+set_up_at qs ring max_size vring features fresh (Some q) =
+    let t = set_up q max_size vring features fresh in (slice_set qs ring t.0, t.1)
+
+-- ---- on memory
 
 abbrev pub given_back : GiveBack → Reached
 given_back back.Done = Fine
@@ -78,13 +100,6 @@ WithQueue qs ring none old r qs' new P = MatchOption (slice_get qs ring) ((r ≡
     (λ q. (q' : BlockQueueState) × P q r q' × (qs' ≡ slice_set qs ring q'))
 
 module _ {H : Type 0} (step : H → (s : MemoryStep) → Returned s → H → Type 0) where
-  -- a ring that was started begins at its base, and another one goes on where it is, if it was set up
-  abbrev pub SetsUp : BlockQueueState → ℕ → RunningVring → ℕ → Bool → H → Reached → BlockQueueState → H → Type 0
-  SetsUp q max_size vring features true old r q' new =
-      (made : Result AnyQueue QueueError) × Fresh step max_size vring features old made new × ((r, q') ≡ placed q made)
-  SetsUp q max_size vring features false old r q' new =
-      ((r, q') ≡ (if is_set_up q.queue then placed q (moved_queue q.queue vring) else (Fine, q))) × (new ≡ old)
-
   -- the request of a chain is over
   abbrev pub Finishes : Chain → ℕ → Bool → H → H → BlockQueueState → Finished → BlockQueueState → Type 0
   Finishes chain moved failed old new q r q' = FinishesRequest step q chain moved failed old r q' new
@@ -102,6 +117,6 @@ module _ {H : Type 0} (step : H → (s : MemoryStep) → Returned s → H → Ty
   Asks old new q r q' = step old (needs q.queue) r new × (q' ≡ with_queue q (after_asked q.queue r))
 
   -- the ring takes a step of its turn
-  abbrev pub Turns : DeviceLimits → ℕ → BackendState → BackendState → H → H → BlockQueueState → Option Todo → BlockQueueState
-      → Type 0
-  Turns terms ring b b' old new q r q' = TakesStep step terms ring b q old r b' q' new
+  abbrev pub Turns : Option Sight → DeviceLimits → ℕ → BackendState → BackendState → H → H → BlockQueueState → Option Todo
+      → BlockQueueState → Type 0
+  Turns way terms ring b b' old new q r q' = TakesStep step way terms ring b q old r b' q' new

@@ -1,5 +1,5 @@
 -- A connection with one ring and a request that is under way, and what happens to it.
-use Rattle.std.specs.Prelude.{ℕ, List, [], ◌∷◌, true, map, replicate}
+use Rattle.std.specs.Prelude.{ℕ, List, [], ◌∷◌, true, false, map, replicate}
 use Rattle.vhost_user.specs.Connection.{connected}
 use Rattle.vhost_user.specs.declared.backend_req_handler.Offer.{Offer}
 use Rattle.vhost_backend.specs.Backend.{BackendState, new_backend}
@@ -38,11 +38,11 @@ ended = Told (event.Ring 0 (Ended 2 (Moved 512)))
 
 -- GET_VRING_BASE of the ring
 abbrev pub base_asked : List Happening
-base_asked = Came (record { request = 11; flags = 1; size = 8 }) (replicate 8 0) 0 ∷ ended ∷ []
+base_asked = Came (record { request = 11; flags = 1; size = 8 }) (replicate 8 0) 0 false ∷ ended ∷ []
 
 -- SET_MEM_TABLE without regions
 abbrev pub table_sent : List Happening
-table_sent = Came (record { request = 5; flags = 1; size = 8 }) (replicate 8 0) 0 ∷ Told event.GoOn ∷ ended ∷ []
+table_sent = Came (record { request = 5; flags = 1; size = 8 }) (replicate 8 0) 0 false ∷ Told event.GoOn ∷ ended ∷ []
 
 abbrev pub outcomes : List Todo → List Outcome
 outcomes all = map (λ t. t.message) all

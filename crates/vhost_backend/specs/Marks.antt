@@ -6,7 +6,7 @@ use Rattle.virtio_queue.specs.Notification.{kick_offset}
 use Rattle.virtio_queue.specs.Rings.{slot}
 use Rattle.virtio_queue.specs.declared.any.AnyQueue.{AnyQueue}
 use Rattle.virtio_queue.specs.declared.any.AnyQueue.TheVariants.{Split, Packed}
-use Rattle.vhost_backend.specs.RingMemory.{MemoryStep, Returned, marks}
+use Rattle.vhost_backend.specs.RingMemory.{MemoryStep, Returned, marks, marks_ring}
 use Rattle.vhost_backend.specs.declared.pieces.Piece.{Piece}
 
 -- all writable bytes of a chain
@@ -34,6 +34,12 @@ asking_marks (Packed q) = record { base = q.state.device_area; offset = 0; len =
 abbrev pub Marks : {H : Type 0} → (H → (s : MemoryStep) → Returned s → H → Type 0) → List Piece → H → H → Type 0
 Marks step [] old new = new ≡ old
 Marks {H} step (m ∷ ms) old new = (mid : H) × step old (marks m.base m.offset m.len) tt mid × Marks step ms mid new
+
+-- these marks of a ring are made, one after another
+abbrev pub MarksRing : {H : Type 0} → (H → (s : MemoryStep) → Returned s → H → Type 0) → List Piece → H → H → Type 0
+MarksRing step [] old new = new ≡ old
+MarksRing {H} step (m ∷ ms) old new =
+    (mid : H) × step old (marks_ring m.base m.offset m.len) tt mid × MarksRing step ms mid new
 
 -- N bytes at an address lie in one of these marks
 abbrev pub Covered : List Piece → ℕ → ℕ → Type 0

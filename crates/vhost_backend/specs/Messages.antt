@@ -27,8 +27,8 @@ use Rattle.vhost_backend.specs.declared.rings.Event.{Event}
 use Rattle.vhost_backend.specs.declared.rings.Event.TheVariants as event
 
 pub data Happening : Type 0 where
-  -- a message came whole, with a number of descriptors
-  Came : Header → List ℕ → ℕ → Happening
+  -- a message came whole, with a number of descriptors. If it is one on the table, what it changes may be in use
+  Came : Header → List ℕ → ℕ → Bool → Happening
   -- what the message that took effect asks for was done or not
   Done : Finish → Happening
   -- something happened to rings
@@ -37,7 +37,7 @@ pub data Happening : Type 0 where
   HungUp : Happening
 
 abbrev pub stepped : BackendState → Happening → BackendState
-stepped b (Came h payload descriptors) = (after_message b h payload descriptors).0
+stepped b (Came h payload descriptors in_use) = (after_message b h payload descriptors in_use).0
 stepped b (Done end) = (after_finish b end).0
 stepped b (Told e) = (after_event b e).0
 stepped b HungUp = over b
@@ -49,7 +49,7 @@ after (x ∷ xs) b = after xs (stepped b x)
 
 -- what is to be done by each
 abbrev pub to_do : BackendState → Happening → List Todo
-to_do b (Came h payload descriptors) = (after_message b h payload descriptors).1 ∷ []
+to_do b (Came h payload descriptors in_use) = (after_message b h payload descriptors in_use).1 ∷ []
 to_do b (Done end) = []
 to_do b (Told e) = (after_event b e).1 ∷ []
 to_do b HungUp = []
@@ -85,10 +85,10 @@ abbrev pub events_of_request : BackendState → FrontendReq → List ℕ → Unt
 events_of_request b request payload until =
     events_until until ++ events_if_due b request payload (is_due until (waited b.rings until).1)
 
-abbrev pub events_of_decoded : BackendState → List ℕ → ℕ → Result FrontendReq Refusal → List Event
-events_of_decoded b payload descriptors (Err e) = []
-events_of_decoded b payload descriptors (Ok request) = if descriptors == descriptors_of request
-    then events_of_request b request payload (until_of b request) else []
+abbrev pub events_of_decoded : BackendState → List ℕ → ℕ → Bool → Result FrontendReq Refusal → List Event
+events_of_decoded b payload descriptors in_use (Err e) = []
+events_of_decoded b payload descriptors in_use (Ok request) = if descriptors == descriptors_of request
+    then events_of_request b request payload (until_of b in_use request) else []
 
 abbrev pub events_of_waiting : BackendState → Event → Taken → List Event
 events_of_waiting b e (taken.Waits h request until) =
@@ -120,8 +120,8 @@ events_of_end b end _ = []
 
 -- what happens to rings by something that happens to the connection
 abbrev pub events_of : BackendState → Happening → List Event
-events_of b (Came h payload descriptors) = if is_free b.taken
-    then events_of_decoded b payload descriptors (request_of h payload) else []
+events_of b (Came h payload descriptors in_use) = if is_free b.taken
+    then events_of_decoded b payload descriptors in_use (request_of h payload) else []
 events_of b (Done end) = events_of_end b end b.taken
 events_of b (Told e) = if is_outer e then e ∷ events_of_waiting b e b.taken else []
 events_of b HungUp = ending
@@ -156,7 +156,7 @@ changes_all _ = false
 
 -- how many messages are taken
 abbrev pub is_taken : BackendState → Happening → Bool
-is_taken b (Came h payload descriptors) = is_free b.taken
+is_taken b (Came h payload descriptors in_use) = is_free b.taken
 is_taken b _ = false
 
 abbrev pub taken_count : List Happening → BackendState → ℕ
@@ -178,7 +178,8 @@ is_pending (taken.Begun h request) = true
 is_pending _ = false
 
 abbrev pub is_over : BackendState → Happening → Bool
-is_over b (Came h payload descriptors) = is_refused (after_message b h payload descriptors).1.message
+is_over b (Came h payload descriptors in_use) =
+    is_refused (after_message b h payload descriptors in_use).1.message
 is_over b (Done end) = is_begun b.taken
 is_over b (Told e) = is_refused (after_event b e).1.message
 is_over b HungUp = is_pending b.taken

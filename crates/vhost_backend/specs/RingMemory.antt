@@ -1,8 +1,12 @@
 -- What the calls of a ring do with guest memory, which a guest may write at any moment: steps, each of which is one call
--- of the queue, one of a block request, or a mark of pages in the log.
-use Rattle.std.specs.Prelude.{◌≡◌, ℕ, Bool, List, Option, Result}
-use Rattle.vm_memory_guest.specs.Host.{Host}
+-- of the queue, one of a block request, a mark of pages in the log, or a change of the table that the ring's addresses go
+-- through.
+use Rattle.std.specs.Prelude.{◌≡◌, ℕ, Bool, List, [], ◌∷◌, Option, Some, None, Result, Ok, Err}
+use Rattle.std.specs.declared.alloc.AllocError.{AllocError}
+use Rattle.vm_memory_base.specs.Table.{TableEvent, Set, Invalidate}
+use Rattle.vm_memory_guest.specs.Host.{Holds, Host, Name, Shape, Tlb}
 use Rattle.vm_memory_guest.specs.Memory.{Memory}
+use Rattle.vm_memory_guest.specs.declared.host.TlbId.{TlbId}
 use Rattle.vm_memory_guest.specs.declared.region.error.GuestMemoryError.{GuestMemoryError}
 use Rattle.vm_memory_device.specs.Chain.{Entry, readable, text, writable}
 use Rattle.vm_memory_device.specs.declared.chain.Segment.{Segment}
@@ -18,11 +22,15 @@ use Rattle.virtio_blk.specs.Looks.{BeginsBy, FinishesBy}
 use Rattle.virtio_blk.specs.Steps.{Begins, Finishes, breaks_limits}
 use Rattle.virtio_blk.specs.declared.request.Request.{Request}
 use Rattle.virtio_blk.specs.declared.request.DeviceLimits.{DeviceLimits}
+use Rattle.vhost_iotlb.specs.Changes.{Changes}
+use Rattle.vhost_iotlb.specs.declared.kept.Kept.{Kept}
 use Rattle.vhost_backend.specs.PageList.{marked}
+use Rattle.vhost_backend.specs.RingMarks.{ring_marked}
 use Rattle.vhost_backend.specs.declared.ring_memory.Logged.{Logged}
 
--- a pop, a return, whether the driver has to be notified, that it is to notify; the index in the used ring; the beginning and the end of the block
--- request of a chain; and a mark of the pages with N bytes so far after an address
+-- a pop, a return, whether the driver has to be notified, that it is to notify; the beginning and the end of the block
+-- request of a chain; the index in the used ring; a mark of the pages with N bytes so far after an address, in guest
+-- memory or in the ring's; and a range that is kept for the ring, or is forgotten
 pub data MemoryStep : Type 0 where
   pops : AnyQueue → MemoryStep
   adds_used : AnyQueue → PackedBuffer → ℕ → MemoryStep
@@ -32,6 +40,9 @@ pub data MemoryStep : Type 0 where
   finishes : List Segment → ℕ → ℕ → MemoryStep
   reads_used : Virtqueue → MemoryStep
   marks : ℕ → ℕ → ℕ → MemoryStep
+  marks_ring : ℕ → ℕ → ℕ → MemoryStep
+  keeps : Kept → MemoryStep
+  forgets : Kept → MemoryStep
 
 -- what it returns
 abbrev pub Returned : MemoryStep → Type 0
@@ -43,24 +54,50 @@ Returned (begins terms chain) = Result Request GuestMemoryError
 Returned (finishes chain status moved) = Result ℕ GuestMemoryError
 Returned (reads_used q) = Result ℕ QueueError
 Returned (marks base offset len) = Unit {0}
+Returned (marks_ring base offset len) = Unit {0}
+Returned (keeps k) = Result (Unit {0}) AllocError
+Returned (forgets k) = Result (Unit {0}) AllocError
 
--- on memory that stands still: what the queue and the block request say. The log is no part of it
-module _ {B : Type 0} (marks_of : B → ℕ → ℕ → B → Type 0) (m : Memory) where
+-- a call of the table of a ring, if it has one. If an allocation fails, nothing changes
+abbrev pub ChangesTable : {B : Type 0} → Option TlbId → TableEvent → Host B → Result (Unit {0}) AllocError → Host B
+    → Type 0
+ChangesTable None call old r new = (r ≡ Ok tt) × (new ≡ old)
+ChangesTable (Some t) call old (Ok done) new = Changes t.0 call old new
+ChangesTable (Some t) call old (Err e) new = new ≡ old
+
+-- a host holds what the memory of a ring names, what guest memory names, and the ring's table
+abbrev pub table_names : Option TlbId → List Name
+table_names None = []
+table_names (Some t) = Tlb t.0 ∷ []
+
+abbrev pub HoldsAll : Shape → List Name → List Name → Option TlbId → Type 0
+HoldsAll shape ring guest table = Holds shape ring × Holds shape guest × Holds shape (table_names table)
+
+-- on memory that stands still: what the queue says of the ring's memory, and the block request of guest memory. The log
+-- is no part of it
+module _ {B : Type 0} (marks_of : B → ℕ → ℕ → B → Type 0) (ring guest : Memory) (table : Option TlbId) where
   abbrev pub Still : Host B → (s : MemoryStep) → Returned s → Host B → Type 0
-  Still old (pops q) r new = Answers (MayWantChain m old q) (popped m old q) r × (new ≡ old)
-  Still old (adds_used q buffer len) r new = AddsUsed marks_of m q buffer len old r new
-  Still old (needs q) r new = Answers (MayWantNeeds m old q) (needs_notification m old q) r × (new ≡ old)
-  Still old (enables q) r new = Enables marks_of m q old r new
+  Still old (pops q) r new = Answers (MayWantChain ring old q) (popped ring old q) r × (new ≡ old)
+  Still old (adds_used q buffer len) r new = AddsUsed marks_of ring q buffer len old r new
+  Still old (needs q) r new = Answers (MayWantNeeds ring old q) (needs_notification ring old q) r × (new ≡ old)
+  Still old (enables q) r new = Enables marks_of ring q old r new
   Still old (begins terms chain) r new =
-      Begins m old terms (breaks_limits terms chain) (text (readable chain)) (text (writable chain)) r × (new ≡ old)
+      Begins guest old terms (breaks_limits terms chain) (text (readable chain)) (text (writable chain)) r × (new ≡ old)
   Still old (finishes chain status moved) r new =
-      Finishes marks_of m (text (writable chain)) status moved old r new
-  Still old (reads_used q) r new = Answers (MayWantUsedIdx m old q.state) (used_idx m old q.state) r × (new ≡ old)
+      Finishes marks_of guest (text (writable chain)) status moved old r new
+  Still old (reads_used q) r new = Answers (MayWantUsedIdx ring old q.state) (used_idx ring old q.state) r × (new ≡ old)
   Still old (marks base offset len) r new = new ≡ old
+  Still old (marks_ring base offset len) r new = new ≡ old
+  Still old (keeps k) r new = ChangesTable table (Set k.iova k.base k.len k.access) old r new
+  Still old (forgets k) r new = ChangesTable table (Invalidate k.iova k.len) old r new
 
   -- and the pages that are to be marked
   abbrev pub Logs : Logged B → (s : MemoryStep) → Returned s → Logged B → Type 0
   Logs old (marks base offset len) r new = (new.host ≡ old.host) × (new.pages ≡ marked old.pages base offset len)
+  Logs old (marks_ring base offset len) r new =
+      (new.host ≡ old.host) × (new.pages ≡ ring_marked table old.host.tables old.pages base offset len)
+  Logs old (keeps k) r new = Still old.host (keeps k) r new.host × (new.pages ≡ old.pages)
+  Logs old (forgets k) r new = Still old.host (forgets k) r new.host × (new.pages ≡ old.pages)
   Logs old (pops q) r new = Still old.host (pops q) r new.host × (new.pages ≡ old.pages)
   Logs old (adds_used q buffer len) r new =
       Still old.host (adds_used q buffer len) r new.host × (new.pages ≡ old.pages)
@@ -72,12 +109,12 @@ module _ {B : Type 0} (marks_of : B → ℕ → ℕ → B → Type 0) (m : Memor
       Still old.host (finishes chain status moved) r new.host × (new.pages ≡ old.pages)
 
 -- on memory that a guest writes: the looks and stores that the definition of the step asks for, in this order and each
--- once
+-- once. What it makes of marks and of the ring's table, it says itself
 module _ {H : Type 0} (look : H → (s : Step) → Result (Given s) QueueError → H → Type 0)
     (store : H → (s : Step) → Result (Given s) QueueError → H → Type 0)
     (fetch : H → List Entry → ℕ → Result (List ℕ) GuestMemoryError → H → Type 0)
     (put : H → List Entry → List ℕ → Result ℕ GuestMemoryError → H → Type 0)
-    (mark : H → ℕ → ℕ → ℕ → H → Type 0) where
+    (log : H → (s : MemoryStep) → Returned s → H → Type 0) where
   abbrev pub ByLooks : H → (s : MemoryStep) → Returned s → H → Type 0
   ByLooks old (pops q) r new = Follows look (popping q) old r new
   ByLooks old (adds_used q buffer len) r new = Follows store (returning q buffer len) old r new
@@ -87,4 +124,7 @@ module _ {H : Type 0} (look : H → (s : Step) → Result (Given s) QueueError �
       (text (writable chain)) old r new
   ByLooks old (finishes chain status moved) r new = FinishesBy put (text (writable chain)) status moved old r new
   ByLooks old (reads_used q) r new = Follows look (index_of q.state.ready q.state.used_ring) old r new
-  ByLooks old (marks base offset len) r new = mark old base offset len new
+  ByLooks old (marks base offset len) r new = log old (marks base offset len) r new
+  ByLooks old (marks_ring base offset len) r new = log old (marks_ring base offset len) r new
+  ByLooks old (keeps k) r new = log old (keeps k) r new
+  ByLooks old (forgets k) r new = log old (forgets k) r new

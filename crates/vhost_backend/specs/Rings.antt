@@ -163,6 +163,10 @@ stopped_by (Some r) = is_stopped r.phase
 abbrev pub is_stopped_at : RingsState → ℕ → Bool
 is_stopped_at s i = stopped_by (slice_get s.rings i)
 
+-- whether no ring is started
+abbrev pub all_stopped : RingsState → Bool
+all_stopped s = list_all (λ r. is_stopped r.phase) s.rings
+
 -- ---- all of it
 
 abbrev pub happens : RingsState → Event → Happens

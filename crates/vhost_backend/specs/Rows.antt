@@ -2,6 +2,8 @@
 use Rattle.std.specs.Prelude.{ℕ, ◌+◌, ◌-◌, min, Bool, true, false, if◌then◌else◌, Option, Some, None}
 use Rattle.vhost_calls.specs.Codes.{code_of_refusal}
 use Rattle.vhost_message.specs.declared.regions.MemoryRegion.{MemoryRegion}
+use Rattle.vm_memory_base.specs.declared.iotlb.Permissions.{Permissions}
+use Rattle.vm_memory_base.specs.declared.iotlb.Permissions.TheVariants as permissions
 use Rattle.vhost_backend.specs.PageList.{capped}
 use Rattle.vhost_backend.specs.declared.block.BlockStep.{BlockStep}
 use Rattle.vhost_backend.specs.declared.block.BlockStep.TheVariants as step
@@ -10,6 +12,7 @@ use Rattle.vhost_backend.specs.declared.deeds.Deed.TheVariants as deed
 use Rattle.vhost_backend.specs.declared.deeds.Why.{Why}
 use Rattle.vhost_backend.specs.declared.deeds.Why.TheVariants as why
 use Rattle.vhost_backend.specs.declared.page_list.PageRange.{PageRange}
+use Rattle.vhost_backend.specs.declared.questions.Miss.{Miss}
 use Rattle.vhost_backend.specs.declared.rows.ActionRow.{ActionRow}
 use Rattle.vhost_backend.specs.declared.wanted.Purpose.{Purpose}
 use Rattle.vhost_backend.specs.declared.wanted.Purpose.TheVariants as purpose
@@ -84,6 +87,21 @@ code_of_why _ = 0
 abbrev pub end_row : Why → ActionRow
 end_row y = record (no_action 10) { way = way_of_why y; id = code_of_why y }
 
+abbrev pub way_of_access : Permissions → ℕ
+way_of_access permissions.No = 0
+way_of_access permissions.Read = 1
+way_of_access permissions.Write = 2
+way_of_access permissions.ReadWrite = 3
+
+-- a mapping is asked for, or it is told that one forbids the access
+abbrev pub ask_row : Miss → Bool → ActionRow
+ask_row miss is_denied = record (no_action 12) {
+  ring = number_of miss.ring;
+  way = way_of_access miss.access;
+  count = flag_of is_denied;
+  place = miss.iova;
+}
+
 -- what is to be done but a part of a request, of which the reply has so many bytes
 abbrev pub row_of : Deed → ℕ → Option ActionRow
 row_of deed.Send n = Some (record (no_action 1) { len = n })
@@ -97,6 +115,9 @@ row_of (deed.Interrupt ring) n = Some (on_ring 7 ring)
 row_of (deed.Tell ring) n = Some (on_ring 8 ring)
 row_of (deed.Stopped ring) n = Some (on_ring 11 ring)
 row_of (deed.End y) n = Some (end_row y)
+row_of deed.Table n = None
+row_of (deed.Ask miss) n = Some (ask_row miss false)
+row_of (deed.Deny miss) n = Some (ask_row miss true)
 
 -- ---- parts
 

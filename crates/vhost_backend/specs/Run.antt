@@ -1,14 +1,17 @@
 -- A run of a connection: what is done on memory and given to the program, move by move, and in which order.
-use Rattle.std.specs.Prelude.{◌≡◌, ◌⊎◌, ℕ, ◌+◌, ◌-◌, ◌^◌, ◌<◌, ◌≤◌, ◌==◌, nat_lt, ◌||◌, ◌&&◌, Bool, true, false, if◌then◌else◌, List, [], ◌∷◌, length, drop, map, flat_map, slice_get, Some, None, IsSome, MatchOption, is_none, option_to_list}
+use Rattle.std.specs.Prelude.{◌≡◌, ◌⊎◌, ℕ, ◌+◌, ◌-◌, ◌^◌, ◌<◌, ◌≤◌, ◌==◌, nat_lt, ◌||◌, ◌&&◌, Bool, true, false, if◌then◌else◌, List, [], ◌∷◌, length, drop, map, flat_map, slice_get, Option, Some, None, IsSome, IfSome, MatchOption, is_none, is_some, option_to_list}
+use Rattle.vm_memory_base.specs.Table.{Table}
 use Rattle.vhost_backend.specs.Backend.{is_at_rest, is_free, is_over}
 use Rattle.vhost_backend.specs.BlockBackend.{Looks, Steps, answered, gone_on, is_done, told}
 use Rattle.vhost_backend.specs.BlockConnection.{looked_after, with_backend}
+use Rattle.vhost_backend.specs.BlockTable.{ChangesTable, memory_lost}
 use Rattle.vhost_backend.specs.BlockQueues.{chain_of}
-use Rattle.vhost_backend.specs.ConnectionMemory.{Joins, MemoryState, forgotten, memory_step, with_pages}
+use Rattle.vhost_backend.specs.ConnectionMemory.{Joins, MemoryState, emptied, forgotten, memory_step, way_of, with_pages}
 use Rattle.vhost_backend.specs.Given.{Lays, Lies, Puts, is_left, len_of_part, no_counts, part_action, piece_row, place_from, rest_of}
 use Rattle.vhost_backend.specs.PageList.{NoneToMark, Pages, TakesRange}
-use Rattle.vhost_backend.specs.Rings.{has_next}
+use Rattle.vhost_backend.specs.Rings.{all_stopped, has_next}
 use Rattle.vhost_backend.specs.Rows.{flag_of, mark_row, row_of}
+use Rattle.vhost_backend.specs.TableCounts.{counted_if, evicted_by, missed}
 use Rattle.vhost_backend.specs.declared.block.BlockStep.{BlockStep}
 use Rattle.vhost_backend.specs.declared.block_backend.BlockBackend.{BlockBackend}
 use Rattle.vhost_backend.specs.declared.block_connection.BlockConnection.{BlockConnection}
@@ -96,10 +99,28 @@ BeginsPart c ring id part left c' = (is : Bool)
     × MatchOption (chain_of id (slice_get c.backend.queues ring)) (is ≡ false) (λ chain. Lies c.memory chain part is)
     × (c' ≡ open_part c ring id part left is)
 
+-- the table is changed as the message has it, if that can be done, and that is counted
+abbrev pub Applies : BlockConnection → BlockConnection → Type 0
+Applies c c' = (evicted : Option ℕ) × (w : BlockBackend) × (t : Table) × (logged : Logged (Unit {0}))
+    × ChangesTable (memory_step c.memory) c.backend c.memory.table c.memory.logged (is_some evicted) w t logged
+    × IfSome evicted (λ n. n ≡ evicted_by c.backend.change c.memory.table) × (c' ≡ record c {
+      memory = record c.memory { logged = logged; table = t };
+      backend = answered w (is_some evicted);
+      table_counts = counted_if c.table_counts c.backend.change evicted;
+    })
+
+-- after the last ring was stopped nothing is said of I/O addresses
+abbrev pub after_stop : BlockConnection → BlockConnection
+after_stop c = if all_stopped c.backend.backend.rings
+    then record c { memory = emptied c.memory; backend = memory_lost c.backend } else c
+
 -- what follows from what is to be done, beside that the program does it
 abbrev pub Follows : BlockConnection → Deed → BlockConnection → Type 0
-Follows c deed.UnmapAll c' = c' ≡ record c { memory = forgotten c.memory }
+Follows c deed.UnmapAll c' = c' ≡ record c { memory = forgotten c.memory; backend = memory_lost c.backend }
 Follows c deed.Join c' = JoinsAt c c'
+Follows c deed.Table c' = Applies c c'
+Follows c (deed.Stopped ring) c' = c' ≡ after_stop c
+Follows c (deed.Ask miss) c' = c' ≡ record c { table_counts = missed c.table_counts }
 Follows c (deed.Part ring id part left) c' = BeginsPart c ring id part left c'
 Follows c _ c' = c' ≡ c
 
@@ -166,7 +187,8 @@ lost_part c lost = part_ended (record c { lost = None }) lost.0 lost.1 Failed
 
 -- a ring that was kicked is looked at, or else one pops in its turn, if it finds something
 abbrev pub LooksBy : BlockConnection → Bool → BlockConnection → Type 0
-LooksBy c is c' = Looks (memory_step c.memory) c.backend c.memory.logged is c'.backend c'.memory.logged
+LooksBy c is c' = Looks (memory_step c.memory) (way_of c.memory c.backend) c.backend c.memory.logged is c'.backend
+    c'.memory.logged
     × (c' ≡ with_memory c c'.backend c'.memory.logged)
 
 -- the part that has no memory comes first, then the ends in order, then looks, and then turns

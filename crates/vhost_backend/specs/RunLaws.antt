@@ -1,5 +1,5 @@
 -- What runs keep: which pages wait to be marked, and which were given.
-use Rattle.std.specs.Prelude.{◌≡◌, ◌⊎◌, ℕ, Bool, true, false, List, [], ◌∷◌}
+use Rattle.std.specs.Prelude.{◌⊎◌, ℕ, Bool, true, false, List, [], ◌∷◌}
 use Rattle.vhost_backend.specs.PageList.{InRange, IsToMark}
 use Rattle.vhost_backend.specs.Run.{Course, Move, gives_marks}
 

@@ -1,5 +1,5 @@
 -- What each call of a run does and gives.
-use Rattle.std.specs.Prelude.{◌≡◌, ◌⊎◌, ℕ, ◌+◌, ◌-◌, Bool, true, false, List, [], ◌∷◌, length, map, slice_get, Option, Some, None, MatchOption}
+use Rattle.std.specs.Prelude.{◌≡◌, ◌⊎◌, ℕ, ◌+◌, Bool, true, false, List, [], ◌∷◌, length, map, slice_get, Option, Some, None, MatchOption}
 use Rattle.vhost_backend.specs.BlockBackend.{gone_on, is_done}
 use Rattle.vhost_backend.specs.BlockConnection.{with_backend}
 use Rattle.vhost_backend.specs.BlockQueues.{chain_of}

@@ -1,5 +1,5 @@
 -- Queues of rings, as the protocol's state has them.
-use Rattle.std.specs.Prelude.{◌≡◌, ℕ, ◌%◌, ◌/◌, nat_lt, Bool, true, false, if◌then◌else◌, Option, Some, None, Result, Ok, Err}
+use Rattle.std.specs.Prelude.{◌≡◌, ℕ, ◌%◌, ◌/◌, ◌==◌, ◌&&◌, nat_lt, Bool, true, false, if◌then◌else◌, Option, Some, None, Result, Ok, Err}
 use Rattle.vhost_user.specs.Features.{event_idx, has, ring_packed}
 use Rattle.vhost_user.specs.declared.vring.RunningVring.{RunningVring}
 use Rattle.virtio_queue.specs.Packed.{is_packed_size, of_bits}
@@ -12,7 +12,6 @@ use Rattle.virtio_queue.specs.declared.error.QueueError.{QueueError}
 use Rattle.virtio_queue.specs.declared.error.QueueError.TheVariants.{InvalidAvailRingIndex, InvalidMaxSize, InvalidSize}
 use Rattle.virtio_queue.specs.declared.packed.state.PackedState.{PackedState}
 use Rattle.virtio_queue.specs.declared.state.QueueState.{QueueState}
-use Rattle.vhost_backend.specs.RingMemory.{MemoryStep, Returned, reads_used}
 
 abbrev pub unset_queue : ℕ → Result AnyQueue QueueError
 unset_queue max_size =
@@ -21,6 +20,10 @@ unset_queue max_size =
 abbrev pub is_set_up : AnyQueue → Bool
 is_set_up (Split q) = q.state.ready
 is_set_up (Packed q) = q.state.ready
+
+abbrev pub is_split : AnyQueue → Bool
+is_split (Split q) = true
+is_split (Packed q) = false
 
 -- the base of a ring, as its queue stands
 abbrev pub base_of : AnyQueue → ℕ
@@ -78,23 +81,9 @@ abbrev pub packed_queue : ℕ → RunningVring → ℕ → Result AnyQueue Queue
 packed_queue max_size vring features = if nat_lt 0xffff vring.num then Err InvalidSize
     else packed_made (packed_state max_size vring features) (packed.state_error (packed_state max_size vring features))
 
--- a split queue returns its next chain where the used ring says
-abbrev pub returns_at : Virtqueue → Result ℕ QueueError → Result AnyQueue QueueError
-returns_at q (Ok next) = Ok (Split (record { state = record q.state { next_used = next }; added = None }))
-returns_at q (Err e) = Err e
-
-module _ {H : Type 0} (step : H → (s : MemoryStep) → Returned s → H → Type 0) where
-  abbrev pub FreshSplit : Result Virtqueue QueueError → H → Result AnyQueue QueueError → H → Type 0
-  FreshSplit (Err e) old r new = (r ≡ Err e) × (new ≡ old)
-  FreshSplit (Ok q) old r new =
-      (next : Result ℕ QueueError) × step old (reads_used q) next new × (r ≡ returns_at q next)
-
-  abbrev pub FreshBy : Bool → ℕ → RunningVring → ℕ → H → Result AnyQueue QueueError → H → Type 0
-  FreshBy true max_size vring features old r new = (r ≡ packed_queue max_size vring features) × (new ≡ old)
-  FreshBy false max_size vring features old r new = FreshSplit (split_queue max_size vring features) old r new
-
-  abbrev pub Fresh : ℕ → RunningVring → ℕ → H → Result AnyQueue QueueError → H → Type 0
-  Fresh max_size vring features = FreshBy (has features ring_packed) max_size vring features
+abbrev pub fresh_queue : ℕ → RunningVring → ℕ → Result AnyQueue QueueError
+fresh_queue max_size vring features = if has features ring_packed then packed_queue max_size vring features
+    else any_split (split_queue max_size vring features)
 
 -- ---- a ring that lies elsewhere goes on where it is
 
@@ -111,3 +100,10 @@ moved_queue (Split q) vring =
     any_split (split_made (split_moved q.state vring) (split.state_error (split_moved q.state vring)))
 moved_queue (Packed q) vring =
     packed_made (packed_moved q.state vring) (packed.state_error (packed_moved q.state vring))
+
+-- whether a queue lies where the protocol's state says
+abbrev pub lies_at : AnyQueue → RunningVring → Bool
+lies_at (Split q) vring = let s = q.state in
+    s.desc_table == vring.descriptor && s.avail_ring == vring.available && s.used_ring == vring.used
+lies_at (Packed q) vring = let s = q.state in
+    s.desc_ring == vring.descriptor && s.driver_area == vring.available && s.device_area == vring.used

@@ -1,12 +1,12 @@
 -- What a message that took effect asks for beyond the protocol's state.
 use Rattle.std.specs.Prelude.{true}
 use Rattle.vhost_message.specs.declared.frontend_req.FrontendReq.{FrontendReq}
-use Rattle.vhost_message.specs.declared.frontend_req.FrontendReq.TheVariants.{GetVringBase, SetBackendReqFd, SetLogBase, SetLogFd, SetMemTable, SetVringCall, SetVringErr, SetVringKick}
+use Rattle.vhost_message.specs.declared.frontend_req.FrontendReq.TheVariants.{GetVringBase, IotlbMsg, SetBackendReqFd, SetLogBase, SetLogFd, SetMemTable, SetVringCall, SetVringErr, SetVringKick}
 use Rattle.vhost_backend.specs.declared.backend.Taken.{Taken}
 use Rattle.vhost_backend.specs.declared.backend.Taken.TheVariants.{Begun}
 use Rattle.vhost_backend.specs.declared.wanted.Purpose.TheVariants.{Call, Channel, Error, Kick, LogCall}
 use Rattle.vhost_backend.specs.declared.wanted.Wanted.{Wanted}
-use Rattle.vhost_backend.specs.declared.wanted.Wanted.TheVariants.{Base, Descriptor, Finish, Log, Memory, Nothing}
+use Rattle.vhost_backend.specs.declared.wanted.Wanted.TheVariants.{Base, Descriptor, Finish, Log, Memory, Nothing, Table}
 
 abbrev pub wanted_of : FrontendReq → Wanted
 wanted_of (SetMemTable table) = Memory
@@ -17,6 +17,7 @@ wanted_of (SetVringErr index descriptor) = Descriptor (Error index) descriptor
 wanted_of SetBackendReqFd = Descriptor Channel true
 wanted_of SetLogFd = Descriptor LogCall true
 wanted_of (GetVringBase index) = Base index
+wanted_of (IotlbMsg message) = Table
 wanted_of _ = Finish
 
 -- by the message that was taken

@@ -1,5 +1,5 @@
 -- Calls of a back end as a whole, each of which is something that happens to its connection, or nothing.
-use Rattle.std.specs.Prelude.{◌≡◌, List, ◌++◌}
+use Rattle.std.specs.Prelude.{◌≡◌, List}
 use Rattle.vhost_backend.specs.Backend.{BackendState}
 use Rattle.vhost_backend.specs.Messages.{Happening, after}
 

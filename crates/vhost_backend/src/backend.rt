@@ -172,7 +172,7 @@ impl Backend {
     ghost use Rattle.vhost_user.specs.Connection.{can_offer, connected};
     ghost use Rattle.vhost_backend.specs.Wanted.{wanted_at};
     ghost use Rattle.vhost_user.specs.declared.backend_req_handler.OfferError.TheVariants.{Invalid, Memory};
-    ghost use Rattle.vhost_backend.specs.Backend.{after_event, after_finish, after_message, begun, begun_or_waits};
+    ghost use Rattle.vhost_backend.specs.Backend.{after_event, after_finish, after_request, begun, begun_or_waits};
     ghost use Rattle.vhost_backend.specs.Backend.{happened, is_at_rest, is_free, is_over, mapping_at, new_backend};
     ghost use Rattle.vhost_backend.specs.Backend.{over, placed, rebased, refreshed_one, refused, released, to_place};
     ghost use Rattle.vhost_backend.specs.Config.{config_changed};
@@ -303,8 +303,8 @@ impl Backend {
     }
 
     // What has to be returned before a request takes effect.
-    fn until(&self, request: &FrontendReq) -> Until
-        ensures { result ≡ until_of self.now request.now }
+    fn until(&self, request: &FrontendReq, in_use: bool) -> Until
+        ensures { result ≡ until_of self.now in_use request.now }
     {
         match request {
             FrontendReq::SetMemTable(_)
@@ -315,6 +315,7 @@ impl Backend {
             FrontendReq::GetVringBase { index } if (*index as usize) < self.rings.count() => {
                 Until::Ring(*index as usize)
             }
+            FrontendReq::IotlbMsg(_) if in_use => Until::AllRings,
             _ => Until::Now,
         }
     }
@@ -385,26 +386,34 @@ impl Backend {
         Outcome::Stays
     }
 
-    /// Takes a message that came whole: its header, its payload, and how many descriptors came with it. It is ignored
-    /// if the one before it was not finished. What it stops or changes for all rings is returned before it takes
-    /// effect.
+    /// Takes a message that came whole: its header, what it asks for by that and its payload, the payload, and how many
+    /// descriptors came with it. It is ignored if the one before it was not finished. What it stops or changes for all
+    /// rings is returned before it takes effect. A message on the table changes something for all rings if mappings are
+    /// in use that it changes.
     ///
     /// One that is refused changes neither the protocol's state nor what is under way: for the errors of
     /// `BackendReqHandler::handle`.
-    pub fn take_message(&mut self, header: &Header, payload: &[u8], descriptors: usize) -> Todo
-        ensures { (self.new, result) ≡ after_message self.old header.now payload.now descriptors }
+    pub fn take_message(
+        &mut self,
+        header: &Header,
+        asked: Result<FrontendReq, Refusal>,
+        payload: &[u8],
+        descriptors: usize,
+        in_use: bool,
+    ) -> Todo
+        ensures { (self.new, result) ≡ after_request self.old header.now asked payload.now descriptors in_use }
     {
         let Taken::Nothing = self.taken else {
             return to_do(nothing(0), None, Outcome::Stays);
         };
-        let request = match FrontendReq::decode(header, payload) {
+        let request = match asked {
             Ok(request) => request,
             Err(refusal) => return self.refuse(header, refusal),
         };
         if descriptors != request.descriptors() {
             return self.refuse(header, Refusal::Descriptors);
         }
-        let until = self.until(&request);
+        let until = self.until(&request, in_use);
         let done = self.wait(until);
         let mut place = None;
         self.place(&done, &mut place);

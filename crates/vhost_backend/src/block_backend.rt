@@ -3,29 +3,34 @@
 ghost use Rattle.std.specs.Prelude.{◌≡◌, ◌-◌, ◌^◌, ◌<◌, [], true, false, None, MatchResult, is_some, slice_set};
 ghost use Rattle.vhost_user.specs.Connection.{can_offer};
 ghost use Rattle.vhost_user.specs.declared.backend_req_handler.OfferError.TheVariants.{Invalid, Memory};
-ghost use Rattle.vhost_backend.specs.BlockBackend.{Acts, GivesBackAt, Looks, Places, Returns, SetsUpAt, Steps};
+ghost use Rattle.vhost_backend.specs.Sight.{sight_of};
+ghost use Rattle.vhost_backend.specs.BlockBackend.{Acts, GivesBackAt, Looks, Returns, Steps};
 ghost use Rattle.vhost_backend.specs.BlockBackend.{TakesTurn, after_reach, answered, came, ended_with, finished_by};
-ghost use Rattle.vhost_backend.specs.BlockBackend.{gone_on, hung_up, is_done, mapped, new_block_backend};
-ghost use Rattle.vhost_backend.specs.BlockBackend.{region_at, resized, terms_of, told};
+ghost use Rattle.vhost_backend.specs.BlockBackend.{gone_on, hung_up, is_done, mapped, new_block_backend, placed};
+ghost use Rattle.vhost_backend.specs.BlockBackend.{placed_by, region_at, resized, set_up_by, terms_of, told, in_use};
 ghost use Rattle.vhost_backend.specs.Rings.{has_next};
 
+mod channel;
+mod table;
 mod without_memory;
 
 use crate::backend::{Backend, Finish, Next, Outcome, Place, Todo};
 use crate::block::BlockStep;
-use crate::block_queue::Finished;
+use crate::block_queue::{Finished, Way};
 use crate::block_queues::{BlockQueues, Reached};
 use crate::deeds::{
     Ask, Deed, Limits, Made, Why, called_by, is_asked, is_quiet, limit_if, notified, part_deed,
 };
 use crate::kicks::Kicks;
 use crate::mapping::Mapping;
+use crate::questions::Questions;
 use crate::request::{Chain, PartEnd};
 use crate::ring::{RingAction, RingActions, RingEvent};
 use crate::ring_memory::RingMemory;
 use crate::rings::Event;
+use crate::table_change::{TableChange, change_in};
 use std::alloc::Global;
-use vhost_message::{Header, MemoryRegion, Message};
+use vhost_message::{FrontendReq, Header, MemoryRegion, Message};
 use vhost_user::{Offer, OfferError, RunningVring};
 use virtio_blk::DeviceLimits;
 
@@ -74,6 +79,11 @@ pub struct BlockBackend {
     unread: usize,
     // A message was finished since it was asked.
     finished: bool,
+    // What the message on the table changes that was taken last.
+    change: Option<TableChange>,
+    // Whether there is a channel to the front end, and what it is asked there.
+    channel: bool,
+    questions: Questions,
 }
 
 impl BlockBackend {
@@ -96,7 +106,8 @@ impl BlockBackend {
             return Err(OfferError::Invalid);
         };
         let backend = Backend::new(alloc, offer, queues, config, usize::from(max_size))?;
-        let Ok(kicks) = Kicks::new(alloc, queues) else {
+        let (Ok(kicks), Ok(questions)) = (Kicks::new(alloc, queues), Questions::new(alloc, queues))
+        else {
             return Err(OfferError::Memory);
         };
         Ok(BlockBackend {
@@ -121,6 +132,9 @@ impl BlockBackend {
             turn: 0,
             unread: 0,
             finished: false,
+            change: None,
+            channel: false,
+            questions,
         })
     }
 
@@ -162,6 +176,7 @@ impl BlockBackend {
             && self.reply.is_empty()
             && self.called.is_none()
             && self.end.is_none()
+            && !self.may_ask()
     }
 
     /// Whether the next step returns a chain. What its request may have changed was marked.
@@ -189,6 +204,16 @@ impl BlockBackend {
 
     // ---- events
 
+    // Whether the message on the table changes mappings that are in use.
+    fn in_use(&self) -> bool
+        ensures { result ≡ in_use self.now }
+    {
+        match &self.change {
+            Some(change) => self.queues.in_use(change),
+            None => false,
+        }
+    }
+
     /// Takes a message that came whole, as `Backend::take_message`, if one can be taken. Returns whether it was.
     pub fn take_message(&mut self, header: &Header, payload: &[u8], descriptors: usize) -> bool
         ensures { (self.new, result) ≡ came self.old header.now payload.now descriptors }
@@ -196,7 +221,12 @@ impl BlockBackend {
         if !self.is_done() || !self.backend.is_free() {
             return false;
         }
-        self.todo = self.backend.take_message(header, payload, descriptors);
+        let asked = FrontendReq::decode(header, payload);
+        self.change = change_in(self.backend.connection().memory().regions(), &asked);
+        let in_use = self.in_use();
+        self.todo = self
+            .backend
+            .take_message(header, asked, payload, descriptors, in_use);
         true
     }
 
@@ -284,11 +314,20 @@ impl BlockBackend {
             return;
         };
         if is_done {
-            self.called = called_by(self.called, self.backend.wanted());
+            let wanted = self.backend.wanted();
+            self.called = called_by(self.called, wanted);
+            self.keep_channel(wanted);
             self.finish(Finish::Done);
         } else {
             self.finish(Finish::Failed);
         }
+    }
+
+    /// How the message on the table changes that, if the memory has what it maps.
+    pub fn change(&self) -> Option<TableChange>
+        ensures { result ≡ self.now.change }
+    {
+        self.change
     }
 
     /// The disk has so many sectors from now on, and the configuration begins with them.
@@ -330,7 +369,7 @@ impl BlockBackend {
         }
     }
 
-    // ---- what is to be done on memory
+    // ---- places of rings
 
     // What comes of a ring that was reached or not.
     fn reach(&mut self, reached: Reached)
@@ -343,34 +382,36 @@ impl BlockBackend {
     }
 
     // Tells a ring's queue where it lies.
-    fn set_up<H, D: RingMemory<H>>(
-        &mut self,
-        mem: &D,
-        host: &mut H,
-        vring: &RunningVring,
-        fresh: bool,
-    )
-        requires { D.held mem.now host.old }
-        ensures sets { SetsUpAt (D.steps mem.now) self.old vring.now fresh host.old self.new host.new }
-        ensures held { D.held mem.now host.new }
+    fn set_up(&mut self, vring: &RunningVring, fresh: bool)
+        ensures { self.new ≡ set_up_by self.old vring.now fresh }
     {
         let features = self.backend.connection().features();
         let ring = self.todo.ring;
         let reached = self
             .queues
-            .set_up(mem, host, ring, self.max_size, vring, features, fresh);
+            .set_up(ring, self.max_size, vring, features, fresh);
         self.reach(reached);
     }
 
-    fn place<H, D: RingMemory<H>>(&mut self, mem: &D, host: &mut H, place: Place)
-        requires { D.held mem.now host.old }
-        ensures places { Places (D.steps mem.now) self.old place host.old self.new host.new }
-        ensures held { D.held mem.now host.new }
+    fn place_by(&mut self, place: &Place)
+        ensures { self.new ≡ placed_by self.old place.now.vring place.now.fresh }
     {
-        if let Ok(vring) = place.vring {
-            self.set_up(mem, host, &vring, place.fresh);
+        if let Ok(vring) = &place.vring {
+            self.set_up(vring, place.fresh);
         }
     }
+
+    fn place(&mut self, place: Place)
+        ensures { self.new ≡ placed self.old place }
+    {
+        let ring = self.todo.ring;
+        let before = self.awaited(ring);
+        self.place_by(&place);
+        let after = self.awaited(ring);
+        self.free(ring, before, after);
+    }
+
+    // ---- what is to be done on memory
 
     // What comes of the end of a request: its chain is to be returned.
     fn end_with(&mut self, ring: usize, chain: Chain, finished: Finished)
@@ -474,7 +515,7 @@ impl BlockBackend {
     {
         if let Some(place) = self.todo.place {
             self.todo.place = None;
-            self.place(mem, host, place);
+            self.place(place);
             return Made::Again;
         }
         self.step_from(mem, host)
@@ -483,28 +524,38 @@ impl BlockBackend {
     // ---- rings that were kicked, and turns
 
     // The ring that has its turn takes a step of it, if it can.
-    fn take_turn<H, D: RingMemory<H>>(&mut self, mem: &D, host: &mut H) -> bool
+    fn take_turn<H, D: RingMemory<H>>(
+        &mut self,
+        mem: &D,
+        host: &mut H,
+        way: Option<Way<'_>>,
+    ) -> bool
         requires { D.held mem.now host.old }
-        ensures turns { TakesTurn (D.steps mem.now) self.old host.old result self.new host.new }
+        ensures turns { TakesTurn (D.steps mem.now) (sight_of way.entry) self.old host.old result self.new host.new }
         ensures held { D.held mem.now host.new }
     {
         let terms = self.terms();
-        self.queues.take_step(
+        let is_taken = self.queues.take_step(
             &mut self.backend,
             self.turn,
             self.alloc,
             mem,
             host,
             terms,
+            way,
             &mut self.todo,
-        )
+        );
+        if is_taken {
+            self.ask_for(self.turn);
+        }
+        is_taken
     }
 
     /// Looks at a ring that was kicked, or else pops the next chain of the ring that has its turn, if nothing is left
     /// to be done. Returns whether it did.
-    pub fn look<H, D: RingMemory<H>>(&mut self, mem: &D, host: &mut H) -> bool
+    pub fn look<H, D: RingMemory<H>>(&mut self, mem: &D, host: &mut H, way: Option<Way<'_>>) -> bool
         requires { D.held mem.now host.old }
-        ensures looks { Looks (D.steps mem.now) self.old host.old result self.new host.new }
+        ensures looks { Looks (D.steps mem.now) (sight_of way.entry) self.old host.old result self.new host.new }
         ensures held { D.held mem.now host.new }
     {
         if let Some(ring) = self.kicks.take() {
@@ -512,6 +563,6 @@ impl BlockBackend {
             self.backend.handle(event, &mut self.todo);
             return true;
         }
-        self.take_turn(mem, host)
+        self.take_turn(mem, host, way)
     }
 }

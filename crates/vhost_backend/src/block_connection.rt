@@ -1,9 +1,10 @@
 //! A connection of a block device's back end, with its guest memory: plain numbers and bytes come in, and go out.
 ghost use Rattle.std.specs.Prelude.{◌≡◌, ◌<◌, ◌≤◌, ◌^◌, length};
-ghost use Rattle.vhost_backend.specs.BlockBackend.{resized};
+ghost use Rattle.vhost_backend.specs.BlockBackend.{channel_lost, resized};
 ghost use Rattle.vhost_backend.specs.BlockConnection.{Connects, Maps, Opens, done, ended, failed, kicked};
-ghost use Rattle.vhost_backend.specs.BlockConnection.{limits_of, looked_after};
-ghost use Rattle.vhost_backend.specs.BlockConnection.{sent, taken, taken_whole, with_backend, with_log};
+ghost use Rattle.vhost_backend.specs.BlockConnection.{limits_of, looked_after, as_negotiated, sent, taken};
+ghost use Rattle.vhost_backend.specs.BlockConnection.{taken_whole, with_backend, offered, reply_came, reply_in};
+ghost use Rattle.vhost_backend.specs.BlockConnection.{whole_reply};
 ghost use Rattle.vm_memory_guest.specs.BlockBytes.{bytes_of};
 
 mod run;
@@ -12,10 +13,11 @@ use crate::block_backend::BlockBackend;
 use crate::connection_memory::ConnectionMemory;
 use crate::deeds::{Limits, Why};
 use crate::given::{OpenPart, is_covered, log_kept, pages_in};
+use crate::table_counts::{TableCounts, no_table_counts};
 use std::alloc::Global;
 use vhost_calls::{VhostOffer, code_of_offer, offer_of};
-use vhost_message::{HEADER_LEN, Header};
-use vhost_user::{BackendReqHandler, Offer, OfferError};
+use vhost_message::{BackendReply, HEADER_LEN, Header, Refusal};
+use vhost_user::{BackendReqHandler, Offer, OfferError, VIRTIO_F_ACCESS_PLATFORM};
 use vm_memory_guest::BlockBytes;
 
 /// The disk of a block device, and what its requests keep to.
@@ -32,6 +34,8 @@ pub struct BlockDisk {
     pub read_only: u32,
     /// How many bytes of replies may wait to be sent.
     pub unread: u32,
+    /// How many ranges the device's I/O table keeps at most. With 0 ACCESS_PLATFORM is not offered.
+    pub table_limit: u32,
 }
 
 // What the requests of a disk are held against.
@@ -44,7 +48,42 @@ fn limits_of(disk: &BlockDisk) -> Limits
         seg_max: disk.seg_max as usize,
         size_max: disk.size_max as usize,
         unread: disk.unread as usize,
+        table_limit: disk.table_limit as usize,
     }
+}
+
+// All features but the one by which rings and requests lie at I/O addresses.
+const WITHOUT_TABLE: u64 = !VIRTIO_F_ACCESS_PLATFORM;
+
+// What is offered by a device whose table keeps so many ranges.
+fn offered(offer: Offer, table_limit: usize) -> Offer
+    ensures { result ≡ offered offer table_limit }
+{
+    if table_limit > 0 {
+        return offer;
+    }
+    Offer {
+        features: offer.features & WITHOUT_TABLE,
+        ..offer
+    }
+}
+
+// The reply of a message that has a header.
+fn whole_reply(message: &[u8]) -> Result<BackendReply, Refusal>
+    requires { 12 ≤ length message.now }
+    ensures { result ≡ whole_reply message.now }
+{
+    BackendReply::decode(&Header::at_front(message), &message[HEADER_LEN..])
+}
+
+// The reply of a message, or what is wrong with it.
+fn reply_in(message: &[u8]) -> Result<BackendReply, Refusal>
+    ensures { result ≡ reply_in message.now }
+{
+    if message.len() < HEADER_LEN {
+        return Err(Refusal::PayloadSize);
+    }
+    whole_reply(message)
 }
 
 /// Opens a connection, with no memory. `VHOST_OFFER` if no back end offers this, and `MEMORY` if an allocation fails.
@@ -80,10 +119,11 @@ pub struct BlockConnection {
     lost: Option<(usize, u16)>,
     // This run gave marks, which the program has not made yet.
     marks: bool,
+    table_counts: TableCounts,
 }
 
 impl BlockConnection {
-    /// A new connection, with no memory.
+    /// A new connection, with no memory. If the table has no ranges, ACCESS_PLATFORM is not offered.
     ///
     /// Leaves open: `Memory` for each offer that can be made.
     pub fn new(
@@ -95,8 +135,9 @@ impl BlockConnection {
     ) -> Result<BlockConnection, OfferError>
         ensures { Connects alloc offer queues config.now limits result }
     {
+        let offer = offered(offer, limits.table_limit);
         let backend = BlockBackend::new(alloc, offer, queues, config, limits)?;
-        let Ok(memory) = ConnectionMemory::new(alloc) else {
+        let Ok(memory) = ConnectionMemory::new(alloc, limits.table_limit) else {
             return Err(OfferError::Memory);
         };
         Ok(BlockConnection {
@@ -105,6 +146,7 @@ impl BlockConnection {
             part: None,
             lost: None,
             marks: false,
+            table_counts: no_table_counts(),
         })
     }
 
@@ -113,6 +155,13 @@ impl BlockConnection {
         ensures { result.now ≡ self.now.backend.backend.connection }
     {
         self.backend.backend().connection()
+    }
+
+    /// How often the device's I/O table was changed.
+    pub fn table_counts(&self) -> TableCounts
+        ensures { result ≡ self.now.table_counts }
+    {
+        self.table_counts
     }
 
     /// Takes note that the driver of a ring notified.
@@ -134,6 +183,21 @@ impl BlockConnection {
         ensures { self.new ≡ with_backend self.old (resized self.old.backend sectors) }
     {
         self.backend.resize(sectors);
+    }
+
+    /// Takes a whole reply that came on the back end's own channel. Returns whether one was due: if not, the connection
+    /// ends.
+    pub fn answered(&mut self, message: &[u8]) -> bool
+        ensures { (self.new, result) ≡ reply_came self.old message.now }
+    {
+        self.backend.replied(reply_in(message))
+    }
+
+    /// Takes note that the back end's own channel is lost.
+    pub fn channel_lost(&mut self)
+        ensures { self.new ≡ with_backend self.old (channel_lost self.old.backend) }
+    {
+        self.backend.channel_lost();
     }
 
     /// Ends the connection.
@@ -201,14 +265,17 @@ impl BlockConnection {
         self.backend.answer(false);
     }
 
-    // Pages are marked as the connection has it from now on. If one has no bit in the log, the connection is over.
-    fn refresh_log(&mut self)
-        ensures { self.new ≡ with_log self.old }
+    // Pages are marked, and rings lie at I/O addresses, as the connection has it from now on. If a page has no bit in
+    // the log, the connection is over.
+    fn refresh(&mut self)
+        ensures { self.new ≡ as_negotiated self.old }
     {
         let connection = self.backend.backend().connection();
         let pages = pages_in(log_kept(connection));
         let is_covered = is_covered(connection);
+        let is_behind = connection.features() & VIRTIO_F_ACCESS_PLATFORM != 0;
         self.memory.set_pages(pages);
+        self.memory.set_behind(is_behind);
         if !is_covered {
             self.backend.hang_up(Why::Log);
         }
@@ -219,7 +286,7 @@ impl BlockConnection {
         ensures { self.new ≡ looked_after self.old }
     {
         if self.backend.take_finished() {
-            self.refresh_log();
+            self.refresh();
         }
     }
 }

@@ -1,27 +1,43 @@
 //! The queue of a ring of a block device: chains are popped as requests, and returned with their status.
-ghost use Rattle.std.specs.Prelude.{◌≡◌, ◌^◌, ◌<◌, [], ◌∷◌, IfOk, None, false, replicate};
-ghost use Rattle.virtio_queue.specs.Any.{after_asked, at_next, with_ready};
+ghost use Rattle.std.specs.Prelude.{◌≡◌, ◌^◌, ◌<◌, IfOk, None, false, replicate};
+ghost use Rattle.virtio_queue.specs.Any.{after_asked, at_next};
+ghost use Rattle.vhost_backend.specs.Sight.{sight_of};
+ghost use Rattle.std.specs.List.{list_any};
+ghost use Rattle.std.specs.Prelude.{is_some};
 ghost use Rattle.vhost_backend.specs.Block.{len_of};
-ghost use Rattle.vhost_backend.specs.BlockQueue.{Publishes, buffer_by, event_of, gave, refused, shortened};
-ghost use Rattle.vhost_backend.specs.Marks.{Marks, asking_marks, chain_marks, return_marks, segment_marks};
+ghost use Rattle.vhost_backend.specs.BlockQueue.{buffer_by, event_of, gave, len_left, refused, shortened};
 ghost use Rattle.vhost_backend.specs.RingMemory.{needs};
 
+mod behind;
+mod change;
+mod limits;
+mod marks;
+
+pub use self::behind::{Origin, Way};
+use self::marks::{mark_asking, mark_chain, publish};
 use crate::block::{block_parts, len_of, status_of, written_of};
-use crate::pieces::Piece;
+use crate::fetch::is_same_place;
+use crate::reach::{KeptList, Reach, same_log};
 use crate::request::Chain;
 use crate::ring::RingEvent;
 use crate::ring_memory::RingMemory;
+use crate::set_up::is_split;
 use std::alloc::{AllocError, Global};
 use std::marker::Model;
 use virtio_blk::{DeviceLimits, Request, VIRTIO_BLK_S_IOERR};
 use virtio_queue::{AnyQueue, PackedBuffer, QueueError, SpareLists};
-use vm_memory_device::{Chain as Descriptors, Segment};
+use vm_memory_device::Chain as Descriptors;
 
 /// A request that is under way: its chain, and what that asks for.
 #[derive(Drop)]
 pub struct Asked {
+    /// Of guest addresses.
     pub chain: Descriptors,
     pub request: Request,
+    /// What was kept of a table for its bytes.
+    pub kept: KeptList,
+    /// Its bytes before the status were not found: it is returned as one to which nothing was written.
+    pub gap: bool,
 }
 
 /// What a pop found.
@@ -101,107 +117,11 @@ fn shortened(request: Request, segments: usize, most: usize) -> Request
     }
 }
 
-// Marks the pages of a segment, if it is written.
-fn mark_segment<H, D: RingMemory<H>>(mem: &D, host: &mut H, segment: Segment)
-    requires { D.held mem.now host.old }
-    ensures marks { Marks (D.steps mem.now) (segment_marks segment) host.old host.new }
-    ensures held { D.held mem.now host.new }
+// With how many bytes the chain of a request is returned, to which so many were written.
+fn len_left(asked: &Asked, len: u32) -> u32
+    ensures { result ≡ len_left asked.now len }
 {
-    if segment.writable {
-        mem.mark(host, segment.addr.0, 0, u64::from(segment.len));
-    }
-}
-
-// Marks the pages of all writable bytes of a chain.
-fn mark_chain<H, D: RingMemory<H>>(mem: &D, host: &mut H, chain: &Descriptors)
-    requires { D.held mem.now host.old }
-    ensures marks { Marks (D.steps mem.now) (chain_marks chain.now) host.old host.new }
-    ensures held { D.held mem.now host.new }
-{
-    let segments = chain.segments();
-    for i in 0..segments.len() {
-        mark_segment(mem, host, segments[i]);
-    }
-}
-
-// Marks two ranges after an address.
-fn mark_both<H, D: RingMemory<H>>(mem: &D, host: &mut H, first: Piece, second: Piece)
-    requires { D.held mem.now host.old }
-    ensures marks { Marks (D.steps mem.now) (first ∷ second ∷ []) host.old host.new }
-    ensures held { D.held mem.now host.new }
-{
-    mem.mark(host, first.base, first.offset, first.len);
-    mem.mark(host, second.base, second.offset, second.len);
-}
-
-// The entry of a queue's next return, and what publishes it.
-fn return_marks(queue: &AnyQueue) -> (Piece, Piece)
-    ensures { result.0 ∷ result.1 ∷ [] ≡ return_marks queue.now }
-{
-    let (base, entry, len, last) = match queue {
-        AnyQueue::Split(queue) => {
-            let slot = queue.next_used() % queue.size();
-            (queue.state().used_ring, 4 + 8 * u64::from(slot), 8, 2)
-        }
-        AnyQueue::Packed(queue) => {
-            let state = queue.state();
-            let slot = 16 * u64::from(state.next_used.slot);
-            (state.desc_ring, slot + 8, 6, slot + 14)
-        }
-    };
-    let first = Piece {
-        base,
-        offset: entry,
-        len,
-    };
-    let second = Piece {
-        base,
-        offset: last,
-        len: 2,
-    };
-    (first, second)
-}
-
-// Marks the pages of what asks the driver to notify.
-fn mark_asking<H, D: RingMemory<H>>(mem: &D, host: &mut H, queue: &AnyQueue)
-    requires { D.held mem.now host.old }
-    ensures marks { Marks (D.steps mem.now) (asking_marks queue.now) host.old host.new }
-    ensures held { D.held mem.now host.new }
-{
-    match queue {
-        AnyQueue::Split(queue) => {
-            let state = queue.state();
-            let offset = if state.event_idx_enabled {
-                4 + 8 * u64::from(state.size)
-            } else {
-                0
-            };
-            mem.mark(host, state.used_ring, offset, 2);
-        }
-        AnyQueue::Packed(queue) => {
-            let area = queue.state().device_area;
-            mem.mark(host, area, 0, 2);
-            mem.mark(host, area, 2, 2);
-        }
-    }
-}
-
-// Returns a chain, and then marks the pages of the ring.
-fn publish<H, D: RingMemory<H>>(
-    queue: &mut AnyQueue,
-    mem: &D,
-    host: &mut H,
-    buffer: PackedBuffer,
-    len: u32,
-) -> GiveBack
-    requires { D.held mem.now host.old }
-    ensures publishes { Publishes (D.steps mem.now) queue.old buffer len host.old result queue.new host.new }
-    ensures held { D.held mem.now host.new }
-{
-    let (first, second) = return_marks(queue);
-    let returned = mem.add_used(host, queue, buffer, len);
-    mark_both(mem, host, first, second);
-    gave(returned)
+    if asked.gap { 0 } else { len }
 }
 
 fn buffer_of(chain: Chain) -> PackedBuffer
@@ -224,11 +144,21 @@ fn none_asked(alloc: Global, ids: usize) -> Result<Vec<Option<Asked>>, AllocErro
     Ok(asked)
 }
 
+// Whether a request is under way.
+fn any_asked(asked: &[Option<Asked>]) -> bool
+    ensures { result ≡ list_any is_some asked.now }
+{
+    asked.iter().any(|one| one.is_some())
+}
+
 /// The queue of a ring, and the requests of its chains that are under way.
 #[derive(Drop)]
 pub struct BlockQueue {
     queue: AnyQueue,
+    // Where a split queue that began returns its next chain was not read.
+    is_unread: bool,
     asked: Vec<Option<Asked>>,
+    reach: Reach,
     spare: SpareLists,
 }
 
@@ -237,16 +167,20 @@ impl Model for BlockQueue {
 
     ghost Value = { BlockQueueState };
 
-    ghost view = { λ q. record { queue = q.queue; asked = q.asked.items } };
+    ghost view = { λ q. record { queue = q.queue; is_unread = q.is_unread; asked = q.asked.items; reach = q.reach } };
 
     ghost invariant = { λ q. AllShort q.asked.items };
 }
 
 impl BlockQueue {
+    ghost use Rattle.vhost_backend.specs.Reach.{same_log};
     ghost use Rattle.std.specs.Prelude.{IfSome, option_copied, option_map};
+    ghost use Rattle.vhost_backend.specs.Behind.{HappensBy};
     ghost use Rattle.vhost_backend.specs.Block.{Short};
     ghost use Rattle.vhost_backend.specs.BlockQueue.{Asks, Begins, FinishesRequest, GivesBack, HappensNext, Pops};
-    ghost use Rattle.vhost_backend.specs.BlockQueue.{Waits, asked_at, has_place, new_queue, with_asked, with_queue};
+    ghost use Rattle.vhost_backend.specs.BlockQueue.{PopsOrWaits, Reads, Waits, asked_at, has_place, new_queue};
+    ghost use Rattle.vhost_backend.specs.BlockQueue.{moved, started, unset, with_asked, with_queue};
+    ghost use Rattle.vhost_backend.specs.TableUse.{is_busy};
 
     /// A queue of which nothing is under way. The ids of its chains are below `ids`.
     pub fn new(alloc: Global, queue: AnyQueue, ids: usize) -> Result<BlockQueue, AllocError>
@@ -256,7 +190,9 @@ impl BlockQueue {
         let spare = SpareLists::new(alloc, ids);
         Ok(BlockQueue {
             queue,
+            is_unread: false,
             asked,
+            reach: Reach::new(alloc),
             spare,
         })
     }
@@ -269,18 +205,47 @@ impl BlockQueue {
         &self.queue
     }
 
-    /// Sets the queue, as it lies in guest memory from now on.
-    pub fn set_queue(&mut self, queue: AnyQueue)
-        ensures { self.new ≡ with_queue self.old queue }
+    /// Whether a request is under way.
+    pub fn is_busy(&self) -> bool
+        ensures { result ≡ is_busy self.now }
     {
+        any_asked(&self.asked)
+    }
+
+    /// Whether writes to its used ring are logged there.
+    pub fn is_logged_at(&self, log: Option<u64>) -> bool
+        ensures { result ≡ same_log self.now.reach.log log }
+    {
+        same_log(self.reach.log(), log)
+    }
+
+    /// Sets the queue, as it lies in memory from now on, and where writes to its used ring are logged. If these are the
+    /// same, what is fetched stays.
+    pub fn set_queue(&mut self, queue: AnyQueue, log: Option<u64>)
+        ensures { self.new ≡ moved self.old queue log }
+    {
+        let same = is_same_place(&self.queue, &queue) && same_log(self.reach.log(), log);
         self.queue = queue;
+        if !same {
+            self.reach.move_to(log);
+        }
+    }
+
+    /// Sets the queue of a ring that was started. Where a split one returns its next chain is read in its first turn.
+    pub fn start(&mut self, queue: AnyQueue, log: Option<u64>)
+        ensures { self.new ≡ started self.old queue log }
+    {
+        self.is_unread = is_split(&queue);
+        self.queue = queue;
+        self.reach.move_to(log);
     }
 
     /// Makes the queue one that was not set up.
     pub fn unset(&mut self)
-        ensures { self.new ≡ with_queue self.old (with_ready self.old.queue false) }
+        ensures { self.new ≡ unset self.old }
     {
         self.queue.set_ready(false);
+        self.reach.set_fetch(None);
     }
 
     /// The request with an id that is under way.
@@ -314,9 +279,38 @@ impl BlockQueue {
         }
     }
 
+    // A request is under way from now on.
+    fn put_asked(&mut self, id: u16, asked: Asked)
+        requires { Short asked.request }
+        ensures { self.new ≡ with_asked self.old id (Some asked) }
+    {
+        let Some(place) = self.asked.get_mut(usize::from(id)) else {
+            return;
+        };
+        *place = Some(asked);
+    }
+
+    // Reads where the queue returns its next chain, if that was not read.
+    fn read_place<H, D: RingMemory<H>>(&mut self, mem: &D, host: &mut H) -> Result<(), QueueError>
+        requires { D.held mem.now host.old }
+        ensures reads { Reads (D.steps mem.now) self.old host.old result self.new host.new }
+        ensures held { D.held mem.now host.new }
+    {
+        if !self.is_unread {
+            return Ok(());
+        }
+        if let AnyQueue::Split(queue) = &mut self.queue {
+            let next_used = mem.used_idx(host, queue)?;
+            queue.set_next_used(next_used);
+        }
+        self.is_unread = false;
+        Ok(())
+    }
+
     // Reads the header of a chain that was popped.
     fn begin<H, D: RingMemory<H>>(
         &mut self,
+        alloc: Global,
         mem: &D,
         host: &mut H,
         terms: DeviceLimits,
@@ -343,9 +337,15 @@ impl BlockQueue {
                 let count = chain.segments().len();
                 let request = shortened(request, count, self.asked.len());
                 self.spare.take(&chain);
-                if let Some(place) = self.asked.get_mut(usize::from(buffer.id)) {
-                    *place = Some(Asked { chain, request });
-                }
+                self.put_asked(
+                    buffer.id,
+                    Asked {
+                        chain,
+                        request,
+                        kept: KeptList::of(Vec::new(alloc)),
+                        gap: false,
+                    },
+                );
                 Pop::Chain(returned, block_parts(request), len_of(request) as u64)
             }
             Err(_) => {
@@ -356,9 +356,9 @@ impl BlockQueue {
         }
     }
 
-    /// Pops the next chain, and reads the header of its request. A chain that cannot be under way has no parts: the
-    /// event breaks its ring.
-    pub fn pop<H, D: RingMemory<H>>(
+    // Pops the next chain, and reads the header of its request. A chain that cannot be under way has no parts: the
+    // event breaks its ring.
+    fn pop<H, D: RingMemory<H>>(
         &mut self,
         alloc: Global,
         mem: &D,
@@ -372,7 +372,7 @@ impl BlockQueue {
     {
         let next = self.queue.next_avail();
         match mem.pop(host, alloc, &mut self.spare.next, &mut self.queue) {
-            Ok(Some(popped)) => self.begin(mem, host, terms, next, popped),
+            Ok(Some(popped)) => self.begin(alloc, mem, host, terms, next, popped),
             Ok(None) => Pop::None,
             Err(error) => refused(error),
         }
@@ -409,9 +409,50 @@ impl BlockQueue {
         }
     }
 
+    // Pops the next chain, or asks the driver to notify if there is none.
+    fn pop_or_wait<H, D: RingMemory<H>>(
+        &mut self,
+        alloc: Global,
+        mem: &D,
+        host: &mut H,
+        terms: DeviceLimits,
+    ) -> Option<RingEvent>
+        requires held { D.held mem.now host.old }
+        requires small { terms.sectors < 2 ^ 55 }
+        ensures next { PopsOrWaits (D.steps mem.now) terms self.old host.old result self.new host.new }
+        ensures held { D.held mem.now host.new }
+    {
+        match self.pop(alloc, mem, host, terms) {
+            Pop::None => self.wait(alloc, mem, host, terms),
+            found => event_of(found),
+        }
+    }
+
     /// What happens to the ring next in its turn: a chain is popped, or none is left after the driver was asked to
-    /// notify, or it breaks. `None` if an allocation failed: another try may do it.
+    /// notify, or it breaks. `None` if an allocation failed: another try may do it. In the ring's first turn it is read
+    /// before that where chains are returned.
     pub fn next_event<H, D: RingMemory<H>>(
+        &mut self,
+        alloc: Global,
+        mem: &D,
+        host: &mut H,
+        terms: DeviceLimits,
+        way: Option<Way<'_>>,
+    ) -> Option<RingEvent>
+        requires held { D.held mem.now host.old }
+        requires small { terms.sectors < 2 ^ 55 }
+        ensures next { HappensBy (D.steps mem.now) (sight_of way.entry) terms self.old host.old result self.new
+            host.new }
+        ensures held { D.held mem.now host.new }
+    {
+        match way {
+            Some(way) => self.next_behind(alloc, mem, host, terms, way),
+            None => self.next_in_place(alloc, mem, host, terms),
+        }
+    }
+
+    // The same, if the ring's addresses are those of guest memory.
+    fn next_in_place<H, D: RingMemory<H>>(
         &mut self,
         alloc: Global,
         mem: &D,
@@ -423,9 +464,9 @@ impl BlockQueue {
         ensures next { HappensNext (D.steps mem.now) terms self.old host.old result self.new host.new }
         ensures held { D.held mem.now host.new }
     {
-        match self.pop(alloc, mem, host, terms) {
-            Pop::None => self.wait(alloc, mem, host, terms),
-            found => event_of(found),
+        match self.read_place(mem, host) {
+            Ok(()) => self.pop_or_wait(alloc, mem, host, terms),
+            Err(error) => event_of(refused(error)),
         }
     }
 
@@ -452,7 +493,7 @@ impl BlockQueue {
         match mem.finish(host, &asked.chain, status, written as usize) {
             Ok(len) => {
                 mark_chain(mem, host, &asked.chain);
-                Finished::Done(len)
+                Finished::Done(len_left(asked, len))
             }
             Err(_) => {
                 self.forget(chain.id);

@@ -1,25 +1,29 @@
 //! The queues of a block device's rings.
-ghost use Rattle.std.specs.Prelude.{◌≡◌, ◌^◌, ◌<◌, IfOk, None, Ok, Some, false, option_copied, replicate};
+ghost use Rattle.std.specs.Prelude.{◌≡◌, ◌^◌, ◌<◌, length, IfOk, None, Ok, Some, false, option_copied, replicate};
 ghost use Rattle.std.specs.Prelude.{MatchResult, option_map, slice_get, true, if◌then◌else◌};
 ghost use Rattle.virtio_queue.specs.Packed.{is_packed_size};
 ghost use Rattle.vhost_user.specs.declared.backend_req_handler.OfferError.TheVariants.{Invalid, Memory};
+ghost use Rattle.vhost_backend.specs.Sight.{sight_of};
 ghost use Rattle.vhost_backend.specs.BlockQueue.{asked_at};
-ghost use Rattle.vhost_backend.specs.BlockQueues.{Asks, FinishesAt, Gives, SetsUp, Turns, WithQueue, based};
-ghost use Rattle.vhost_backend.specs.BlockQueues.{chain_of, given_back, new_queues, part_of};
+ghost use Rattle.vhost_backend.specs.BlockQueues.{Asks, FinishesAt, Gives, Turns, WithQueue, based, began, chain_of};
+ghost use Rattle.vhost_backend.specs.BlockQueues.{given_back, new_queues, part_of, set_up, set_up_at, stays_at};
+ghost use Rattle.vhost_backend.specs.BlockQueues.{went_on};
 ghost use Rattle.vhost_backend.specs.declared.block_queues.Reached.TheVariants.{Fine};
+
+mod table;
 
 use crate::backend::{Backend, Finish, Todo};
 use crate::block::{BlockStep, block_parts, block_step};
-use crate::block_queue::{BlockQueue, Finished, GiveBack};
+use crate::block_queue::{BlockQueue, Finished, GiveBack, Way};
 use crate::request::Chain;
 use crate::ring_memory::RingMemory;
-use crate::set_up::{base_of, fresh_queue, is_set_up, moved_queue, unset_queue};
+use crate::set_up::{base_of, fresh_queue, is_set_up, lies_at, moved_queue, unset_queue};
 use crate::turn::take_step;
 use std::alloc::Global;
 use std::marker::Model;
 use vhost_user::{OfferError, RunningVring};
 use virtio_blk::DeviceLimits;
-use virtio_queue::QueueError;
+use virtio_queue::{AnyQueue, QueueError};
 use vm_memory_device::Chain as Descriptors;
 
 /// What a call asks of a ring that is not there, or that is reached or is not.
@@ -55,35 +59,57 @@ fn given_back(given: GiveBack) -> Reached
     }
 }
 
+// A ring begins with its queue, if there is one.
+fn begin(queue: &mut BlockQueue, made: Result<AnyQueue, QueueError>, log: Option<u64>) -> Reached
+    ensures { (queue.new, result) ≡ began queue.old made log }
+{
+    match made {
+        Ok(made) => {
+            queue.start(made, log);
+            Reached::Fine
+        }
+        Err(_) => Reached::Broken,
+    }
+}
+
+// A ring goes on with its queue, if there is one.
+fn go_on(queue: &mut BlockQueue, made: Result<AnyQueue, QueueError>, log: Option<u64>) -> Reached
+    ensures { (queue.new, result) ≡ went_on queue.old made log }
+{
+    match made {
+        Ok(made) => {
+            queue.set_queue(made, log);
+            Reached::Fine
+        }
+        Err(_) => Reached::Broken,
+    }
+}
+
+// Whether a ring lies where its queue does, and is logged where it was.
+fn stays_at(queue: &BlockQueue, vring: &RunningVring) -> bool
+    ensures { result ≡ stays_at queue.now vring.now }
+{
+    lies_at(queue.queue(), vring) && queue.is_logged_at(vring.log)
+}
+
 // Tells a queue where its ring lies.
-fn set_up<H, D: RingMemory<H>>(
-    mem: &D,
-    host: &mut H,
+fn set_up(
     queue: &mut BlockQueue,
     max_size: u16,
     vring: &RunningVring,
     features: u64,
     fresh: bool,
 ) -> Reached
-    requires { D.held mem.now host.old }
-    ensures sets { SetsUp (D.steps mem.now) queue.old max_size vring.now features fresh host.old result queue.new
-        host.new }
-    ensures held { D.held mem.now host.new }
+    ensures { (queue.new, result) ≡ set_up queue.old max_size vring.now features fresh }
 {
-    let made = if fresh {
-        fresh_queue(mem, host, max_size, vring, features)
-    } else if is_set_up(queue.queue()) {
-        moved_queue(queue.queue(), vring)
-    } else {
-        return Reached::Fine;
-    };
-    match made {
-        Ok(made) => {
-            queue.set_queue(made);
-            Reached::Fine
-        }
-        Err(_) => Reached::Broken,
+    if fresh {
+        return begin(queue, fresh_queue(max_size, vring, features), vring.log);
     }
+    if !is_set_up(queue.queue()) || stays_at(queue, vring) {
+        return Reached::Fine;
+    }
+    let made = moved_queue(queue.queue(), vring);
+    go_on(queue, made, vring.log)
 }
 
 // Queues that nobody has set up.
@@ -108,6 +134,13 @@ fn unset_queues(alloc: Global, count: usize, max_size: u16) -> Result<Vec<BlockQ
 }
 
 impl BlockQueues {
+    /// How many there are.
+    pub fn count(&self) -> usize
+        ensures { result ≡ length self.now }
+    {
+        self.queues.len()
+    }
+
     /// Queues that nobody has set up, so many, of this greatest size.
     ///
     /// Leaves open: `Memory` for each size that queues can have.
@@ -160,23 +193,19 @@ impl BlockQueues {
     }
 
     /// Tells the queue of a ring where that lies.
-    pub fn set_up<H, D: RingMemory<H>>(
+    pub fn set_up(
         &mut self,
-        mem: &D,
-        host: &mut H,
         ring: usize,
         max_size: u16,
         vring: &RunningVring,
         features: u64,
         fresh: bool,
     ) -> Reached
-        requires { D.held mem.now host.old }
-        ensures sets { WithQueue self.old ring Fine host.old result self.new host.new
-            (λ q r q'. SetsUp (D.steps mem.now) q max_size vring.now features fresh host.old r q' host.new) }
-        ensures held { D.held mem.now host.new }
+        ensures { (self.new, result)
+            ≡ set_up_at self.old ring max_size vring.now features fresh (slice_get self.old ring) }
     {
         match self.queues.get_mut(ring) {
-            Some(queue) => set_up(mem, host, queue, max_size, vring, features, fresh),
+            Some(queue) => set_up(queue, max_size, vring, features, fresh),
             None => Reached::Fine,
         }
     }
@@ -249,18 +278,19 @@ impl BlockQueues {
         mem: &D,
         host: &mut H,
         terms: DeviceLimits,
+        way: Option<Way<'_>>,
         todo: &mut Todo,
     ) -> bool
         requires held { D.held mem.now host.old }
         requires small { terms.sectors < 2 ^ 55 }
         ensures turns { WithQueue self.old ring None host.old (if result then Some todo.new else None) self.new host.new
-            (Turns (D.steps mem.now) terms ring backend.old backend.new host.old host.new) }
+            (Turns (D.steps mem.now) (sight_of way.entry) terms ring backend.old backend.new host.old host.new) }
         ensures none { slice_get self.old ring ≡ None → backend.new ≡ backend.old }
         ensures stays { result ≡ false → todo.new ≡ todo.old }
         ensures held { D.held mem.now host.new }
     {
         match self.queues.get_mut(ring) {
-            Some(queue) => take_step(backend, ring, queue, alloc, mem, host, terms, todo),
+            Some(queue) => take_step(backend, ring, queue, alloc, mem, host, terms, way, todo),
             None => false,
         }
     }

@@ -1,15 +1,24 @@
 //! The guest memory of a connection: regions over blocks at places of the program's.
-ghost use Rattle.std.specs.Prelude.{◌≡◌, ◌<◌, ◌≤◌, ◌^◌, [], length, IfOk, IfSome};
+ghost use Rattle.std.specs.Prelude.{◌≡◌, ◌<◌, ◌≤◌, ◌^◌, if◌then◌else◌, List, [], length, slice_get};
+ghost use Rattle.std.specs.Prelude.{Some, None, is_some, IfOk, IfSome};
+ghost use Rattle.std.specs.Prelude.{MatchBool, true};
+ghost use Rattle.vm_memory_guest.specs.Host.{Holds, Name, shape_of};
+ghost use Rattle.vm_memory_guest.specs.Memory.{memory_names};
 ghost use Rattle.vm_memory_guest.specs.BlockBytes.{bytes_of};
 ghost use Rattle.vm_memory_guest.specs.Layout.{inserted};
 ghost use Rattle.vm_memory_guest.specs.Mmap.{PlacedBlock, mmap_region};
 ghost use Rattle.vhost_backend.specs.BlockBackend.{Looks, Steps};
 ghost use Rattle.vhost_backend.specs.ConnectionMemory.{IsBlockAt, Joins, LiesOver, Maps, block_of, forgotten};
-ghost use Rattle.vhost_backend.specs.ConnectionMemory.{memory_step, no_memory};
-ghost use Rattle.vhost_backend.specs.ConnectionMemory.{place_of, with_pages};
+ghost use Rattle.vhost_backend.specs.ConnectionMemory.{io_memory_in, io_view, memory_step, no_memory, place_of};
+ghost use Rattle.vhost_backend.specs.ConnectionMemory.{with_behind, with_first_table, with_pages};
+ghost use Rattle.vhost_backend.specs.BlockTable.{ChangesTable};
+ghost use Rattle.vhost_backend.specs.ConnectionMemory.{emptied, first_emptied, way_of};
 ghost use Rattle.vhost_backend.specs.PageList.{TakesPages};
+ghost use Rattle.vhost_backend.specs.Sight.{sight_of};
+ghost use Rattle.vhost_backend.specs.TableCounts.{evicted_by};
 
 use crate::block_backend::BlockBackend;
+use crate::block_queue::Way;
 use crate::deeds::Made;
 use crate::page_list::{PageList, PageRange};
 use crate::pieces::Piece;
@@ -18,11 +27,18 @@ use std::alloc::{AllocError, Global};
 use std::marker::Model;
 use std::sync::Arc;
 use vhost_message::MemoryRegion;
-use vm_memory_base::{BitmapId, GuestAddress};
+use vm_memory_base::{BitmapId, GuestAddress, Iotlb};
+use vm_memory_device::{IommuMemory, TableIommu};
 use vm_memory_guest::{
     BlockBytes, BlockId, Bytes, GuestMemoryBackend, GuestMemoryMmap, GuestMemoryRegion,
-    GuestMemoryResult, GuestRegionMmap, HostMemory, MmapRegion,
+    GuestMemoryResult, GuestRegionMmap, HostMemory, MmapRegion, SpaceId, TlbId,
 };
+
+// The table that translates the addresses of rings.
+const RING_TABLE: TlbId = TlbId(0);
+
+// Guest memory as it lies at I/O addresses.
+type IoMemory = IommuMemory<GuestMemoryMmap, TableIommu>;
 
 /// Bytes of a region that lie together.
 #[derive(Clone, Copy, Debug, PartialEq, Eq)]
@@ -81,28 +97,101 @@ fn layout_of(
     Some(layout)
 }
 
-/// The guest memory of a connection, and the pages of it that are to be marked in the log.
+// Guest memory behind the host's first table, which it gets for that. `None` if it has one, or an allocation fails.
+fn io_memory(
+    alloc: Global,
+    host: &mut HostMemory<()>,
+    layout: &GuestMemoryMmap,
+    is_behind: bool,
+) -> Option<IoMemory>
+    ensures made { IfSome result (λ m. (host.old.tables ≡ []) × (m ≡ io_view layout.now is_behind)
+        × (host.new ≡ with_first_table host.old)
+        × Holds (shape_of host.new) (memory_names (io_memory_in layout.now is_behind))) }
+    ensures kept { (names : List Name) → Holds (shape_of host.old) names → Holds (shape_of host.new) names }
+{
+    let Ok(backend) = layout.clone() else {
+        return None;
+    };
+    let Ok(iommu) = Arc::new(alloc, TableIommu::new(RING_TABLE)) else {
+        return None;
+    };
+    let Ok(SpaceId(0)) = host.new_space(()) else {
+        return None;
+    };
+    let Ok(TlbId(0)) = host.new_table() else {
+        return None;
+    };
+    let memory = IommuMemory::new(alloc, backend, iommu, is_behind, SpaceId(0));
+    if host.holds(&memory) {
+        Some(memory)
+    } else {
+        None
+    }
+}
+
+// The table that the addresses of rings go through, if they lie at I/O addresses.
+fn table_if(is_behind: bool) -> Option<TlbId>
+    ensures { result ≡ if is_behind then Some (record { 0 = 0 }) else None }
+{
+    if is_behind { Some(RING_TABLE) } else { None }
+}
+
+// What translates the addresses of rings, if they lie at I/O addresses.
+fn way_if(is_behind: bool, table: &Iotlb, can_ask: bool) -> Option<Way<'_>>
+    ensures { sight_of result ≡ if is_behind then Some (record { table = table.now; can_ask = can_ask }) else None }
+{
+    if is_behind {
+        Some(Way { table, can_ask })
+    } else {
+        None
+    }
+}
+
+// Has the first table of a host say nothing, if there is one.
+fn empty_first(host: &mut HostMemory<()>)
+    ensures emptied { host.new ≡ first_emptied host.old (slice_get host.old.tables 0) }
+    ensures shape { shape_of host.new ≡ shape_of host.old }
+{
+    if host.shape().has_table(RING_TABLE) {
+        host.table_mut(RING_TABLE).invalidate_all();
+    }
+}
+
+/// The guest memory of a connection, what its front end says of I/O addresses, and the pages of it that are to be
+/// marked in the log.
 #[derive(Drop)]
 pub struct ConnectionMemory {
     alloc: Global,
     layout: GuestMemoryMmap,
     logged: Logged<()>,
+    table: Iotlb,
+    // Guest memory behind an IOMMU, which is on if rings lie at I/O addresses.
+    behind: Option<IoMemory>,
+    is_behind: bool,
 }
 
 impl Model for ConnectionMemory {
-    ghost use Rattle.vhost_backend.specs.ConnectionMemory.{IsHeldBy, MemoryState};
+    ghost use Rattle.std.specs.Prelude.{is_some};
+    ghost use Rattle.vhost_backend.specs.ConnectionMemory.{IsHeldBy, IsIoMemory, MemoryState};
 
     ghost Value = { MemoryState };
 
-    ghost view = { λ m. record { layout = m.layout; logged = m.logged } };
+    ghost view = { λ m. record {
+      layout = m.layout;
+      logged = m.logged;
+      table = m.table;
+      is_joined = is_some m.behind;
+      is_behind = m.is_behind;
+    } };
 
-    ghost invariant = { λ m. IsHeldBy m.layout m.logged.host };
+    ghost invariant = { λ m. IsHeldBy m.layout m.logged.host
+        × IsIoMemory m.layout m.logged.host m.is_behind m.behind };
 }
 
 impl ConnectionMemory {
-    /// No memory.
-    pub fn new(alloc: Global) -> Result<ConnectionMemory, AllocError>
-        ensures { IfOk result (λ m. m ≡ no_memory) }
+    /// No memory. The front end's messages say something of at most so many ranges of I/O addresses, or of one.
+    pub fn new(alloc: Global, table_limit: usize) -> Result<ConnectionMemory, AllocError>
+        ensures { IfOk result (λ m. m ≡ no_memory table_limit) }
     {
         Ok(ConnectionMemory {
             alloc,
@@ -111,6 +200,9 @@ impl ConnectionMemory {
                 host: HostMemory::new(alloc),
                 pages: PageList::new(alloc)?,
             },
+            table: Iotlb::with_limit(alloc, table_limit.max(1)),
+            behind: None,
+            is_behind: false,
         })
     }
 
@@ -123,8 +215,8 @@ impl ConnectionMemory {
 
     /// Writes bytes from an address on, as a driver does.
     pub fn write(&mut self, bytes: &[u8], address: GuestAddress) -> GuestMemoryResult<()>
-        ensures layout { self.new.layout ≡ self.old.layout }
         ensures pages { self.new.logged.pages ≡ self.old.logged.pages }
+        ensures others { self.new ≡ record self.old { logged = self.new.logged } }
     {
         self.layout
             .write_slice(&mut self.logged.host, bytes, address)
@@ -135,12 +227,22 @@ impl ConnectionMemory {
         self.layout.read_slice(&self.logged.host, bytes, address)
     }
 
-    /// Forgets all regions, and the bytes that they have.
+    /// Forgets all regions, the bytes that they have, and what was said of I/O addresses.
     pub fn forget(&mut self)
         ensures { self.new ≡ forgotten self.old }
     {
+        self.behind = None;
         self.layout = GuestMemoryMmap::new(self.alloc);
         self.logged.host = HostMemory::new(self.alloc);
+        self.table.invalidate_all();
+    }
+
+    /// Forgets what was said of I/O addresses.
+    pub fn empty_table(&mut self)
+        ensures { self.new ≡ emptied self.old }
+    {
+        self.table.invalidate_all();
+        empty_first(&mut self.logged.host);
     }
 
     /// Takes the bytes of the next region. Returns whether they are as many.
@@ -160,19 +262,46 @@ impl ConnectionMemory {
         }
     }
 
-    /// Makes guest memory of these regions, each of the bytes that came with its number. Returns whether that could be
-    /// done.
+    /// Makes guest memory of these regions, each of the bytes that came with its number, and a table for rings. Returns
+    /// whether that could be done. If not, it forgets all.
     pub fn join(&mut self, regions: &[MemoryRegion]) -> bool
         ensures { Joins self.old regions.now result self.new }
+    {
+        let is_done = self.try_join(regions);
+        if !is_done {
+            self.forget();
+        }
+        is_done
+    }
+
+    // The same, without forgetting all.
+    fn try_join(&mut self, regions: &[MemoryRegion]) -> bool
+        ensures { MatchBool result (Joins self.old regions.now true self.new)
+            (forgotten self.new ≡ forgotten self.old) }
     {
         let Some(layout) = layout_of(self.alloc, &self.logged.host, regions) else {
             return false;
         };
-        if !self.logged.host.holds(&layout) {
+        let host = &mut self.logged.host;
+        if !host.holds(&layout) {
             return false;
         }
+        let Some(memory) = io_memory(self.alloc, host, &layout, self.is_behind) else {
+            return false;
+        };
         self.layout = layout;
+        self.behind = Some(memory);
         true
+    }
+
+    /// Sets whether rings lie at I/O addresses.
+    pub fn set_behind(&mut self, is_behind: bool)
+        ensures { self.new ≡ with_behind self.old is_behind }
+    {
+        self.is_behind = is_behind;
+        if let Some(memory) = &mut self.behind {
+            memory.set_iommu_enabled(is_behind);
+        }
     }
 
     /// Sets how many pages have a bit in the log.
@@ -206,18 +335,47 @@ impl ConnectionMemory {
     /// Takes a step of a back end on this memory.
     pub fn step(&mut self, backend: &mut BlockBackend) -> Made
         ensures steps { Steps (memory_step self.old) backend.old self.old.logged result backend.new self.new.logged }
-        ensures layout { self.new.layout ≡ self.old.layout }
+        ensures others { self.new ≡ record self.old { logged = self.new.logged } }
     {
-        let mem = Lent { mem: &self.layout };
-        backend.step(&mem, &mut self.logged)
+        let (guest, logged) = (&self.layout, &mut self.logged);
+        let Some(ring) = &self.behind else {
+            let (ring, table) = (guest, None);
+            return backend.step(&Lent { ring, guest, table }, logged);
+        };
+        let table = table_if(self.is_behind);
+        backend.step(&Lent { ring, guest, table }, logged)
     }
 
     /// Has a back end look at a ring on this memory.
     pub fn look(&mut self, backend: &mut BlockBackend) -> bool
-        ensures looks { Looks (memory_step self.old) backend.old self.old.logged result backend.new self.new.logged }
-        ensures layout { self.new.layout ≡ self.old.layout }
+        ensures looks { Looks (memory_step self.old) (way_of self.old backend.old) backend.old self.old.logged result
+            backend.new self.new.logged }
+        ensures others { self.new ≡ record self.old { logged = self.new.logged } }
     {
-        let mem = Lent { mem: &self.layout };
-        backend.look(&mem, &mut self.logged)
+        let (guest, logged) = (&self.layout, &mut self.logged);
+        let Some(ring) = &self.behind else {
+            let (ring, table) = (guest, None);
+            return backend.look(&Lent { ring, guest, table }, logged, None);
+        };
+        let table = table_if(self.is_behind);
+        let way = way_if(self.is_behind, &self.table, backend.can_ask());
+        backend.look(&Lent { ring, guest, table }, logged, way)
+    }
+
+    /// Changes what is said of I/O addresses as a message has it, and what rings have of that. Returns how many ranges
+    /// the table evicted, and `None` if nothing was done.
+    pub fn change(&mut self, backend: &mut BlockBackend) -> Option<usize>
+        ensures changes { ChangesTable (memory_step self.old) backend.old self.old.table self.old.logged
+            (is_some result) backend.new self.new.table self.new.logged }
+        ensures evicts { IfSome result (λ n. n ≡ evicted_by backend.old.change self.old.table) }
+        ensures others { self.new ≡ record self.old { logged = self.new.logged; table = self.new.table } }
+    {
+        let (guest, logged) = (&self.layout, &mut self.logged);
+        let Some(ring) = &self.behind else {
+            let (ring, table) = (guest, None);
+            return backend.change_table(&Lent { ring, guest, table }, logged, &mut self.table);
+        };
+        let table = table_if(self.is_behind);
+        backend.change_table(&Lent { ring, guest, table }, logged, &mut self.table)
     }
 }

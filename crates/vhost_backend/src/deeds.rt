@@ -4,11 +4,12 @@ ghost use Rattle.vhost_backend.specs.BlockBackend.{called_by, is_asked, is_quiet
 
 use crate::backend::Outcome;
 use crate::block::BlockStep;
+use crate::questions::Miss;
 use crate::wanted::{Purpose, Wanted};
 use vhost_message::{MemoryRegion, Refusal};
 use virtio_queue::QueueError;
 
-/// What requests are held against, and how many bytes of replies may wait.
+/// What requests are held against, and how much may be kept.
 #[derive(Clone, Copy, Debug, PartialEq, Eq)]
 pub struct Limits {
     /// How many sectors of 512 bytes the disk has.
@@ -21,6 +22,8 @@ pub struct Limits {
     pub size_max: usize,
     /// How many bytes of replies may wait to be sent.
     pub unread: usize,
+    /// How many ranges the device's I/O table keeps at most.
+    pub table_limit: usize,
 }
 
 /// Why a connection is over.
@@ -63,6 +66,12 @@ pub enum Deed {
     Tell(usize),
     /// A ring is stopped.
     Stopped(usize),
+    /// The table is changed as the message has it.
+    Table,
+    /// The front end is asked for a mapping.
+    Ask(Miss),
+    /// The front end is told that a mapping forbids an access.
+    Deny(Miss),
     /// The connection is over.
     End(Why),
 }

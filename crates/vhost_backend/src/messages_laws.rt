@@ -1,5 +1,6 @@
 //! What holds of every connection, whatever happens: each function here is a theorem, and does nothing.
-ghost use Rattle.std.specs.Prelude.{◌≡◌, ◌+◌, ◌++◌, ◌&&◌, ◌==◌, not, ℕ, List, [], length, true, false, Some, None};
+ghost use Rattle.std.specs.Prelude.{◌≡◌, ◌+◌, ◌++◌, ◌&&◌, ◌==◌, not, ℕ, Bool, List, [], length, true, false, Some};
+ghost use Rattle.std.specs.Prelude.{None};
 ghost use Rattle.std.specs.Prelude.{is_ok, option_map, slice_get};
 ghost use Rattle.vhost_message.specs.declared.frontend_req.FrontendReq.{FrontendReq};
 ghost use Rattle.vhost_message.specs.declared.frontend_req.FrontendReq.TheVariants.{GetVringBase, SetMemTable};
@@ -111,8 +112,8 @@ pub fn messages_wait_for_what_is_under_way()
 pub fn refused_messages_change_nothing()
     ensures comes { (c : Connection) (ids : ℕ) (xs : List Happening) (h : Header) (payload : List ℕ)
         (descriptors : ℕ)
-        (e : Refusal) (told : Header) → let b = after xs (new_backend c ids) in
-        let t = after_message b h payload descriptors in t.1.message ≡ Refused e told
+        (in_use : Bool) (e : Refusal) (told : Header) → let b = after xs (new_backend c ids) in
+        let t = after_message b h payload descriptors in_use in t.1.message ≡ Refused e told
         → (t.0.connection ≡ b.connection) × (t.0.rings.rings ≡ b.rings.rings) }
 
     // The same of one that waited, beside what happened to a ring meanwhile.

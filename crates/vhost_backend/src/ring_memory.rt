@@ -1,27 +1,47 @@
 //! Guest memory as the calls of a ring find it, which a guest may write at any moment.
-ghost use Rattle.std.specs.Prelude.{◌≡◌, ℕ, IfOk};
-ghost use Rattle.vm_memory_guest.specs.Host.{Holds, shape_of};
+ghost use Rattle.std.specs.Prelude.{◌≡◌, ◌<◌, ℕ, IfOk, Some, fold, length};
+ghost use Rattle.vm_memory_base.specs.Table.{Set, Invalidate, says};
+ghost use Rattle.vm_memory_guest.specs.Host.{shape_of};
 ghost use Rattle.virtio_queue.specs.Any.{after_asked, after_pop, after_used};
 ghost use Rattle.virtio_blk.specs.Steps.{FitsOn};
-ghost use Rattle.vhost_backend.specs.RingMemory.{ByLooks, Logs, MemoryStep, Returned, adds_used, begins, enables};
-ghost use Rattle.vhost_backend.specs.RingMemory.{finishes, marks, needs, pops, reads_used};
+ghost use Rattle.vhost_iotlb.specs.Kept.{IsReal};
+ghost use Rattle.vhost_backend.specs.RingMarks.{marked_through, range_marked};
+ghost use Rattle.vhost_backend.specs.RingMemory.{ByLooks, ChangesTable, HoldsAll, Logs, MemoryStep, Returned};
+ghost use Rattle.vhost_backend.specs.RingMemory.{adds_used, begins, enables, finishes, forgets, keeps, marks};
+ghost use Rattle.vhost_backend.specs.RingMemory.{marks_ring, needs, pops, reads_used};
 
 use crate::page_list::PageList;
-use std::alloc::Global;
+use std::alloc::{AllocError, Global};
+use vhost_iotlb::Kept;
 use virtio_blk::{DeviceLimits, Fetches, Puts, Request, begin, begin_from, finish, finish_from};
 use virtio_queue::{AnyQueue, Looks, PackedBuffer, Queue, QueueError, Stores};
-use vm_memory_base::Bitmap;
+use vm_memory_base::{Bitmap, GuestAddress, Iotlb, IotlbIterator, MappedRange, Permissions};
 use vm_memory_device::{Chain, Segment};
-use vm_memory_guest::{GuestMemory, GuestMemoryResult, HostMemory};
+use vm_memory_guest::{GuestMemory, GuestMemoryResult, HostMemory, TlbId};
 
-/// Guest memory in which a call marks pages, while a driver may write it.
+/// Guest memory in which a call marks pages and keeps ranges of a ring, while a driver may write it.
 pub trait Marks {
-    /// A mark: what marked before it, its address, the offset from there, the number of bytes, and what marks after it.
-    ghost logs: { Self → ℕ → ℕ → ℕ → Self → Type 0 };
+    /// A mark, or a range that is kept or forgotten: what was there before it, what it returned, and what is there
+    /// after it.
+    ghost logs: { Self → (s : MemoryStep) → Returned s → Self → Type 0 };
 
     /// Marks each page that has one of `len` bytes so far after an address.
     fn mark(&mut self, base: u64, offset: u64, len: u64)
-        ensures { logs self.old base offset len self.new };
+        ensures { logs self.old (marks base offset len) tt self.new };
+
+    /// Marks each page that has one of `len` bytes of a ring so far after an address of it.
+    fn mark_ring(&mut self, base: u64, offset: u64, len: u64)
+        ensures { logs self.old (marks_ring base offset len) tt self.new };
+
+    /// Has a range of the ring's addresses lead on.
+    fn keep(&mut self, k: Kept) -> Result<(), AllocError>
+        requires { IsReal k }
+        ensures { logs self.old (keeps k) result self.new };
+
+    /// Has a range of the ring's addresses lead nowhere.
+    fn forget(&mut self, k: Kept) -> Result<(), AllocError>
+        requires { IsReal k }
+        ensures { logs self.old (forgets k) result self.new };
 }
 
 /// Guest memory on which a ring takes its steps.
@@ -105,6 +125,27 @@ pub trait RingMemory<H> {
         requires { held self.now host.old }
         ensures step { steps self.now host.old (marks base offset len) tt host.new }
         ensures held { held self.now host.new };
+
+    /// Marks in the log each page that has one of `len` bytes of the ring so far after an address of it.
+    fn mark_ring(&self, host: &mut H, base: u64, offset: u64, len: u64)
+        requires { held self.now host.old }
+        ensures step { steps self.now host.old (marks_ring base offset len) tt host.new }
+        ensures held { held self.now host.new };
+
+    /// Has a range of the ring's addresses lead on, if a table translates these. `AllocError` if an allocation fails.
+    fn keep(&self, host: &mut H, k: Kept) -> Result<(), AllocError>
+        requires held { held self.now host.old }
+        requires real { IsReal k }
+        ensures step { steps self.now host.old (keeps k) result host.new }
+        ensures held { held self.now host.new };
+
+    /// Has a range of the ring's addresses lead nowhere, if a table translates these. `AllocError` if an allocation
+    /// fails.
+    fn forget(&self, host: &mut H, k: Kept) -> Result<(), AllocError>
+        requires held { held self.now host.old }
+        requires real { IsReal k }
+        ensures step { steps self.now host.old (forgets k) result host.new }
+        ensures held { held self.now host.new };
 }
 
 /// Host memory, and the pages that were changed and are to be marked in the log.
@@ -116,17 +157,85 @@ pub struct Logged<B> {
     pub pages: PageList,
 }
 
-/// Guest memory that is lent for a call, of which a contract says what it holds all the while.
-#[derive(Drop)]
-pub struct Lent<'a, M: GuestMemory> {
-    /// The memory.
-    pub mem: &'a M,
+// Marks the pages of a range of guest addresses, which goes on at 0 after the last address.
+fn mark_range(pages: &mut PageList, range: MappedRange)
+    ensures { pages.new ≡ range_marked pages.old (record { base = range.base.0; len = range.length }) }
+{
+    let base = range.base.0;
+    let len = range.length as u64;
+    let past = if base.checked_add(len).is_none() {
+        base.wrapping_add(len)
+    } else {
+        0
+    };
+    pages.mark(base, 0, len - past);
+    pages.mark(0, 0, past);
 }
 
-impl<M: GuestMemory, B: Bitmap> RingMemory<Logged<B>> for Lent<'_, M> {
-    ghost steps = { λ s old x r new. Logs B.marks (M.memory s.mem.now) old x r new };
+fn mark_ranges(pages: &mut PageList, found: IotlbIterator<'_>)
+    ensures { pages.new ≡ fold range_marked pages.old found.entry }
+{
+    for range in found {
+        mark_range(pages, range);
+    }
+}
 
-    ghost held = { λ s logged. Holds (shape_of logged.host) (M.names s.mem.now) };
+// Marks the pages that a range of I/O addresses leads to, if each may be written. If not, nothing was stored there.
+fn mark_through(pages: &mut PageList, table: &Iotlb, iova: u64, len: u64)
+    ensures { pages.new ≡ marked_through (says table.now) pages.old iova len }
+{
+    if let Ok(found) = table.lookup(GuestAddress(iova), len as usize, Permissions::Write) {
+        mark_ranges(pages, found);
+    }
+}
+
+// Maps a range in a table of a host.
+fn keep_in<B>(host: &mut HostMemory<B>, table: TlbId, k: Kept) -> Result<(), AllocError>
+    requires there { table.0 < length host.old.tables }
+    requires real { IsReal k }
+    ensures set { ChangesTable (Some table) (Set k.iova k.base k.len k.access) host.old result host.new }
+    ensures shape { shape_of host.new ≡ shape_of host.old }
+{
+    let (iova, base) = (GuestAddress(k.iova), GuestAddress(k.base));
+    let table = host.table_mut(table);
+    match table.set_mapping(iova, base, k.len as usize, k.access) {
+        Ok(()) => Ok(()),
+        Err(_) => Err(AllocError),
+    }
+}
+
+// Invalidates a range in a table of a host.
+fn forget_in<B>(host: &mut HostMemory<B>, table: TlbId, k: Kept) -> Result<(), AllocError>
+    requires there { table.0 < length host.old.tables }
+    requires real { IsReal k }
+    ensures forgotten { ChangesTable (Some table) (Invalidate k.iova k.len) host.old result host.new }
+    ensures shape { shape_of host.new ≡ shape_of host.old }
+{
+    let table = host.table_mut(table);
+    match table.invalidate_mapping(GuestAddress(k.iova), k.len as usize) {
+        Ok(()) => Ok(()),
+        Err(_) => Err(AllocError),
+    }
+}
+
+/// Guest memory that is lent for a call, of which a contract says what it holds all the while: the memory that a ring's
+/// addresses are of, and the one that those of its chains are.
+#[derive(Drop)]
+pub struct Lent<'a, M: GuestMemory, P: GuestMemory> {
+    /// The memory of the ring.
+    pub ring: &'a M,
+    /// Guest memory.
+    pub guest: &'a P,
+    /// The host's table that translates the ring's addresses, which are guest addresses if there is none.
+    pub table: Option<TlbId>,
+}
+
+impl<M: GuestMemory, P: GuestMemory, B: Bitmap> RingMemory<Logged<B>> for Lent<'_, M, P> {
+    ghost steps = { λ s old x r new.
+        Logs B.marks (M.memory s.ring.now) (P.memory s.guest.now) s.table old x r new };
+
+    ghost held = { λ s logged.
+        HoldsAll (shape_of logged.host) (M.names s.ring.now) (P.names s.guest.now) s.table };
 
     #[inline(always)]
     fn pop(
@@ -136,7 +245,7 @@ impl<M: GuestMemory, B: Bitmap> RingMemory<Logged<B>> for Lent<'_, M> {
         list: &mut Vec<Segment>,
         queue: &mut AnyQueue,
     ) -> Result<Option<(PackedBuffer, Chain)>, QueueError> {
-        queue.pop_into(alloc, list, self.mem, &mut logged.host)
+        queue.pop_into(alloc, list, self.ring, &mut logged.host)
     }
 
     #[inline(always)]
@@ -147,7 +256,7 @@ impl<M: GuestMemory, B: Bitmap> RingMemory<Logged<B>> for Lent<'_, M> {
         buffer: PackedBuffer,
         len: u32,
     ) -> Result<(), QueueError> {
-        queue.add_used(self.mem, &mut logged.host, buffer, len)
+        queue.add_used(self.ring, &mut logged.host, buffer, len)
     }
 
     #[inline(always)]
@@ -156,7 +265,7 @@ impl<M: GuestMemory, B: Bitmap> RingMemory<Logged<B>> for Lent<'_, M> {
         logged: &mut Logged<B>,
         queue: &mut AnyQueue,
     ) -> Result<bool, QueueError> {
-        queue.needs_notification(self.mem, &mut logged.host)
+        queue.needs_notification(self.ring, &mut logged.host)
     }
 
     #[inline(always)]
@@ -165,12 +274,12 @@ impl<M: GuestMemory, B: Bitmap> RingMemory<Logged<B>> for Lent<'_, M> {
         logged: &mut Logged<B>,
         queue: &AnyQueue,
     ) -> Result<bool, QueueError> {
-        queue.enable_notification(self.mem, &mut logged.host)
+        queue.enable_notification(self.ring, &mut logged.host)
     }
 
     #[inline(always)]
     fn used_idx(&self, logged: &mut Logged<B>, queue: &Queue) -> Result<u16, QueueError> {
-        queue.used_idx(self.mem, &mut logged.host)
+        queue.used_idx(self.ring, &mut logged.host)
     }
 
     #[inline(always)]
@@ -180,7 +289,7 @@ impl<M: GuestMemory, B: Bitmap> RingMemory<Logged<B>> for Lent<'_, M> {
         terms: DeviceLimits,
         chain: &Chain,
     ) -> GuestMemoryResult<Request> {
-        begin(terms, self.mem, &mut logged.host, chain)
+        begin(terms, self.guest, &mut logged.host, chain)
     }
 
     #[inline(always)]
@@ -191,12 +300,35 @@ impl<M: GuestMemory, B: Bitmap> RingMemory<Logged<B>> for Lent<'_, M> {
         status: u8,
         moved: usize,
     ) -> GuestMemoryResult<u32> {
-        finish(self.mem, &mut logged.host, chain, status, moved)
+        finish(self.guest, &mut logged.host, chain, status, moved)
     }
 
     #[inline(always)]
     fn mark(&self, logged: &mut Logged<B>, base: u64, offset: u64, len: u64) {
         logged.pages.mark(base, offset, len);
+    }
+
+    fn mark_ring(&self, logged: &mut Logged<B>, base: u64, offset: u64, len: u64) {
+        let Some(table) = self.table else {
+            return logged.pages.mark(base, offset, len);
+        };
+        if let Some(iova) = base.checked_add(offset) {
+            mark_through(&mut logged.pages, logged.host.table(table), iova, len);
+        }
+    }
+
+    fn keep(&self, logged: &mut Logged<B>, k: Kept) -> Result<(), AllocError> {
+        match self.table {
+            Some(table) => keep_in(&mut logged.host, table, k),
+            None => Ok(()),
+        }
+    }
+
+    fn forget(&self, logged: &mut Logged<B>, k: Kept) -> Result<(), AllocError> {
+        match self.table {
+            Some(table) => forget_in(&mut logged.host, table, k),
+            None => Ok(()),
+        }
     }
 }
 
@@ -267,5 +399,17 @@ impl<L: Looks + Fetches + Puts + Marks, S: Stores<L>> RingMemory<L> for Looked<'
 
     fn mark(&self, guest: &mut L, base: u64, offset: u64, len: u64) {
         guest.mark(base, offset, len);
+    }
+
+    fn mark_ring(&self, guest: &mut L, base: u64, offset: u64, len: u64) {
+        guest.mark_ring(base, offset, len);
+    }
+
+    fn keep(&self, guest: &mut L, k: Kept) -> Result<(), AllocError> {
+        guest.keep(k)
+    }
+
+    fn forget(&self, guest: &mut L, k: Kept) -> Result<(), AllocError> {
+        guest.forget(k)
     }
 }

@@ -191,7 +191,8 @@ impl Model for Rings {
 impl Rings {
     ghost use Rattle.std.specs.Prelude.{length, slice_get};
     ghost use Rattle.vhost_backend.specs.Rings.{after_go_on, after_hold, after_release, happens, has_next, held};
-    ghost use Rattle.vhost_backend.specs.Rings.{is_held, is_stopped_at, may_pop, new_rings, now_held, on, settled_step};
+    ghost use Rattle.vhost_backend.specs.Rings.{all_stopped, is_held, is_stopped_at, may_pop, new_rings, now_held};
+    ghost use Rattle.vhost_backend.specs.Rings.{on, settled_step};
     ghost use Rattle.vhost_backend.specs.Rings.{turn_taken};
 
     /// Stopped rings. The ids of their chains are below `ids`.
@@ -216,6 +217,13 @@ impl Rings {
         ensures { result ≡ length self.now.rings }
     {
         self.rings.len()
+    }
+
+    /// Whether no ring is started.
+    pub fn all_stopped(&self) -> bool
+        ensures { result ≡ all_stopped self.now }
+    {
+        self.rings.iter().all(|ring| ring.is_stopped())
     }
 
     /// Whether a ring is stopped, or there is none of this number.

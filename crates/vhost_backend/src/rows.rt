@@ -1,15 +1,18 @@
 //! What crosses to C, as plain numbers.
 ghost use Rattle.std.specs.Prelude.{◌≡◌};
-ghost use Rattle.vhost_backend.specs.Rows.{code_of_why, end_row, flag_of, keep_row, map_row, mark_row, no_action};
+ghost use Rattle.vhost_backend.specs.Rows.{ask_row, code_of_why, end_row, flag_of, keep_row, map_row, mark_row};
+ghost use Rattle.vhost_backend.specs.Rows.{no_action};
 ghost use Rattle.vhost_backend.specs.Rows.{number_of, on_ring, part_row, place_of_part, ring_of_purpose, row_of};
-ghost use Rattle.vhost_backend.specs.Rows.{way_of_part, way_of_purpose, way_of_why};
+ghost use Rattle.vhost_backend.specs.Rows.{way_of_access, way_of_part, way_of_purpose, way_of_why};
 
 use crate::block::BlockStep;
 use crate::deeds::{Deed, Why};
 use crate::page_list::PageRange;
+use crate::questions::Miss;
 use crate::wanted::Purpose;
 use vhost_calls::code_of_refusal;
 use vhost_message::MemoryRegion;
+use vm_memory_base::Permissions;
 
 /// Something to be done. Fields that its kind does not name are 0.
 #[repr(C)]
@@ -21,15 +24,15 @@ pub struct ActionRow {
     pub ring: u32,
     /// The id of a request, the number of a region and its descriptor, or the code of a refusal.
     pub id: u32,
-    /// The way of a part, the use of a descriptor, or why the connection is over.
+    /// The way of a part, the use of a descriptor, an access, or why the connection is over.
     pub way: u32,
-    /// How many pieces a part has, or whether a descriptor is to be kept.
+    /// How many pieces a part has, whether a descriptor is to be kept, or whether a mapping forbids the access.
     pub count: u32,
     /// Whether the part goes on with the next action.
     pub more: u32,
     /// How many parts a request has after a part.
     pub left: u32,
-    /// A place on the disk or in a file, or the number of a page.
+    /// A place on the disk or in a file, the number of a page, or an I/O address.
     pub place: u64,
     /// How many bytes or pages there are.
     pub len: u64,
@@ -107,6 +110,8 @@ pub mod kind {
     pub const END: u32 = 10;
 
     pub const STOPPED: u32 = 11;
+
+    pub const ASK: u32 = 12;
 }
 
 /// The ways of parts.
@@ -313,6 +318,29 @@ fn log_row(size: u64, offset: u64) -> ActionRow
     }
 }
 
+fn way_of_access(access: Permissions) -> u32
+    ensures { result ≡ way_of_access access }
+{
+    match access {
+        Permissions::No => 0,
+        Permissions::Read => 1,
+        Permissions::Write => 2,
+        Permissions::ReadWrite => 3,
+    }
+}
+
+fn ask_row(miss: Miss, is_denied: bool) -> ActionRow
+    ensures { result ≡ ask_row miss is_denied }
+{
+    ActionRow {
+        ring: number_of(miss.ring),
+        way: way_of_access(miss.access),
+        count: flag_of(is_denied),
+        place: miss.iova,
+        ..no_action(kind::ASK)
+    }
+}
+
 // The action of a deed, if it is not that of a part. A reply has so many bytes.
 pub(crate) fn row_of(deed: Deed, bytes: usize) -> Option<ActionRow>
     ensures { result ≡ row_of deed bytes }
@@ -327,6 +355,8 @@ pub(crate) fn row_of(deed: Deed, bytes: usize) -> Option<ActionRow>
         Deed::Tell(ring) => Some(on_ring(kind::ERROR, ring)),
         Deed::Stopped(ring) => Some(on_ring(kind::STOPPED, ring)),
         Deed::End(why) => Some(end_row(why)),
-        Deed::Join | Deed::Part(..) => None,
+        Deed::Ask(miss) => Some(ask_row(miss, false)),
+        Deed::Deny(miss) => Some(ask_row(miss, true)),
+        Deed::Join | Deed::Table | Deed::Part(..) => None,
     }
 }

@@ -1,9 +1,8 @@
 //! Queues of rings, as the protocol's state has them.
 ghost use Rattle.std.specs.Prelude.{◌≡◌};
-ghost use Rattle.vhost_backend.specs.SetUp.{Fresh, FreshSplit, base_of, is_set_up, moved_queue, packed_queue};
-ghost use Rattle.vhost_backend.specs.SetUp.{split_queue, unset_queue};
+ghost use Rattle.vhost_backend.specs.SetUp.{lies_at, any_split, base_of, fresh_queue, is_set_up, is_split, moved_queue};
+ghost use Rattle.vhost_backend.specs.SetUp.{packed_queue, split_queue, unset_queue};
 
-use crate::ring_memory::RingMemory;
 use vhost_user::{RunningVring, VIRTIO_F_RING_EVENT_IDX, VIRTIO_F_RING_PACKED};
 use virtio_queue::{
     AnyQueue, PackedQueue, PackedState, Queue, QueueError, QueueState, RingPosition,
@@ -27,6 +26,13 @@ pub(crate) fn is_set_up(queue: &AnyQueue) -> bool
         AnyQueue::Split(queue) => queue.ready(),
         AnyQueue::Packed(queue) => queue.ready(),
     }
+}
+
+// Whether a queue is split.
+pub(crate) fn is_split(queue: &AnyQueue) -> bool
+    ensures { result ≡ is_split queue.now }
+{
+    matches!(queue, AnyQueue::Split(_))
 }
 
 // The base of a ring, as its queue stands.
@@ -62,20 +68,13 @@ fn split_queue(max_size: u16, vring: &RunningVring, features: u64) -> Result<Que
     })
 }
 
-// The same, which returns its next chain where the used ring says.
-fn fresh_split<H, D: RingMemory<H>>(
-    mem: &D,
-    host: &mut H,
-    made: Result<Queue, QueueError>,
-) -> Result<AnyQueue, QueueError>
-    requires { D.held mem.now host.old }
-    ensures fresh { FreshSplit (D.steps mem.now) made host.old result host.new }
-    ensures held { D.held mem.now host.new }
+fn any_split(made: Result<Queue, QueueError>) -> Result<AnyQueue, QueueError>
+    ensures { result ≡ any_split made }
 {
-    let mut queue = made?;
-    let next_used = mem.used_idx(host, &queue)?;
-    queue.set_next_used(next_used);
-    Ok(AnyQueue::Split(queue))
+    match made {
+        Ok(queue) => Ok(AnyQueue::Split(queue)),
+        Err(error) => Err(error),
+    }
 }
 
 // A packed queue that begins at a ring's base.
@@ -103,21 +102,17 @@ fn packed_queue(max_size: u16, vring: &RunningVring, features: u64) -> Result<An
 }
 
 // The queue of a ring that was started: it begins at the ring's base.
-pub(crate) fn fresh_queue<H, D: RingMemory<H>>(
-    mem: &D,
-    host: &mut H,
+pub(crate) fn fresh_queue(
     max_size: u16,
     vring: &RunningVring,
     features: u64,
 ) -> Result<AnyQueue, QueueError>
-    requires { D.held mem.now host.old }
-    ensures fresh { Fresh (D.steps mem.now) max_size vring.now features host.old result host.new }
-    ensures held { D.held mem.now host.new }
+    ensures { result ≡ fresh_queue max_size vring.now features }
 {
     if features & VIRTIO_F_RING_PACKED != 0 {
         return packed_queue(max_size, vring, features);
     }
-    fresh_split(mem, host, split_queue(max_size, vring, features))
+    any_split(split_queue(max_size, vring, features))
 }
 
 // The queue of a ring that lies elsewhere now, and goes on where it is.
@@ -132,10 +127,7 @@ pub(crate) fn moved_queue(queue: &AnyQueue, vring: &RunningVring) -> Result<AnyQ
                 used_ring: vring.used,
                 ..queue.state()
             };
-            match Queue::from_state(state) {
-                Ok(queue) => Ok(AnyQueue::Split(queue)),
-                Err(error) => Err(error),
-            }
+            any_split(Queue::from_state(state))
         }
         AnyQueue::Packed(queue) => {
             let state = PackedState {
@@ -148,6 +140,26 @@ pub(crate) fn moved_queue(queue: &AnyQueue, vring: &RunningVring) -> Result<AnyQ
                 Ok(queue) => Ok(AnyQueue::Packed(queue)),
                 Err(error) => Err(error),
             }
+        }
+    }
+}
+
+// Whether a queue lies where the protocol's state says.
+pub(crate) fn lies_at(queue: &AnyQueue, vring: &RunningVring) -> bool
+    ensures { result ≡ lies_at queue.now vring.now }
+{
+    match queue {
+        AnyQueue::Split(queue) => {
+            let state = queue.state();
+            state.desc_table == vring.descriptor
+                && state.avail_ring == vring.available
+                && state.used_ring == vring.used
+        }
+        AnyQueue::Packed(queue) => {
+            let state = queue.state();
+            state.desc_ring == vring.descriptor
+                && state.driver_area == vring.available
+                && state.device_area == vring.used
         }
     }
 }

@@ -1,9 +1,10 @@
 //! Turns of rings on guest memory.
 ghost use Rattle.std.specs.Prelude.{◌≡◌, ◌^◌, ◌<◌, false, Some, None, if◌then◌else◌};
+ghost use Rattle.vhost_backend.specs.Sight.{sight_of};
 ghost use Rattle.vhost_backend.specs.BlockTurn.{TakesStep};
 
 use crate::backend::{Backend, Todo};
-use crate::block_queue::BlockQueue;
+use crate::block_queue::{BlockQueue, Way};
 use crate::ring_memory::RingMemory;
 use crate::rings::Event;
 use std::alloc::Global;
@@ -19,11 +20,12 @@ pub fn take_step<H, D: RingMemory<H>>(
     mem: &D,
     host: &mut H,
     terms: DeviceLimits,
+    way: Option<Way<'_>>,
     todo: &mut Todo,
 ) -> bool
     requires held { D.held mem.now host.old }
     requires small { terms.sectors < 2 ^ 55 }
-    ensures takes { TakesStep (D.steps mem.now) terms ring backend.old queue.old host.old
+    ensures takes { TakesStep (D.steps mem.now) (sight_of way.entry) terms ring backend.old queue.old host.old
         (if result then Some todo.new else None) backend.new queue.new host.new }
     ensures stays { result ≡ false → todo.new ≡ todo.old }
     ensures held { D.held mem.now host.new }
@@ -31,7 +33,7 @@ pub fn take_step<H, D: RingMemory<H>>(
     if !backend.rings().may_pop(ring) {
         return false;
     }
-    match queue.next_event(alloc, mem, host, terms) {
+    match queue.next_event(alloc, mem, host, terms, way) {
         Some(event) => {
             backend.handle(Event::Ring(ring, event), todo);
             true

@@ -32,6 +32,8 @@ pub enum Wanted {
     Descriptor(Purpose, bool),
     /// The base of a ring is replied.
     Base(u32),
+    /// The table is changed.
+    Table,
     /// It asks for nothing more.
     Finish,
 }
@@ -57,6 +59,7 @@ pub(crate) fn wanted_of(request: &FrontendReq) -> Wanted
         FrontendReq::SetBackendReqFd => Wanted::Descriptor(Purpose::Channel, true),
         FrontendReq::SetLogFd => Wanted::Descriptor(Purpose::LogCall, true),
         FrontendReq::GetVringBase { index } => Wanted::Base(*index),
+        FrontendReq::IotlbMsg(_) => Wanted::Table,
         _ => Wanted::Finish,
     }
 }

@@ -2,8 +2,9 @@
 //! asks what is to be done.
 ghost use Rattle.std.specs.Prelude.{◌≡◌, ◌⊎◌, Some, None, IsSome, true, false, if◌then◌else◌};
 ghost use Rattle.vhost_calls.specs.Values.{connection_state};
-ghost use Rattle.vhost_backend.specs.BlockBackend.{resized};
-ghost use Rattle.vhost_backend.specs.BlockConnection.{Maps, done, ended, failed, kicked, sent, taken, with_backend};
+ghost use Rattle.vhost_backend.specs.BlockBackend.{channel_lost, resized};
+ghost use Rattle.vhost_backend.specs.BlockConnection.{Maps, done, ended, failed, kicked, reply_came, sent, taken};
+ghost use Rattle.vhost_backend.specs.BlockConnection.{with_backend};
 ghost use Rattle.vhost_backend.specs.Run.{RunsBy};
 ghost use Rattle.vm_memory_c.specs.Block.{OpensAt, Stays};
 
@@ -12,7 +13,7 @@ use crate::raw_box::RawBox;
 use std::alloc::Global;
 use std::mem;
 use vhost_backend::rows::{ActionRow, Counts, EndRow, PieceRow};
-use vhost_backend::{BlockConnection, BlockDisk};
+use vhost_backend::{BlockConnection, BlockDisk, TableCounts};
 use vhost_calls::{VhostOffer, VhostState, code};
 use vm_memory_guest::{BlockBytes, HostPlace};
 
@@ -128,6 +129,36 @@ pub extern "C" fn vmm_backend_kick(alloc: Global, connection: &mut BlockHandle, 
     put(connection, held);
 }
 
+/// Takes a whole reply that came on the back end's own channel. Returns 0 if one was due, and otherwise 1: then the
+/// connection ends.
+#[unsafe(no_mangle)]
+pub extern "C" fn vmm_backend_answered(
+    alloc: Global,
+    connection: &mut BlockHandle,
+    message: &[u8],
+) -> u32
+    requires { IsSome connection.old.state }
+    ensures { Stays connection.old.state connection.new.state
+        (λ old new. let t = reply_came old message.now in (new ≡ t.0) × (result ≡ (if t.1 then 0 else 1))) }
+{
+    let mut held = take(alloc, connection);
+    let is_due = held.answered(message);
+    put(connection, held);
+    u32::from(!is_due)
+}
+
+/// Takes note that the back end's own channel is lost.
+#[unsafe(no_mangle)]
+pub extern "C" fn vmm_backend_channel_lost(alloc: Global, connection: &mut BlockHandle)
+    requires { IsSome connection.old.state }
+    ensures { Stays connection.old.state connection.new.state
+        (λ old new. new ≡ with_backend old (channel_lost old.backend)) }
+{
+    let mut held = take(alloc, connection);
+    held.channel_lost();
+    put(connection, held);
+}
+
 /// Takes note that so many bytes of replies were sent.
 #[unsafe(no_mangle)]
 pub extern "C" fn vmm_backend_sent(alloc: Global, connection: &mut BlockHandle, count: usize)
@@ -196,6 +227,22 @@ pub extern "C" fn vmm_backend_state(
 {
     let held = take(alloc, connection);
     *state = vhost_calls::state(held.connection());
+    put(connection, held);
+}
+
+/// Puts into `counts` how often the device's I/O table was changed.
+#[unsafe(no_mangle)]
+pub extern "C" fn vmm_backend_table(
+    alloc: Global,
+    connection: &mut BlockHandle,
+    counts: &mut TableCounts,
+)
+    requires { IsSome connection.old.state }
+    ensures { Stays connection.old.state connection.new.state
+        (λ old new. (new ≡ old) × (counts.new ≡ old.table_counts)) }
+{
+    let held = take(alloc, connection);
+    *counts = held.table_counts();
     put(connection, held);
 }
 

@@ -80,8 +80,13 @@ impl BlockBackend {
             }
             Wanted::Base(ring) => {
                 let end = self.queues.base(ring as usize);
+                self.questions.stale(ring as usize);
                 self.finish(end);
                 Made::Again
+            }
+            Wanted::Table => {
+                self.ask = Ask::Answer;
+                Made::Deed(Deed::Table)
             }
             Wanted::Finish => {
                 self.finish(Finish::Done);
@@ -120,7 +125,7 @@ impl BlockBackend {
             self.end = None;
             return Made::Deed(Deed::End(why));
         }
-        Made::Idle
+        self.say_on_channel()
     }
 
     // The bytes of the reply are sent.

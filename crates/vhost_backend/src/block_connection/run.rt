@@ -3,8 +3,12 @@ ghost use Rattle.std.specs.Prelude.{◌≡◌, ◌+◌, ◌<◌, ◌≤◌, ◌|
 ghost use Rattle.vhost_backend.specs.Given.{Puts};
 ghost use Rattle.vhost_backend.specs.PageList.{NoneToMark};
 ghost use Rattle.vhost_backend.specs.Rows.{flag_of};
-ghost use Rattle.vhost_backend.specs.Run.{BeginsPart, Fills, Follows, GivesMarks, JoinsAt, LooksBy, MayStep, RunsBy};
-ghost use Rattle.vhost_backend.specs.Run.{StepsTo, after_sent, course_of, end_taken, output_of, part_ended, sent_by};
+ghost use Rattle.vhost_backend.specs.BlockTable.{memory_lost};
+ghost use Rattle.vhost_backend.specs.ConnectionMemory.{forgotten};
+ghost use Rattle.vhost_backend.specs.Run.{Applies, BeginsPart, Fills, Follows, GivesMarks, JoinsAt};
+ghost use Rattle.vhost_backend.specs.Run.{LooksBy, MayStep, RunsBy};
+ghost use Rattle.vhost_backend.specs.Run.{StepsTo, after_sent, after_stop, course_of, end_taken, output_of, part_ended};
+ghost use Rattle.vhost_backend.specs.Run.{sent_by};
 ghost use Rattle.vhost_backend.specs.Run.{state_of, takes_messages};
 ghost use Rattle.vhost_backend.specs.RunSteps.{EndBy, EventOr, GivesDeed, GivesNext, GivesPartRow, GoesOn};
 ghost use Rattle.vhost_backend.specs.RunSteps.{LostBy, PutsPartAt, StepGives, TurnBy};
@@ -20,6 +24,7 @@ use crate::given::{
 use crate::page_list::PageRange;
 use crate::request::PartEnd;
 use crate::rows::{ActionRow, Counts, EndRow, PieceRow, mark_row, row_of};
+use crate::table_counts::{counted_if, missed};
 
 // Whether another run may give more at once: there was no room, or ends are left, or a ring gets a turn.
 fn more_of(is_full: bool, is_left: bool, has_next: bool) -> u32
@@ -98,13 +103,48 @@ impl BlockConnection {
         self.backend.answer(is_done);
     }
 
+    // Changes the table as the message has it.
+    fn apply(&mut self)
+        ensures { Applies self.old self.new }
+    {
+        let change = self.backend.change();
+        let evicted = self.memory.change(&mut self.backend);
+        self.table_counts = counted_if(self.table_counts, change, evicted);
+        self.backend.answer(evicted.is_some());
+    }
+
+    // Forgets the regions, and what rings have of them.
+    fn unmap_all(&mut self)
+        ensures { self.new ≡ record self.old {
+          memory = forgotten self.old.memory;
+          backend = memory_lost self.old.backend;
+        } }
+    {
+        self.memory.forget();
+        self.backend.lose_memory();
+    }
+
+    // After the last ring was stopped nothing is said of I/O addresses: the front end does not tell what changes
+    // meanwhile.
+    fn after_stop(&mut self)
+        ensures { self.new ≡ after_stop self.old }
+    {
+        if self.backend.backend().rings().all_stopped() {
+            self.memory.empty_table();
+            self.backend.lose_memory();
+        }
+    }
+
     // Does what follows from a deed.
     fn follow(&mut self, deed: Deed)
         ensures { Follows self.old deed self.new }
     {
         match deed {
-            Deed::UnmapAll => self.memory.forget(),
+            Deed::UnmapAll => self.unmap_all(),
             Deed::Join => self.join(),
+            Deed::Table => self.apply(),
+            Deed::Stopped(_) => self.after_stop(),
+            Deed::Ask(_) => self.table_counts = missed(self.table_counts),
             Deed::Part(ring, id, step, left) => self.begin_part(ring, id, step, left),
             _ => {}
         }

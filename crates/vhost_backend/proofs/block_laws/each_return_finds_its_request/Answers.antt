@@ -3,7 +3,7 @@ use Rattle.vhost_backend.proofs.block_laws.each_return_finds_its_request.Goals a
 
 pub returns : goal.returns
 returns g c = record {
-  turns = λ mem terms q new_q old new r e agrees same runs next.
-      turns (g.D.RingMemory.steps mem) terms q r agrees same runs old e new_q new next;
+  turns = λ mem way terms q new_q old new r e agrees same runs next.
+      turns (g.D.RingMemory.steps mem) way terms q r agrees same runs old e new_q new next;
   others = others;
 }

@@ -6,5 +6,5 @@ returns g c = record {
   idle = λ mem w new_w old new is. idle_done (g.D.RingMemory.steps mem) w old new_w new is;
   clear = done_clear;
   ends = hung_up_clear;
-  looks = λ mem w new_w old new is. looked_clear (g.D.RingMemory.steps mem) w old new_w new is;
+  looks = λ mem way w new_w old new is. looked_clear (g.D.RingMemory.steps mem) way w old new_w new is;
 }

@@ -1,4 +1,3 @@
-use Rattle.std.proofs.Common.{◌≡◌, true}
 use Rattle.vhost_backend.specs.Run.{MayStep, output_of}
 use Rattle.vhost_backend.proofs.GivenLemmas.{puts_none}
 use Rattle.vhost_backend.proofs.MoveLemmas.{none_returning, part_move}

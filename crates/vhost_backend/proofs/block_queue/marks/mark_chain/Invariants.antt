@@ -1,6 +1,6 @@
 use Rattle.std.proofs.Common.{drop}
 use Rattle.vhost_backend.specs.Marks.{Marks, chain_marks}
-use Rattle.vhost_backend.proofs.block_queue.mark_chain.Given as goal
+use Rattle.vhost_backend.proofs.block_queue.marks.mark_chain.Given as goal
 
 -- what is marked from here is what is marked from the first segment
 abbrev pub invariant-loop-i : goal.invariant-loop-i
