@@ -44,7 +44,7 @@ static int gives(uint32_t kind) {
 
 static int opened(void) {
     vmm_vhost_offer offer = {1ull << 32, 0, 1, 256, 0, 0};
-    const vmm_backend_disk disk = {2048, 126, 4096, 0, 4096};
+    const vmm_backend_disk disk = {2048, 126, 4096, 0, 4096, 0};
     const uint8_t config[8] = {0, 8, 0, 0, 0, 0, 0, 0};
     offer.queues = 0;
     if (vmm_backend_open(&connection, &offer, config, sizeof config, &disk) != VMM_VHOST_OFFER || connection.at) {
@@ -138,11 +138,39 @@ static int hung_up(void) {
     return 0;
 }
 
+/* Nothing was asked for: a channel may be lost, and a reply ends the connection. */
+static int unasked(void) {
+    vmm_backend_table_counts table;
+    const uint32_t failed = opened();
+    if (failed) {
+        return (int)failed;
+    }
+    vmm_backend_channel_lost(&connection);
+    vmm_backend_table(&connection, &table);
+    if (table.misses || table.updates || table.invalidations || table.evictions) {
+        return 50;
+    }
+    message_size = 0;
+    put(1, 4);
+    put(5, 4);
+    put(8, 4);
+    put(0, 8);
+    if (vmm_backend_answered(&connection, message, message_size) != 1) {
+        return 51;
+    }
+    if (!gives(VMM_BACKEND_END) || counts.state != 3) {
+        return 52;
+    }
+    vmm_backend_close(&connection);
+    return 0;
+}
+
 int main(void) {
     int failed = opened();
     failed = failed ? failed : features();
     failed = failed ? failed : memory();
     failed = failed ? failed : ring();
     vmm_backend_close(&connection);
-    return failed ? failed : hung_up();
+    failed = failed ? failed : hung_up();
+    return failed ? failed : unasked();
 }

@@ -823,11 +823,11 @@ typedef struct vmm_backend {
 } vmm_backend;
 
 /* The disk: how many sectors of 512 bytes it has, how many segments of data a request and how many bytes a segment
- * has at most if the driver accepted SEG_MAX and SIZE_MAX, 1 if nothing is written to it, and how many bytes of
- * replies may wait to be sent. */
+ * has at most if the driver accepted SEG_MAX and SIZE_MAX, 1 if nothing is written to it, how many bytes of replies
+ * may wait to be sent, and how many ranges the device's I/O table keeps: with 0 ACCESS_PLATFORM is not offered. */
 typedef struct vmm_backend_disk {
     uint64_t sectors;
-    uint32_t seg_max, size_max, read_only, unread;
+    uint32_t seg_max, size_max, read_only, unread, table_limit;
 } vmm_backend_disk;
 
 /* What is to be done, by its kind. Members that the kind does not name are 0.
@@ -850,7 +850,10 @@ typedef struct vmm_backend_disk {
  * END: the connection is over. `way` is 1 if a message was refused for the code `id`, 2 if what it asked for
  * failed, 3 if an allocation failed, 4 if too many bytes of replies wait, 5 if a page has no bit in the log, 6
  * after vmm_backend_hang_up.
- * STOPPED: the ring is stopped, and its descriptor of kicks is let go. */
+ * STOPPED: the ring is stopped, and its descriptor of kicks is let go.
+ * ASK: the front end is sent vmm_vhost_miss on the back end's own channel, or with `count` 1 vmm_vhost_access_fail,
+ * for the I/O address `place` and the access `way`, which `ring` needs. Each MISS has a reply, for
+ * vmm_backend_answered. */
 typedef struct vmm_backend_action {
     uint32_t kind, ring, id, way, count, more, left;
     uint64_t place, len, guest, user;
@@ -867,7 +870,8 @@ enum {
     VMM_BACKEND_ERROR,
     VMM_BACKEND_MARK,
     VMM_BACKEND_END,
-    VMM_BACKEND_STOPPED
+    VMM_BACKEND_STOPPED,
+    VMM_BACKEND_ASK
 };
 
 /* Bytes of a region, from an offset on. */
@@ -911,6 +915,12 @@ void vmm_backend_sent(vmm_backend *connection, size_t count);
 void vmm_backend_resize(vmm_backend *connection, uint64_t sectors);
 void vmm_backend_hang_up(vmm_backend *connection);
 
+/* A whole reply came on the back end's own channel. 0 if one was due, and otherwise 1: then the connection ends. */
+uint32_t vmm_backend_answered(vmm_backend *connection, const uint8_t *message, size_t message_size);
+
+/* The back end's own channel is lost: no reply comes any more. */
+void vmm_backend_channel_lost(vmm_backend *connection);
+
 /* Takes ends of parts, and gives what is to be done, as far as there is room: 280 bytes of output, an action and a
  * piece are enough to go on. What the run before it gave was done: a chain is returned after the pages of its request
  * were marked. If nothing else is left, rings have so many turns. */
@@ -919,6 +929,14 @@ void vmm_backend_run(vmm_backend *connection, const vmm_backend_end *ends, size_
                      uint8_t *output, size_t output_size, vmm_backend_counts *counts);
 
 void vmm_backend_state(vmm_backend *connection, vmm_vhost_negotiated *state);
+
+/* How many mappings were asked for, how many messages mapped or invalidated a range of the device's I/O table, and how
+ * many ranges that evicted. */
+typedef struct vmm_backend_table_counts {
+    uint64_t misses, updates, invalidations, evictions;
+} vmm_backend_table_counts;
+
+void vmm_backend_table(vmm_backend *connection, vmm_backend_table_counts *counts);
 
 /* Closes a connection, whose places are the caller's again. */
 void vmm_backend_close(vmm_backend *connection);

@@ -17,11 +17,17 @@
 //! # Ok::<(), vm_memory_proved::vhost_user::Refusal>(())
 //! ```
 
+mod room;
+
+pub use self::room::{Actions, Room};
 use crate::ffi::Device;
+use crate::log::Log;
+use crate::lost::Guard;
+use crate::machine::Permissions;
 use crate::mapping::Mapping;
+use crate::pieces::Vectors;
 use crate::shared::{check, SharedBlockError};
 use crate::vhost_user::{Offer, Refusal};
-use std::collections::TryReserveError;
 use std::fs::File;
 use std::os::fd::BorrowedFd;
 use std::os::unix::fs::MetadataExt;
@@ -40,6 +46,22 @@ pub struct Disk {
     pub read_only: u32,
     /// How many bytes of replies may wait for the front end. With more the connection ends.
     pub unread: u32,
+    /// How many ranges the device's I/O table keeps: with 0 ACCESS_PLATFORM is not offered.
+    pub table_limit: u32,
+}
+
+/// How often the device's I/O table was changed.
+#[repr(C)]
+#[derive(Clone, Copy, Debug, Default, PartialEq, Eq)]
+pub struct TableCounts {
+    /// How many mappings were asked for.
+    pub misses: u64,
+    /// How many messages mapped a range.
+    pub updates: u64,
+    /// How many invalidated one.
+    pub invalidations: u64,
+    /// How many ranges the table evicted for one that was mapped.
+    pub evictions: u64,
 }
 
 /// The end of a part of a request.
@@ -177,6 +199,18 @@ pub enum Action<'a> {
     End(Over),
     /// A ring was stopped: its descriptor of kicks is the front end's again.
     Stopped(u32),
+    /// The front end is sent a message on the back end's own channel, by [`miss`](crate::vhost_user::miss), whose reply
+    /// goes to [`BackEnd::answered`], or by [`access_fail`](crate::vhost_user::access_fail), which has none.
+    Ask {
+        /// The ring that needs the address.
+        ring: u32,
+        /// The I/O address.
+        iova: u64,
+        /// The access.
+        access: Permissions,
+        /// Whether a mapping forbids it.
+        is_forbidden: bool,
+    },
 }
 
 /// A region of guest memory that is to be mapped.
@@ -199,7 +233,7 @@ pub struct Region {
 pub enum State {
     /// One can.
     Free,
-    /// One is under way.
+    /// One is under way, or the next run has to be before one.
     Busy,
     /// The connection is over, and requests are under way.
     Over,
@@ -239,181 +273,6 @@ pub(crate) mod raw {
     pub(crate) const UNMAP_ALL: u32 = 2;
 }
 
-/// Room for the actions of a run.
-pub struct Room {
-    pub(crate) actions: Vec<raw::Action>,
-    pub(crate) pieces: Vec<Piece>,
-    pub(crate) output: Vec<u8>,
-    pub(crate) counts: raw::Counts,
-}
-
-impl Default for Room {
-    fn default() -> Room {
-        Room::new()
-    }
-}
-
-impl Room {
-    /// Room for 256 actions, 4,096 pieces and 4,096 bytes.
-    pub fn new() -> Room {
-        Room::with(256, 4096, 4096)
-    }
-
-    /// The same, or an error if an allocation fails.
-    pub fn try_new() -> Result<Room, TryReserveError> {
-        Room::try_with(256, 4096, 4096)
-    }
-
-    /// Room for at least 8 actions, 16 pieces and 280 bytes.
-    pub fn with(actions: usize, pieces: usize, bytes: usize) -> Room {
-        Room::try_with(actions, pieces, bytes).expect("there is memory")
-    }
-
-    fn try_with(actions: usize, pieces: usize, bytes: usize) -> Result<Room, TryReserveError> {
-        Ok(Room {
-            actions: filled(actions.max(8))?,
-            pieces: filled(pieces.max(16))?,
-            output: filled(bytes.max(280))?,
-            counts: raw::Counts::default(),
-        })
-    }
-
-    /// What the last run asks for, in order.
-    pub fn actions(&self) -> Actions<'_> {
-        Actions {
-            actions: &self.actions[..self.counts.actions],
-            pieces: &self.pieces[..self.counts.pieces],
-            bytes: &self.output[..self.counts.bytes],
-        }
-    }
-
-    /// How many of the ends were taken. The others go into the next run.
-    pub fn ends_taken(&self) -> usize {
-        self.counts.ends
-    }
-
-    /// Whether the next run is due as soon as these actions are done.
-    pub fn has_more(&self) -> bool {
-        self.counts.more != 0
-    }
-
-    /// What the last run left.
-    pub fn state(&self) -> State {
-        match self.counts.state {
-            0 => State::Free,
-            1 => State::Busy,
-            2 => State::Over,
-            _ => State::AtRest,
-        }
-    }
-}
-
-fn filled<T: Clone + Default>(count: usize) -> Result<Vec<T>, TryReserveError> {
-    let mut all = Vec::new();
-    all.try_reserve_exact(count)?;
-    all.resize(count, T::default());
-    Ok(all)
-}
-
-/// The actions of a run, one after another.
-#[derive(Clone, Debug)]
-pub struct Actions<'a> {
-    actions: &'a [raw::Action],
-    pieces: &'a [Piece],
-    bytes: &'a [u8],
-}
-
-impl<'a> Iterator for Actions<'a> {
-    type Item = Action<'a>;
-
-    #[inline]
-    fn next(&mut self) -> Option<Action<'a>> {
-        let (raw, rest) = self.actions.split_first()?;
-        self.actions = rest;
-        Some(self.action_of(raw))
-    }
-}
-
-impl<'a> Actions<'a> {
-    #[inline]
-    fn action_of(&mut self, raw: &raw::Action) -> Action<'a> {
-        match raw.kind {
-            1 => {
-                let (bytes, rest) = self.bytes.split_at(raw.len as usize);
-                self.bytes = rest;
-                Action::Send { bytes }
-            }
-            raw::UNMAP_ALL => Action::UnmapAll,
-            3 => Action::Map(Region {
-                number: raw.id,
-                offset: raw.place,
-                len: raw.len,
-                guest_address: raw.guest,
-                user_address: raw.user,
-            }),
-            4 => Action::Log {
-                offset: raw.place,
-                len: raw.len,
-            },
-            5 => Action::Keep {
-                what: kept_of(raw),
-                has_one: raw.count == 1,
-            },
-            6 => Action::Serve(self.part_of(raw)),
-            7 => Action::Interrupt(raw.ring),
-            8 => Action::Broke(raw.ring),
-            9 => Action::Mark {
-                first: raw.place,
-                count: raw.len,
-            },
-            10 => Action::End(over_of(raw)),
-            11 => Action::Stopped(raw.ring),
-            kind => unreachable!("the library has no action of the kind {kind}"),
-        }
-    }
-
-    fn part_of(&mut self, raw: &raw::Action) -> Part<'a> {
-        let (pieces, rest) = self.pieces.split_at(raw.count as usize);
-        self.pieces = rest;
-        Part {
-            ring: raw.ring,
-            id: raw.id,
-            way: match raw.way {
-                1 => Way::Read,
-                2 => Way::Write,
-                3 => Way::Flush,
-                _ => Way::Name,
-            },
-            place: raw.place,
-            len: raw.len,
-            pieces,
-            goes_on: raw.more == 1,
-            left: raw.left,
-        }
-    }
-}
-
-fn kept_of(raw: &raw::Action) -> Kept {
-    match raw.way {
-        1 => Kept::Kick(raw.ring),
-        2 => Kept::Call(raw.ring),
-        3 => Kept::Err(raw.ring),
-        4 => Kept::Channel,
-        _ => Kept::LogCall,
-    }
-}
-
-fn over_of(raw: &raw::Action) -> Over {
-    match raw.way {
-        1 => Over::Refused(Refusal::of(raw.id)),
-        2 => Over::Failed,
-        3 => Over::Memory,
-        4 => Over::Unread,
-        5 => Over::Log,
-        _ => Over::HungUp,
-    }
-}
-
 // A part of a file.
 #[derive(Clone, Copy, PartialEq, Eq)]
 struct FilePart {
@@ -431,15 +290,26 @@ impl FilePart {
     }
 }
 
+// A region that is mapped.
+struct Mapped {
+    part: FilePart,
+    // It goes before its mapping does, since fields are dropped in order.
+    guard: Guard,
+    mapping: Mapping,
+}
+
 /// A connection with a front end.
 ///
 /// It moves to another thread, and no two threads have it at once.
 pub struct BackEnd {
     // It is closed before the regions are unmapped, since fields are dropped in order.
     device: Device,
-    regions: Vec<(FilePart, Mapping)>,
+    regions: Vec<Mapped>,
     // Those that were unmapped by the message that is under way: a new table may have the same parts of files.
-    before: Vec<(FilePart, Mapping)>,
+    before: Vec<Mapped>,
+    pub(crate) log: Option<Log>,
+    pub(crate) vectors: Vectors,
+    pub(crate) lacks_memory: bool,
 }
 
 impl BackEnd {
@@ -451,6 +321,9 @@ impl BackEnd {
             device,
             regions: Vec::new(),
             before: Vec::new(),
+            log: None,
+            vectors: Vectors::default(),
+            lacks_memory: false,
         })
     }
 
@@ -476,17 +349,19 @@ impl BackEnd {
             offset: region.offset,
             len: region.len,
         };
-        if self.regions.iter().any(|(other, _)| other.shares(&part)) {
+        if self.regions.iter().any(|other| other.part.shares(&part)) {
             return Err(SharedBlockError::Shared);
         }
-        let mapping = match self.before.iter().position(|(other, _)| *other == part) {
-            Some(place) => self.before.swap_remove(place).1,
-            None => Mapping::of_file(len, file, region.offset).map_err(not_mapped)?,
+        let mapped = match self.before.iter().position(|other| other.part == part) {
+            Some(place) => self.before.swap_remove(place),
+            None => {
+                let mapping = Mapping::of_file(len, file, region.offset).map_err(not_mapped)?;
+                let guard = Guard::new(mapping.whole()).map_err(not_mapped)?;
+                Mapped { part, guard, mapping }
+            }
         };
-        self.regions.push((part, mapping));
-        let (_, mapping) = self.regions.last().expect("it was pushed");
-        if self.device.mapped(mapping) != 0 {
-            self.regions.pop();
+        if self.device.mapped(&mapped.mapping) == 0 {
+            self.regions.push(mapped);
         }
         Ok(())
     }
@@ -495,13 +370,17 @@ impl BackEnd {
     /// moment.
     #[inline]
     pub fn region(&self, number: u64) -> Option<(*mut u8, usize)> {
-        let (_, mapping) = self.regions.get(usize::try_from(number).ok()?)?;
+        let mapping = &self.regions.get(usize::try_from(number).ok()?)?.mapping;
         Some((mapping.bytes().as_ptr(), mapping.len()))
     }
 
-    /// Where the whole pages of each region begin, and how many bytes they are.
-    pub fn mappings(&self) -> impl Iterator<Item = (usize, usize)> + '_ {
-        self.regions.iter().map(|(_, mapping)| mapping.whole())
+    /// Whether memory of the front end went away: the log, or a region that is mapped. What was read of it since then
+    /// are zeros. [`survive_lost_memory`](crate::survive_lost_memory) has to be called before, or an access of the
+    /// library ends the process.
+    #[inline]
+    pub fn is_lost(&self) -> bool {
+        let is_lost = |it: &Mapped| it.guard.is_lost();
+        self.lacks_memory || self.regions.iter().any(is_lost) || self.log.as_ref().is_some_and(Log::is_lost)
     }
 
     /// What the last action asked for was done, except for a mapping of a region.
@@ -512,6 +391,16 @@ impl BackEnd {
     /// What the last action asked for failed: the connection ends.
     pub fn failed(&mut self) {
         self.device.failed();
+    }
+
+    /// Takes a whole reply that came on the back end's own channel. If none was due, the connection ends.
+    pub fn answered(&mut self, message: &[u8]) -> bool {
+        self.device.answered(message) == 0
+    }
+
+    /// The back end's own channel is lost: no reply comes any more.
+    pub fn channel_lost(&mut self) {
+        self.device.channel_lost();
     }
 
     /// The driver of a ring notified.
@@ -542,6 +431,11 @@ impl BackEnd {
     /// The features of the protocol that the front end accepted.
     pub fn protocol_features(&self) -> u64 {
         self.device.state().protocol_features
+    }
+
+    /// How often the device's I/O table was changed.
+    pub fn table(&self) -> TableCounts {
+        self.device.table()
     }
 
     /// Takes the ends of parts, and puts what is to be done into the room, as far as it goes. Rings have so many turns.

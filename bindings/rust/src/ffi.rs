@@ -1,14 +1,12 @@
-//! The calls of the static library and of the system. All `unsafe` of this crate lies here, in the allocator and where
-//! memory is mapped.
+//! The calls of the static library.
 
 use crate::back_end::raw::{Action as RawAction, Counts};
-use crate::back_end::{Disk, PartEnd, Piece, Room};
+use crate::back_end::{Disk, PartEnd, Piece, Room, TableCounts};
 use crate::mapping::Mapping;
 use crate::raw::{code, Answer, Call, Miss};
 use crate::vhost_user::raw::{Negotiated, Request, Vring};
 use crate::vhost_user::{LogPages, Offer, Region, Wanted};
 use std::cell::{Cell, RefCell};
-use std::ffi::{c_char, c_int, c_long, c_uint};
 use std::ptr::{null_mut, NonNull};
 
 // The handle of a session or a connection: where it lies.
@@ -116,6 +114,10 @@ unsafe extern "C" {
 
     fn vmm_backend_failed(back_end: *mut Handle);
 
+    fn vmm_backend_answered(back_end: *mut Handle, message: *const u8, message_size: usize) -> u32;
+
+    fn vmm_backend_channel_lost(back_end: *mut Handle);
+
     fn vmm_backend_kick(back_end: *mut Handle, ring: u32);
 
     fn vmm_backend_sent(back_end: *mut Handle, bytes: usize);
@@ -140,6 +142,8 @@ unsafe extern "C" {
 
     fn vmm_backend_state(back_end: *mut Handle, state: *mut Negotiated);
 
+    fn vmm_backend_table(back_end: *mut Handle, counts: *mut TableCounts);
+
     fn vmm_backend_close(back_end: *mut Handle);
 }
 
@@ -150,43 +154,6 @@ unsafe extern "C" {
     pub(crate) fn realloc(at: *mut u8, size: usize) -> *mut u8;
 
     pub(crate) fn free(at: *mut u8);
-
-    pub(crate) fn mmap(at: *mut u8, size: usize, access: c_int, flags: c_int, fd: c_int, offset: i64) -> *mut u8;
-
-    pub(crate) fn munmap(at: *mut u8, size: usize) -> c_int;
-
-    pub(crate) fn fstatfs(fd: c_int, about: *mut system::FileSystem) -> c_int;
-
-    pub(crate) fn memfd_create(name: *const c_char, flags: c_uint) -> c_int;
-
-    pub(crate) fn fcntl(fd: c_int, command: c_int, ...) -> c_int;
-
-    pub(crate) fn sysconf(name: c_int) -> c_long;
-}
-
-/// The numbers of the calls of the system.
-pub(crate) mod system {
-    use std::ffi::{c_int, c_uint};
-
-    pub(crate) const PROT_READ: c_int = 1;
-    pub(crate) const PROT_WRITE: c_int = 2;
-    pub(crate) const MAP_SHARED: c_int = 1;
-    pub(crate) const MAP_PRIVATE: c_int = 2;
-    pub(crate) const MAP_ANONYMOUS: c_int = 0x20;
-    pub(crate) const MFD_CLOEXEC: c_uint = 1;
-    pub(crate) const MFD_ALLOW_SEALING: c_uint = 2;
-    pub(crate) const F_ADD_SEALS: c_int = 1033;
-    pub(crate) const F_SEAL_SHRINK: c_int = 2;
-    pub(crate) const SC_PAGESIZE: c_int = 30;
-    pub(crate) const HUGETLBFS: i64 = 0x9584_58f6;
-
-    /// What the system says of a file system.
-    #[repr(C)]
-    pub(crate) struct FileSystem {
-        pub(crate) kind: i64,
-        pub(crate) block_size: i64,
-        rest: [u64; 13],
-    }
 }
 
 /// An open session. It is closed when it is dropped.
@@ -493,6 +460,16 @@ impl Device {
         unsafe { vmm_backend_failed(self.handle.as_ptr()) }
     }
 
+    pub(crate) fn answered(&mut self, message: &[u8]) -> u32 {
+        // SAFETY: see `Device`.
+        unsafe { vmm_backend_answered(self.handle.as_ptr(), message.as_ptr(), message.len()) }
+    }
+
+    pub(crate) fn channel_lost(&mut self) {
+        // SAFETY: see `Device`.
+        unsafe { vmm_backend_channel_lost(self.handle.as_ptr()) }
+    }
+
     pub(crate) fn kick(&mut self, ring: u32) {
         // SAFETY: see `Device`.
         unsafe { vmm_backend_kick(self.handle.as_ptr(), ring) }
@@ -518,6 +495,13 @@ impl Device {
         // SAFETY: see `Device`.
         unsafe { vmm_backend_state(self.handle.as_ptr(), &mut state) };
         state
+    }
+
+    pub(crate) fn table(&self) -> TableCounts {
+        let mut counts = TableCounts::default();
+        // SAFETY: see `Device`.
+        unsafe { vmm_backend_table(self.handle.as_ptr(), &mut counts) };
+        counts
     }
 
     #[inline]

@@ -24,28 +24,48 @@
 
 pub mod back_end;
 pub mod block;
+pub mod block_device;
+pub mod connection;
+mod descriptor;
 mod error;
 #[allow(unsafe_code)]
 mod ffi;
 #[allow(unsafe_code)]
 mod heap;
+mod in_order;
+#[allow(unsafe_code)]
+mod incoming;
 pub mod iotlb;
+#[allow(unsafe_code)]
+mod log;
+#[allow(unsafe_code)]
+mod lost;
 mod machine;
 #[allow(unsafe_code)]
 mod mapping;
 mod memory;
+#[allow(unsafe_code)]
+mod notify;
 mod number;
+#[allow(unsafe_code)]
+mod pieces;
 pub mod queue;
 pub mod raw;
 pub mod script;
 mod shared;
+mod stats;
 mod stream;
+#[allow(unsafe_code)]
+mod system;
 mod value;
 pub mod vhost_user;
 
 pub use error::{GuestMemoryError, GuestRegionCollectionError, IommuError, MachineError, Reason};
+pub use lost::survive_lost_memory;
 pub use machine::{IotlbFails, IovaRange, Machine, MappedRange, Miss, Permissions};
 pub use memory::{GuestAddress, GuestMemory};
+pub use notify::Watchdog;
 pub use number::{BlockId, LayoutId, MemoryId, QueueId, RegionId, SpaceId, TableId, TranslatorId};
+pub use pieces::Pieces;
 pub use shared::{memfd, SharedBlock, SharedBlockError, SharedMemory};
 pub use value::{AtomicAccess, ByteValued};

@@ -1,6 +1,6 @@
 //! Mappings of files and of private memory, of whole pages.
 
-use crate::ffi::{self, system};
+use crate::system;
 use std::ffi::c_int;
 use std::fs::File;
 use std::io;
@@ -11,7 +11,7 @@ use std::ptr::{null_mut, NonNull};
 /// How many bytes a page of the system has.
 pub(crate) fn system_page() -> usize {
     // SAFETY: the declaration fits the function, which any number may be given.
-    let size = unsafe { ffi::sysconf(system::SC_PAGESIZE) };
+    let size = unsafe { system::sysconf(system::SC_PAGESIZE) };
     usize::try_from(size).unwrap_or(4096)
 }
 
@@ -19,7 +19,7 @@ pub(crate) fn system_page() -> usize {
 fn page_of(file: BorrowedFd<'_>) -> io::Result<u64> {
     let mut about = MaybeUninit::<system::FileSystem>::uninit();
     // SAFETY: the declaration fits the function, which writes one such record there.
-    if unsafe { ffi::fstatfs(file.as_raw_fd(), about.as_mut_ptr()) } != 0 {
+    if unsafe { system::fstatfs(file.as_raw_fd(), about.as_mut_ptr()) } != 0 {
         return Err(io::Error::last_os_error());
     }
     // SAFETY: the system has written it.
@@ -33,7 +33,7 @@ fn page_of(file: BorrowedFd<'_>) -> io::Result<u64> {
 /// A file in memory, all zero. It cannot shrink.
 pub(crate) fn memfd(size: u64) -> io::Result<OwnedFd> {
     // SAFETY: the declaration fits the function, and the name is a text that ends with 0.
-    let fd = unsafe { ffi::memfd_create(c"vm_memory".as_ptr(), system::MFD_CLOEXEC | system::MFD_ALLOW_SEALING) };
+    let fd = unsafe { system::memfd_create(c"vm_memory".as_ptr(), system::MFD_CLOEXEC | system::MFD_ALLOW_SEALING) };
     if fd < 0 {
         return Err(io::Error::last_os_error());
     }
@@ -41,7 +41,7 @@ pub(crate) fn memfd(size: u64) -> io::Result<OwnedFd> {
     let file = File::from(unsafe { OwnedFd::from_raw_fd(fd) });
     file.set_len(size)?;
     // SAFETY: the declaration fits the function, and this command takes a number.
-    if unsafe { ffi::fcntl(fd, system::F_ADD_SEALS, system::F_SEAL_SHRINK) } != 0 {
+    if unsafe { system::fcntl(fd, system::F_ADD_SEALS, system::F_SEAL_SHRINK) } != 0 {
         return Err(io::Error::last_os_error());
     }
     Ok(file.into())
@@ -63,7 +63,7 @@ impl Mapping {
     fn new(mapped: usize, flags: c_int, fd: c_int, offset: i64) -> io::Result<Mapping> {
         let access = system::PROT_READ | system::PROT_WRITE;
         // SAFETY: the declaration fits the function. Without `MAP_FIXED` the system takes addresses that nothing has.
-        let at = unsafe { ffi::mmap(null_mut(), mapped, access, flags, fd, offset) };
+        let at = unsafe { system::mmap(null_mut(), mapped, access, flags, fd, offset) };
         match NonNull::new(at) {
             Some(at) if at.as_ptr() as isize != -1 => Ok(Mapping {
                 at,
@@ -116,6 +116,6 @@ impl Mapping {
 impl Drop for Mapping {
     fn drop(&mut self) {
         // SAFETY: the declaration fits the function, and nothing has the bytes of this mapping any more.
-        unsafe { ffi::munmap(self.at.as_ptr(), self.mapped) };
+        unsafe { system::munmap(self.at.as_ptr(), self.mapped) };
     }
 }

@@ -2,65 +2,49 @@
 //!
 //! docs/VHOST_USER_BLK.md of the repository describes it. What a message, a ring or a request means is decided by the
 //! proved library. The rest moves bytes and descriptors.
-#![deny(unsafe_op_in_unsafe_fn)]
+#![deny(unsafe_code, unsafe_op_in_unsafe_fn)]
 
-mod channel;
-mod descriptor;
 mod device;
 mod disk;
-mod end;
-mod features;
-mod incoming;
-mod iommu;
-mod log;
 mod options;
 mod output;
-mod parts;
-mod signal;
-mod stats;
 #[allow(unsafe_code)]
 mod system;
 
-use device::{Device, ENDING, HANGUPS, SOCKET};
-use disk::{Disk, Hangups};
-use end::End;
-use iommu::Connection;
-use options::{Asked, Options, Source, CAPABILITIES, USAGE, VERSION};
-use signal::Watchdog;
+use device::{SIGNALS, SOCKET};
+use disk::Disk;
+use options::{Asked, Options, Source, USAGE};
+use std::cell::Cell;
 use std::error::Error;
-use std::fs;
-use std::io::{self, ErrorKind::ConnectionAborted, ErrorKind::Interrupted, ErrorKind::WouldBlock};
-use std::os::fd::RawFd;
+use std::fs::{self, File};
+use std::io::{self, ErrorKind::ConnectionAborted, ErrorKind::Interrupted, ErrorKind::WouldBlock, Read, Write};
+use std::mem;
+use std::os::fd::{AsFd, RawFd};
 use std::os::unix::fs::FileTypeExt;
 use std::os::unix::net::{UnixListener, UnixStream};
-use std::path::Path;
+use std::path::{Path, PathBuf};
 use std::process::ExitCode;
 use std::time::Duration;
-use system::{Epoll, Watch};
+use system::{Epoll, LEVEL};
+use vm_memory_proved::connection::Ended;
+use vm_memory_proved::Watchdog;
 
 // How long the program waits if the system has no room for another front end.
 const PAUSE: Duration = Duration::from_millis(100);
 
-/// Says a line on the standard output.
-#[macro_export]
-macro_rules! say {
-    ($($words:tt)*) => {
-        $crate::output::say(format_args!($($words)*))
-    };
-}
-
 fn main() -> ExitCode {
-    let options = match Asked::parse(std::env::args_os().skip(1)) {
-        Ok(Asked::Disk(options)) => options,
-        Ok(Asked::Help) => return print(USAGE),
-        Ok(Asked::Version) => return print(VERSION),
-        Ok(Asked::Capabilities) => return print(CAPABILITIES),
+    let done = match Asked::parse(std::env::args_os().skip(1)) {
+        Ok(Asked::Disk(options)) => run(options),
+        Ok(Asked::Text(text)) => {
+            // Whoever listened may have gone.
+            let _ = writeln!(io::stdout(), "{text}");
+            Ok(())
+        }
         Err(wrong) => {
             eprintln!("vhost-user-blk: {wrong}\n\n{USAGE}");
             return ExitCode::from(2);
         }
     };
-    let done = run(&options);
     output::finish();
     match done {
         Ok(()) => ExitCode::SUCCESS,
@@ -71,65 +55,53 @@ fn main() -> ExitCode {
     }
 }
 
-fn print(text: &str) -> ExitCode {
-    use io::Write;
-    // Whoever listened may have gone.
-    let _ = writeln!(io::stdout(), "{text}");
-    ExitCode::SUCCESS
-}
-
-// What front ends are served with.
-struct Program<'a> {
-    epoll: Epoll,
+/// What front ends are served with.
+struct Program {
+    options: Options,
     disk: Disk,
-    hangups: Hangups,
+    signals: File,
+    // What is watched while no front end is served.
+    epoll: Epoll,
     watchdog: Watchdog,
-    options: &'a Options,
+    // It was asked to end.
+    is_ending: Cell<bool>,
 }
 
-fn run(options: &Options) -> Result<(), Box<dyn Error>> {
-    // Nothing was opened yet that could have this number.
-    let inherited = match &options.source {
-        Source::Path(_) => None,
-        Source::Descriptor(number) => Some(inherit(*number).map_err(|error| format!("--fd {number}: {error}"))?),
+// Where front ends come from.
+enum Fronts {
+    // They connect to a socket that is made here.
+    Path(PathBuf),
+    Listener(UnixListener),
+    // It is one, which is there.
+    Connected(UnixStream),
+}
+
+fn run(options: Options) -> Result<(), Box<dyn Error>> {
+    let fronts = match &options.source {
+        Source::Path(path) => Fronts::Path(path.clone()),
+        // Nothing was opened yet that could have this number.
+        Source::Descriptor(number) => inherit(*number).map_err(|error| format!("--fd {number}: {error}"))?,
     };
-    let disk = Disk::open(&options.image, options.read_only, options.is_locked);
-    let disk = disk.map_err(|error| named(&options.image, error))?;
-    let epoll = Epoll::new()?;
-    let _ending = epoll.watch(system::termination()?, ENDING, Watch::Level)?;
-    let hangups = Hangups::new(&epoll, HANGUPS)?;
-    system::survive_lost_memory()?;
-    system::survive_limits()?;
-    // Threads that begin now leave the signals to this one.
-    output::start()?;
-    let watchdog = Watchdog::start()?;
-    let program = Program {
-        epoll,
-        disk,
-        hangups,
-        watchdog,
-        options,
-    };
-    match (&options.source, inherited) {
-        (Source::Path(path), _) => {
-            let listener = listen(path).map_err(|error| named(path, error))?;
-            program.say_start(format_args!("listening on {}", path.display()));
+    let program = Program::new(options)?;
+    match fronts {
+        Fronts::Path(path) => {
+            let listener = listen(&path).map_err(|error| named(&path, error))?;
+            program.say_start("listening on");
             let served = program.serve_each(&listener);
-            fs::remove_file(path).map_err(|error| named(path, error))?;
+            fs::remove_file(&path).map_err(|error| named(&path, error))?;
             served
         }
-        (Source::Descriptor(number), Some(Inherited::Listener(listener))) => {
-            program.say_start(format_args!("listening on descriptor {number}"));
+        Fronts::Listener(listener) => {
+            program.say_start("listening on");
             program.serve_each(&listener)
         }
-        (Source::Descriptor(number), Some(Inherited::Connected(socket))) => {
-            program.say_start(format_args!("connected by descriptor {number}"));
-            match program.serve(&socket) {
-                End::Gone | End::Terminated => Ok(()),
-                end => Err(end.to_string().into()),
+        Fronts::Connected(socket) => {
+            program.say_start("connected by");
+            match program.serve(socket) {
+                Ended::Gone | Ended::HungUp => Ok(()),
+                ended => Err(ended.into()),
             }
         }
-        (Source::Descriptor(_), None) => unreachable!("it was taken"),
     }
 }
 
@@ -138,12 +110,7 @@ fn named(path: &Path, error: io::Error) -> String {
 }
 
 // A socket that the program was started with.
-enum Inherited {
-    Listener(UnixListener),
-    Connected(UnixStream),
-}
-
-fn inherit(number: RawFd) -> io::Result<Inherited> {
+fn inherit(number: RawFd) -> io::Result<Fronts> {
     let socket = system::inherited(number)?;
     if system::socket_option(&socket, libc::SO_TYPE)? != libc::SOCK_STREAM {
         return Err(io::Error::other("it is no stream socket"));
@@ -153,97 +120,94 @@ fn inherit(number: RawFd) -> io::Result<Inherited> {
         // It is a Unix socket.
         listener.local_addr()?;
         listener.set_nonblocking(true)?;
-        return Ok(Inherited::Listener(listener));
+        return Ok(Fronts::Listener(listener));
     }
     let socket = UnixStream::from(socket);
     socket.peer_addr()?;
-    Ok(Inherited::Connected(socket))
+    Ok(Fronts::Connected(socket))
 }
 
-impl Program<'_> {
-    fn say_start(&self, way: std::fmt::Arguments<'_>) {
-        say!(
-            "{}: {} sectors, {way}",
-            self.options.image.display(),
-            self.disk.sectors()
-        );
+impl Program {
+    fn new(options: Options) -> Result<Program, Box<dyn Error>> {
+        let disk = Disk::open(&options.image, options.read_only, options.is_locked);
+        let disk = disk.map_err(|error| named(&options.image, error))?;
+        let (signals, epoll) = (system::signals()?, Epoll::new()?);
+        epoll.watch(signals.as_fd(), SIGNALS, LEVEL)?;
+        vm_memory_proved::survive_lost_memory()?;
+        // Threads that begin now leave the signals to this one.
+        output::start()?;
+        Ok(Program {
+            options,
+            disk,
+            signals,
+            epoll,
+            watchdog: Watchdog::start()?,
+            is_ending: Cell::new(false),
+        })
     }
 
-    // Serves one front end after another, until the program is to end.
+    fn say_start(&self, way: &str) {
+        let (image, sectors) = (self.options.image.display(), self.disk.sectors.get());
+        say!("{image}: {sectors} sectors, {way} {}", self.options.source);
+    }
+
+    /// Takes the signals that came, and returns whether the image has another size.
+    fn take_signals(&self) -> bool {
+        let (mut about, mut is_hangup) = ([0; 128], false);
+        while (&self.signals).read(&mut about).is_ok() {
+            match i32::from_ne_bytes(*about.first_chunk().expect("it has 4 bytes")) {
+                libc::SIGHUP => is_hangup = true,
+                libc::SIGTERM | libc::SIGINT => self.is_ending.set(true),
+                // A write failed.
+                _ => (),
+            }
+        }
+        is_hangup && self.disk.measure()
+    }
+
+    // Serves one front end after another, until the program is to end. If the system has no room for one, it waits.
     fn serve_each(&self, listener: &UnixListener) -> Result<(), Box<dyn Error>> {
-        while let Some(socket) = self.accept(listener)? {
-            if matches!(self.serve(&socket), End::Terminated) {
-                break;
+        let (mut ready, mut is_said) = (Vec::new(), false);
+        while !self.is_ending.get() {
+            match self.accept(listener, &mut ready) {
+                Ok(socket) => {
+                    is_said = false;
+                    self.serve(socket);
+                }
+                Err(error) if has_no_room(&error) => {
+                    if !mem::replace(&mut is_said, true) {
+                        say!("no front end can connect now: {error}");
+                    }
+                    // Signals alone are watched meanwhile.
+                    self.epoll.wait(Some(PAUSE), &mut ready)?;
+                    self.take_signals();
+                }
+                // The front end has gone already, or a signal came.
+                Err(error) if matches!(error.kind(), ConnectionAborted | WouldBlock | Interrupted) => (),
+                Err(error) => return Err(error.into()),
             }
         }
         Ok(())
     }
 
+    fn accept(&self, listener: &UnixListener, ready: &mut Vec<u64>) -> io::Result<UnixStream> {
+        self.epoll.watch(listener.as_fd(), SOCKET, LEVEL)?;
+        let waited = self.epoll.wait(None, ready);
+        self.epoll.unwatch(listener.as_fd());
+        waited?;
+        if ready.contains(&SIGNALS) {
+            self.take_signals();
+            return Err(Interrupted.into());
+        }
+        listener.accept().map(|(socket, _)| socket)
+    }
+
     // Serves a front end until its connection ends. What fails for it ends only that.
-    fn serve(&self, socket: &UnixStream) -> End {
+    fn serve(&self, socket: UnixStream) -> Ended {
         say!("a front end connected");
-        let end = match self.epoll.watch(socket, SOCKET, Watch::Level) {
-            Ok(_watched) => self
-                .serve_watched(socket)
-                .unwrap_or_else(|error| End::Failed("setting it up", error)),
-            Err(error) => End::Failed("setting it up", error.into()),
-        };
-        say!("the connection ended: {end}");
-        end
-    }
-
-    fn serve_watched(&self, socket: &UnixStream) -> Result<End, Box<dyn Error>> {
-        let Program {
-            epoll,
-            disk,
-            hangups,
-            watchdog,
-            options,
-        } = self;
-        Ok(match options.iommu {
-            false => Device::new(socket, epoll, disk, hangups, options, watchdog)?.run(),
-            true => Connection::new(socket, epoll, disk, hangups, options, watchdog)?.run(),
-        })
-    }
-
-    // Whether the program is to end. If not, the image may have another size.
-    fn is_ending(&self, ready: &[u64]) -> bool {
-        if ready.contains(&HANGUPS) {
-            self.hangups.measure(&self.disk);
-        }
-        ready.contains(&ENDING)
-    }
-
-    // The next front end, or `None` if the program is to end. If the system has no room for it, it waits.
-    fn accept(&self, listener: &UnixListener) -> io::Result<Option<UnixStream>> {
-        let (mut ready, mut is_said) = (Vec::new(), false);
-        loop {
-            match self.try_accept(listener, &mut ready) {
-                Err(error) if has_no_room(&error) => {
-                    if !is_said {
-                        say!("no front end can connect now: {error}");
-                    }
-                    is_said = true;
-                    // Only the end is watched meanwhile.
-                    self.epoll.wait(Some(PAUSE), &mut ready)?;
-                    if self.is_ending(&ready) {
-                        return Ok(None);
-                    }
-                }
-                // The front end has gone already, or a signal came.
-                Err(error) if matches!(error.kind(), ConnectionAborted | WouldBlock | Interrupted) => (),
-                accepted => return accepted,
-            }
-        }
-    }
-
-    fn try_accept(&self, listener: &UnixListener, ready: &mut Vec<u64>) -> io::Result<Option<UnixStream>> {
-        let _watched = self.epoll.watch(listener, SOCKET, Watch::Level)?;
-        self.epoll.wait(None, ready)?;
-        if self.is_ending(ready) {
-            return Ok(None);
-        }
-        listener.accept().map(|(socket, _)| Some(socket))
+        let ended = device::serve(self, socket).unwrap_or_else(Ended::failed("setting it up"));
+        say!("the connection ended: {ended}");
+        ended
     }
 }
 

@@ -1,6 +1,10 @@
 //! The words of the command line.
 
+use std::borrow::Cow;
+use std::collections::HashMap;
 use std::ffi::{OsStr, OsString};
+use std::fmt;
+use std::ops::RangeInclusive;
 use std::os::fd::RawFd;
 use std::os::unix::ffi::OsStrExt;
 use std::path::PathBuf;
@@ -31,18 +35,15 @@ has then. A value may also follow a =, as in --fd=3.
                     prints, as JSON, what a manager of QEMU asks of a back end
   --version         prints the version";
 
-/// The version of this program.
-pub const VERSION: &str = concat!("vhost-user-blk ", env!("CARGO_PKG_VERSION"));
+const VERSION: &str = concat!("vhost-user-blk ", env!("CARGO_PKG_VERSION"));
 
-/// What the program can do, as QEMU's docs/interop/vhost-user.json has it.
-pub const CAPABILITIES: &str = r#"{"type": "block", "features": ["read-only", "blk-file"]}"#;
+// What the program can do, as QEMU's docs/interop/vhost-user.json has it.
+const CAPABILITIES: &str = r#"{"type": "block", "features": ["read-only", "blk-file"]}"#;
 
 /// What the program is asked for.
 #[derive(Debug, PartialEq, Eq)]
 pub enum Asked {
-    Help,
-    Version,
-    Capabilities,
+    Text(&'static str),
     Disk(Options),
 }
 
@@ -55,6 +56,15 @@ pub enum Source {
     Descriptor(RawFd),
 }
 
+impl fmt::Display for Source {
+    fn fmt(&self, f: &mut fmt::Formatter<'_>) -> fmt::Result {
+        match self {
+            Source::Path(path) => path.display().fmt(f),
+            Source::Descriptor(number) => write!(f, "descriptor {number}"),
+        }
+    }
+}
+
 /// How a disk is served.
 #[derive(Debug, PartialEq, Eq)]
 pub struct Options {
@@ -63,13 +73,27 @@ pub struct Options {
     pub read_only: bool,
     pub write_through: bool,
     pub queues: u32,
-    /// The guest may have an IOMMU.
-    pub iommu: bool,
-    /// How many ranges the I/O table keeps.
-    pub iotlb_limit: usize,
+    /// How many ranges the I/O table keeps, if the guest may have an IOMMU.
+    pub iotlb_limit: Option<u32>,
     pub stats: Option<Duration>,
     pub is_locked: bool,
 }
+
+// The options, those of the same meaning by its first name, and whether they have a value.
+const NAMES: [(&str, &str, bool); 12] = [
+    ("--socket", "--socket", true),
+    ("--socket-path", "--socket", true),
+    ("--fd", "--fd", true),
+    ("--image", "--image", true),
+    ("--blk-file", "--image", true),
+    ("--read-only", "--read-only", false),
+    ("--write-through", "--write-through", false),
+    ("--queues", "--queues", true),
+    ("--iommu", "--iommu", false),
+    ("--iotlb-limit", "--iotlb-limit", true),
+    ("--stats", "--stats", true),
+    ("--no-lock", "--no-lock", false),
+];
 
 impl Asked {
     /// Reads the words after the program's name. An error says what is wrong.
@@ -77,118 +101,88 @@ impl Asked {
         let words: Vec<_> = words.collect();
         // With this word all others are ignored.
         if words.iter().any(|word| word == "--print-capabilities") {
-            return Ok(Asked::Capabilities);
+            return Ok(Asked::Text(CAPABILITIES));
         }
-        let (mut read, mut words) = (Read::default(), words.into_iter());
+        let (mut read, mut words) = (HashMap::new(), words.into_iter());
         while let Some(word) = words.next() {
             let (name, given) = split(&word);
-            match name.as_str() {
-                "--help" | "-h" => return Ok(Asked::Help),
-                "--version" => return Ok(Asked::Version),
-                _ if read.take_flag(&name) => match given {
-                    None => (),
-                    Some(_) => return Err(format!("{name} takes no value")),
-                },
-                _ => read.take_value(&name, || given.or_else(|| words.next()))?,
+            match name.as_ref() {
+                "--help" | "-h" => return Ok(Asked::Text(USAGE)),
+                "--version" => return Ok(Asked::Text(VERSION)),
+                _ => (),
+            }
+            let known = NAMES.iter().find(|known| known.0 == name);
+            let &(_, key, has_value) = known.ok_or_else(|| format!("{name} is no option"))?;
+            if given.is_some() && !has_value {
+                return Err(format!("{name} takes no value"));
+            }
+            let value = if has_value {
+                given.or_else(|| words.next())
+            } else {
+                Some(OsString::new())
+            };
+            let value = value.ok_or_else(|| format!("{name} has no value"))?;
+            if read.insert(key, value).is_some() && has_value {
+                return Err(format!("{name} comes twice"));
             }
         }
-        read.options().map(Asked::Disk)
+        options_of(read).map(Asked::Disk)
     }
 }
 
 // A word as --name=value, or as it is.
-fn split(word: &OsStr) -> (String, Option<OsString>) {
+fn split(word: &OsStr) -> (Cow<'_, str>, Option<OsString>) {
     let bytes = word.as_bytes();
     let place = bytes.iter().position(|byte| *byte == b'=');
-    let (name, value) = match place.filter(|_| bytes.starts_with(b"--")) {
-        Some(place) => (&bytes[..place], Some(&bytes[place + 1..])),
-        None => (bytes, None),
+    match place.filter(|_| bytes.starts_with(b"--")) {
+        Some(place) => {
+            let value = OsStr::from_bytes(&bytes[place + 1..]).to_owned();
+            (String::from_utf8_lossy(&bytes[..place]), Some(value))
+        }
+        None => (word.to_string_lossy(), None),
+    }
+}
+
+fn options_of(mut read: HashMap<&str, OsString>) -> Result<Options, String> {
+    let number = |name, range| number(name, read.get(name), range);
+    let (fd, queues) = (number("--fd", 3..=i32::MAX as u32)?, number("--queues", 1..=256)?);
+    let (limit, stats) = (number("--iotlb-limit", 8..=65_536)?, number("--stats", 1..=86_400)?);
+    let source = match (read.remove("--socket"), fd) {
+        (Some(path), None) => Source::Path(path.into()),
+        (None, Some(number)) => Source::Descriptor(number as RawFd),
+        (None, None) => return Err("--socket is missing".into()),
+        (Some(_), Some(_)) => return Err("--fd takes the place of --socket".into()),
     };
-    let value = value.map(|value| OsStr::from_bytes(value).to_owned());
-    (String::from_utf8_lossy(name).into_owned(), value)
+    let image = read.remove("--image").ok_or("--image is missing")?.into();
+    let iommu = read.contains_key("--iommu");
+    if limit.is_some() && !iommu {
+        return Err("--iotlb-limit needs --iommu".into());
+    }
+    Ok(Options {
+        source,
+        image,
+        read_only: read.contains_key("--read-only"),
+        write_through: read.contains_key("--write-through"),
+        queues: queues.unwrap_or(1),
+        iotlb_limit: iommu.then_some(limit.unwrap_or(65_536)),
+        stats: stats.map(|seconds| Duration::from_secs(seconds.into())),
+        is_locked: !read.contains_key("--no-lock"),
+    })
 }
 
-// What was read so far.
-#[derive(Default)]
-struct Read {
-    socket: Option<PathBuf>,
-    fd: Option<u32>,
-    image: Option<PathBuf>,
-    queues: Option<u32>,
-    iotlb_limit: Option<u32>,
-    stats: Option<u32>,
-    read_only: bool,
-    write_through: bool,
-    iommu: bool,
-    no_lock: bool,
-}
-
-impl Read {
-    // Takes an option without a value, if it is one.
-    fn take_flag(&mut self, name: &str) -> bool {
-        let flag = match name {
-            "--read-only" => &mut self.read_only,
-            "--write-through" => &mut self.write_through,
-            "--iommu" => &mut self.iommu,
-            "--no-lock" => &mut self.no_lock,
-            _ => return false,
-        };
-        *flag = true;
-        true
-    }
-
-    fn take_value(&mut self, name: &str, value: impl FnOnce() -> Option<OsString>) -> Result<(), String> {
-        let value = || value().ok_or(format!("{name} has no value"));
-        match name {
-            "--socket" | "--socket-path" => set(&mut self.socket, name, value()?.into()),
-            "--image" | "--blk-file" => set(&mut self.image, name, value()?.into()),
-            "--fd" => set(&mut self.fd, name, number(name, &value()?, 3..=i32::MAX as u32)?),
-            "--queues" => set(&mut self.queues, name, number(name, &value()?, 1..=256)?),
-            "--iotlb-limit" => set(&mut self.iotlb_limit, name, number(name, &value()?, 8..=65_536)?),
-            "--stats" => set(&mut self.stats, name, number(name, &value()?, 1..=86_400)?),
-            _ => Err(format!("{name} is no option")),
-        }
-    }
-
-    fn options(self) -> Result<Options, String> {
-        let source = match (self.socket, self.fd) {
-            (Some(path), None) => Source::Path(path),
-            (None, Some(number)) => Source::Descriptor(number as RawFd),
-            (None, None) => return Err("--socket is missing".into()),
-            (Some(_), Some(_)) => return Err("--fd takes the place of --socket".into()),
-        };
-        if self.iotlb_limit.is_some() && !self.iommu {
-            return Err("--iotlb-limit needs --iommu".into());
-        }
-        Ok(Options {
-            source,
-            image: self.image.ok_or("--image is missing")?,
-            read_only: self.read_only,
-            write_through: self.write_through,
-            queues: self.queues.unwrap_or(1),
-            iommu: self.iommu,
-            iotlb_limit: self.iotlb_limit.unwrap_or(65_536) as usize,
-            stats: self.stats.map(|seconds| Duration::from_secs(seconds.into())),
-            is_locked: !self.no_lock,
-        })
-    }
-}
-
-fn set<T>(place: &mut Option<T>, word: &str, value: T) -> Result<(), String> {
-    match place.replace(value) {
-        None => Ok(()),
-        Some(_) => Err(format!("{word} comes twice")),
-    }
-}
-
-fn number(word: &str, value: &OsString, range: std::ops::RangeInclusive<u32>) -> Result<u32, String> {
+fn number(word: &str, value: Option<&OsString>, range: RangeInclusive<u32>) -> Result<Option<u32>, String> {
+    let Some(value) = value else {
+        return Ok(None);
+    };
     let number = value.to_str().and_then(|value| value.parse().ok());
-    number.filter(|it| range.contains(it)).ok_or(format!(
-        "{word} takes a number from {} to {}, not {}",
-        range.start(),
-        range.end(),
-        value.to_string_lossy()
-    ))
+    let number = number.filter(|it| range.contains(it)).ok_or_else(|| {
+        let (first, last) = (range.start(), range.end());
+        format!(
+            "{word} takes a number from {first} to {last}, not {}",
+            value.to_string_lossy()
+        )
+    });
+    number.map(Some)
 }
 
 #[cfg(test)]
@@ -215,8 +209,7 @@ mod tests {
             read_only: false,
             write_through: false,
             queues: 1,
-            iommu: false,
-            iotlb_limit: 65_536,
+            iotlb_limit: None,
             stats: None,
             is_locked: true,
         };
@@ -227,16 +220,15 @@ mod tests {
             read_only: true,
             queues: 256,
             stats: Some(Duration::from_secs(5)),
-            iommu: true,
-            iotlb_limit: 8,
+            iotlb_limit: Some(8),
             ..usual
         };
         assert_eq!(options(&[&asked[..], &more].concat()), wanted);
         for (word, wanted) in [
-            ("--help", Asked::Help),
-            ("-h", Asked::Help),
-            ("--version", Asked::Version),
-            ("--print-capabilities", Asked::Capabilities),
+            ("--help", Asked::Text(USAGE)),
+            ("-h", Asked::Text(USAGE)),
+            ("--version", Asked::Text(VERSION)),
+            ("--print-capabilities", Asked::Text(CAPABILITIES)),
         ] {
             assert_eq!(parse(&[word]), Ok(wanted));
         }
@@ -247,16 +239,16 @@ mod tests {
     fn words_are_those_of_back_ends() {
         let it = options(&["--socket-path=a=b", "--blk-file=/i", "--read-only", "--no-lock"]);
         assert_eq!((it.source, it.image), (Source::Path("a=b".into()), "/i".into()));
-        assert!(it.read_only && !it.is_locked && !it.iommu);
+        assert!(it.read_only && !it.is_locked && it.iotlb_limit.is_none());
         let it = options(&["--fd=3", "--image", "--x=y", "--queues=2", "--write-through", "--iommu"]);
         assert_eq!((it.source, it.image), (Source::Descriptor(3), "--x=y".into()));
-        assert_eq!((it.queues, it.write_through, it.iommu), (2, true, true));
+        assert_eq!((it.queues, it.write_through, it.iotlb_limit), (2, true, Some(65_536)));
         let it = options(&["--fd", "2147483647", "--blk-file", "i"]);
         assert_eq!(it.source, Source::Descriptor(i32::MAX));
         // Words that are no options do not matter then.
         assert_eq!(
             parse(&["--x", "--fd", "--print-capabilities", "y"]),
-            Ok(Asked::Capabilities)
+            Ok(Asked::Text(CAPABILITIES))
         );
     }
 

@@ -1,5 +1,5 @@
-//! What one guest can take: how long its requests keep the program from messages, from other rings and from its end,
-//! and which chains it may make. Without --iommu messages wait for requests: long.rs.
+//! Which chains one guest may make, and when its driver is told of them. How long its requests keep the program from
+//! messages, from other rings and from its end: long.rs.
 
 mod front_end;
 
@@ -14,10 +14,14 @@ const MIB: usize = 1 << 20;
 const SIZE_MAX: u64 = 1 << 1;
 const SEG_MAX: u64 = 1 << 2;
 
-// What a processor may work for between a message and its answer, in nanoseconds.
-const SOON: u64 = 100_000_000;
-
 const SHIFT: u64 = 0xffff_0000_0000;
+
+// Without a table, with one that nothing goes through, and behind one.
+const WAYS: [(&str, &[&str], u64); 3] = [
+    ("", &[], 0),
+    ("_refused", IOMMU, 0),
+    ("_behind", IOMMU, ACCESS_PLATFORM),
+];
 
 fn started(program: &Program, features: u64) -> FrontEnd {
     let mut front = program.connect();
@@ -28,107 +32,6 @@ fn started(program: &Program, features: u64) -> FrontEnd {
     }
     front.start_ring(64, 0);
     front
-}
-
-// Begins 64 reads of nearly 4 GiB.
-fn begin_endless(program: &Program, front: &mut FrontEnd) {
-    for head in 0..8 {
-        front.put_endless(head);
-    }
-    for place in 0..64 {
-        front.publish(0, place % 8);
-    }
-    front.kick(0);
-    program.wait_for_work();
-}
-
-#[test]
-fn a_message_and_a_signal_come_between_parts() {
-    let program = Program::start_on_a_hole("endless", 4 << 30, IOMMU);
-    let mut front = started(&program, USUAL);
-    // The same head may not be published while it is in flight: these come one after another.
-    begin_endless(&program, &mut front);
-    let before = program.processor_time();
-    // The first one is not done, and the next one again.
-    assert_eq!(front.stop_ring(0), 0);
-    let took = program.processor_time() - before;
-    assert!(took < SOON, "{took}");
-    assert_eq!(front.used_idx(0), 0);
-    program.rest();
-    front.restart_ring(0, 0);
-    front.kick(0);
-    program.wait_for_work();
-    let took = work_of_its_end(&program);
-    assert!(took < SOON, "{took}");
-}
-
-#[test]
-fn another_ring_comes_between_parts() {
-    let program = Program::start_on_a_hole("endless_ring", 4 << 30, &["--iommu", "--queues", "2"]);
-    let mut front = started(&program, USUAL | 1 << 12);
-    front.start_ring(64, 0);
-    begin_endless(&program, &mut front);
-    for _ in 0..10 {
-        let before = program.processor_time();
-        assert_eq!(front.read_disk(1, 3, 4096), [0; 4096]);
-        let took = program.processor_time() - before;
-        assert!(took < SOON, "{took}");
-    }
-    assert_eq!(front.used_idx(0), 0);
-}
-
-// A ring gives back the request that it is in the middle of, and takes it up as the driver has it then.
-#[test]
-fn a_long_request_is_given_back() {
-    let program = Program::start_on_a_hole("given_back", 4 << 30, IOMMU);
-    let mut front = started(&program, USUAL);
-    let half = RAM as u64 / 2;
-    for turn in 0..4_u16 {
-        let head = turn + 1;
-        front.put_endless(head);
-        front.publish(0, head);
-        front.kick(0);
-        program.wait_for_work();
-        assert_eq!(front.used_idx(0), turn);
-        // It has its segments since it was popped.
-        front.write(12 * MIB, &[5; 513]);
-        front.put_long(head, 0, 5, &[(12 * MIB, 512)]);
-        program.wait_for_work();
-        assert_eq!(front.used_idx(0), turn);
-        match turn {
-            0 => {
-                assert!(front.is_done(SET_VRING_ENABLE, &two(0, 0), &[]));
-                assert!(front.is_done(SET_VRING_ENABLE, &two(0, 1), &[]));
-            }
-            1 => {
-                // Another table.
-                let ram = again(&front.ram);
-                let table = FrontEnd::table(&[(half, half, half), (0, half, 0)]);
-                assert!(front.is_done(SET_MEM_TABLE, &table, &[&ram, &ram]));
-            }
-            2 => {
-                assert_eq!(front.stop_ring(0), 2);
-                front.restart_ring(0, 2);
-            }
-            _ => {
-                // No memory at all, and then some.
-                assert!(front.is_done(SET_MEM_TABLE, &FrontEnd::table(&[]), &[]));
-                front.set_memory();
-            }
-        }
-        assert_eq!(front.take_used(0), (head.into(), 513));
-        assert_eq!(front.read(12 * MIB, 513), [&[0; 512][..], &[5]].concat());
-    }
-    // A message that changes nothing of the ring has it go on.
-    front.put_endless(5);
-    front.publish(0, 5);
-    front.kick(0);
-    program.wait_for_work();
-    front.put_long(5, 0, 5, &[(12 * MIB, 512)]);
-    front.set_memory();
-    program.wait_for_work();
-    assert_eq!(front.used_idx(0), 4);
-    assert_eq!(front.stop_ring(0), 4);
 }
 
 #[test]
@@ -256,28 +159,41 @@ fn a_turn_has_so_many_bytes() {
 
 #[test]
 fn a_chain_has_so_many_segments() {
-    let programs = [("segments", &[][..]), ("segments_iommu", IOMMU)];
-    let [program, with_iommu] = programs.map(|(name, words)| Program::start_on_a_hole(name, 1 << 20, words));
-    for (program, count, is_served) in [
-        (&program, 1024, true),
-        (&with_iommu, 1024, true),
-        (&with_iommu, 1025, false),
-    ] {
-        let mut front = started(program, USUAL);
-        let data = vec![(8 * MIB, 512); count - 2];
-        let status = front.put_long(1, 0, 0, &data);
+    for (name, words, features) in WAYS {
+        let program = Program::start_on_a_hole(&format!("segments{name}"), 1 << 20, words);
+        let mut front = started(&program, USUAL | features);
+        let status = front.put_long(1, 0, 0, &[(8 * MIB, 512); 1022]);
         front.publish(0, 1);
         front.kick(0);
-        if is_served {
-            assert_eq!(front.take_used(0), (1, 512 * 1022 + 1));
-            assert_eq!(front.read(status, 1), [0]);
-            continue;
+        assert_eq!(front.take_used(0), (1, 512 * 1022 + 1));
+        assert_eq!(front.read(status, 1), [0]);
+    }
+}
+
+// Behind a table a request has at most 2,048 pieces, with its header and status.
+#[test]
+fn a_chain_has_so_many_pieces() {
+    let program = Program::start_on_a_hole("pieces", 8 << 20, IOMMU);
+    for (pages, is_served) in [(2046, true), (2047, false)] {
+        let mut front = started(&program, USUAL | ACCESS_PLATFORM);
+        let len = pages * PAGE as usize;
+        // No two pages are one piece.
+        for page in 0..pages as u64 {
+            let to = (16 << 20) - PAGE * (page + 1);
+            front
+                .io()
+                .pages
+                .insert(SHIFT + (8 << 20) + PAGE * page, (to, READ | WRITE));
         }
-        assert!(can_read(&front.rings[0].err, LONG));
-        program.rest();
-        assert_eq!((front.used_idx(0), front.read(status, 1)), (0, vec![0xff]));
-        // It is the next one still.
-        assert_eq!(front.stop_ring(0), 0);
+        front.write(8 * MIB, &vec![5; 8 * MIB]);
+        let status = front.put_long(1, 0, 0, &[(8 * MIB, len)]);
+        front.publish(0, 1);
+        front.kick(0);
+        let written = if is_served { len + 1 } else { 0 };
+        assert_eq!(front.take_used(0), (1, written as u32));
+        assert_eq!(front.read(status, 1), [u8::from(!is_served)]);
+        let wanted = if is_served { 0 } else { 5 };
+        assert!(front.read(16 * MIB - len, len) == vec![wanted; len]);
     }
 }
 
@@ -384,16 +300,17 @@ fn parts_make_a_whole() {
     }
 }
 
-// A segment without memory ends a request. With --iommu what came before it was read or written.
+// A request with a segment without memory fails, and what came before it was neither read nor written.
 #[test]
 fn a_part_without_memory_fails() {
-    for (name, words, good) in [("no_memory", &[][..], 0), ("no_memory_iommu", IOMMU, 200_000)] {
-        expect_failures(&Program::start(name, 4 * MIB, words), good);
+    for (name, words, features) in WAYS {
+        let program = Program::start(&format!("no_memory{name}"), 4 * MIB, words);
+        expect_failures(&program, USUAL | features);
     }
 }
 
-fn expect_failures(program: &Program, good: usize) {
-    let mut front = started(program, USUAL);
+fn expect_failures(program: &Program, features: u64) {
+    let mut front = started(program, features);
     let bad = 32 * MIB;
     for kind in [0, 1] {
         front.write(8 * MIB, &vec![3; MIB]);
@@ -401,18 +318,11 @@ fn expect_failures(program: &Program, good: usize) {
         let status = front.put_long(1, kind, 8, &data[..]);
         front.publish(0, 1);
         front.kick(0);
-        let written = if kind == 0 { good } else { 1 };
         // A status behind bytes that were not written does not count.
-        assert_eq!(front.take_used(0), (1, written as u32));
+        assert_eq!(front.take_used(0), (1, kind));
         assert_eq!(front.read(status, 1), [1]);
-        let image = fs::read(&program.image).unwrap();
-        if kind == 0 {
-            assert!(front.read(8 * MIB, good) == image[4096..4096 + good]);
-            assert!(front.read(8 * MIB + good, 9) == [3; 9]);
-        } else {
-            assert!(image[4096..4096 + good] == vec![3; good]);
-            assert!(image[4096 + good..] == image_of(4 * MIB)[4096 + good..]);
-        }
+        assert!(front.read(8 * MIB, MIB) == [3; MIB]);
+        assert!(fs::read(&program.image).unwrap() == image_of(4 * MIB));
     }
 }
 
@@ -480,7 +390,7 @@ fn segments_need_not_end_with_the_data() {
     assert!(front.read(10 * MIB, count + 2) == [&bytes[..], &[0, 9]].concat());
 }
 
-// A request of several parts waits for a mapping after some of them. It is begun again after its ring was stopped.
+// A request of several parts is begun when it has all its mappings, and fails as a whole if it lacks one.
 #[test]
 fn a_long_request_waits_for_a_mapping() {
     let len = 4 * MIB;
@@ -490,16 +400,14 @@ fn a_long_request_waits_for_a_mapping() {
     let to = front.io().pages.remove(&missing).unwrap();
     let page = |number: usize| (8 * MIB + 4096 * number, 4096);
     let pages: Vec<_> = (0..512).map(page).collect();
-    // The bytes of a segment in a part go as a whole or not at all.
-    for (data, written) in [(&[(8 * MIB, 2 * MIB)][..], MIB), (&pages, MIB + 0x1_0000)] {
+    for data in [&[(8 * MIB, 2 * MIB)][..], &pages] {
         front.write(8 * MIB, &vec![5; 2 * MIB]);
         let status = front.put_long(1, 0, 0, data);
         front.publish(0, 1);
         front.kick(0);
-        assert_eq!(front.take_used(0), (1, written as u32));
+        assert_eq!(front.take_used(0), (1, 0));
         assert_eq!(front.read(status, 1), [1]);
-        assert!(front.read(8 * MIB, written) == image_of(len)[..written]);
-        assert!(front.read(8 * MIB + written, 99) == [5; 99]);
+        assert!(front.read(8 * MIB, 2 * MIB) == [5; 2 * MIB]);
     }
     let status = front.put_long(1, 0, 0, &pages);
     front.publish(0, 1);

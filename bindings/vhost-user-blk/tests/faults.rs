@@ -70,7 +70,7 @@ fn each_byte_is_moved_however_few_a_call_moves() {
 #[test]
 fn what_the_disk_refuses_fails() {
     let bad = 1000;
-    let Some((program, _faults)) = with_faults("bad_sectors", 512 * bad, &[]) else {
+    let Some((program, _faults)) = with_faults("bad_sectors", 512 * bad, &["--stats", "86400"]) else {
         return;
     };
     let mut front = started(&program, USUAL);
@@ -84,6 +84,9 @@ fn what_the_disk_refuses_fails() {
     }
     assert_eq!(front.request(0, 0, bad - 1, 512), (0, 513));
     assert_eq!(fs::read(&program.image).unwrap(), image_of(LEN));
+    drop(front);
+    let said = "21 reads of 123392 bytes, 10 writes of 0 bytes, 0 flushes, 0 others; 0 syncs, 20 errors";
+    program.expect_said(&format!("served 31 requests: {said}\n"));
 }
 
 // A flush syncs once, and so does each write of a driver that knows no flush. Nothing else does.

@@ -79,24 +79,7 @@ fn writes_are_marked_as_long_as_it_was_asked_for() {
     assert!(front.is_let_go());
 }
 
-// A mark comes before the request comes back: one that cannot be marked does not.
-#[test]
-fn a_log_that_is_too_short_ends_the_connection() {
-    let program = Program::start("log_short", LEN, IOMMU);
-    // A read, a write, and a flush, each with its status in a page without a bit.
-    for (kind, len) in [(0, 512), (1, 512), (4, 0)] {
-        let mut front = started(&program, USUAL);
-        // Bits for the first 272 pages: the used ring lies in one of them, and the data and the status do not.
-        begin(&mut front, USUAL, 34);
-        front.put_request(0, 0, kind, 1, len);
-        front.publish(0, 0);
-        front.kick(0);
-        assert!(front.is_let_go());
-        assert_eq!(front.used_idx(0), 0, "a request of the kind {kind} came back");
-    }
-}
-
-// Without --iommu the whole memory needs bits as soon as writes are logged.
+// The whole memory needs bits as soon as writes are logged.
 #[test]
 fn a_log_has_a_bit_for_each_page() {
     let program = Program::start("log_bit", LEN, &[]);
@@ -213,12 +196,12 @@ fn marks_are_by_guest_addresses() {
 #[test]
 fn what_was_not_written_is_not_marked() {
     for (name, words) in [("log_fails", &[][..]), ("log_fails_iommu", IOMMU)] {
-        expect_marks_of_failures(&Program::start(name, LEN, words), !words.is_empty());
+        expect_marks_of_failures(&Program::start(name, LEN, words));
     }
 }
 
-// Without --iommu all that a request may write is marked, and a part of it of which a byte has no memory is not begun.
-fn expect_marks_of_failures(program: &Program, is_exact: bool) {
+// All that a request may write is marked, and a part of it of which a byte has no memory is not begun.
+fn expect_marks_of_failures(program: &Program) {
     let (mut front, log) = far_started(program);
     let used = pages(&[front.used_ring(0)]);
     let nowhere = FAR - MIB;
@@ -229,20 +212,15 @@ fn expect_marks_of_failures(program: &Program, is_exact: bool) {
         let (written, found) = marked(program, &mut front, &log, &chain_of(&data, status));
         let reached = if bad == nowhere { 0 } else { 5000 };
         let wanted = &pages_of(&[(FAR + 77, good), (bad, reached), (status, 1)]) | &used;
-        if is_exact {
-            assert_eq!(written as usize, good + reached);
-            assert_eq!(found, wanted);
-        } else {
-            assert_eq!(written, 0);
-            assert!(found.is_subset(&(&(&wanted | &pages_of(&data)) | &pages_of(&[(status, 1)]))));
-            assert!(found.is_superset(&(&pages_of(&[(status, 1)]) | &used)));
-        }
+        assert_eq!(written, 0);
+        assert!(found.is_subset(&(&(&wanted | &pages_of(&data)) | &pages_of(&[(status, 1)]))));
+        assert!(found.is_superset(&(&pages_of(&[(status, 1)]) | &used)));
         assert_eq!(front.read(HALF + 4 * MIB, 1), [1]);
     }
-    expect_marks_of_refusals(program, (front, log), is_exact);
+    expect_marks_of_refusals(program, (front, log));
 }
 
-fn expect_marks_of_refusals(program: &Program, (mut front, log): (FrontEnd, OwnedFd), is_exact: bool) {
+fn expect_marks_of_refusals(program: &Program, (mut front, log): (FrontEnd, OwnedFd)) {
     let (used, nowhere) = (pages(&[front.used_ring(0)]), FAR - MIB);
     // A write of the disk, a flush and a request that is refused write their status alone, one without a place for it
     // nothing, and neither does one whose place has no memory.
@@ -263,10 +241,7 @@ fn expect_marks_of_refusals(program: &Program, (mut front, log): (FrontEnd, Owne
             pages_of(&[(addr, len)])
         };
         let written = chain.iter().filter(|it| it.2).map(|it| (it.0, it.1));
-        let may = match is_exact {
-            true => status.clone(),
-            false => pages_of(&written.collect::<Vec<_>>()),
-        };
+        let may = pages_of(&written.collect::<Vec<_>>());
         assert!(found.is_superset(&(&status | &used)), "{kind} {sector}");
         assert!(found.is_subset(&(&may | &used)), "{kind} {sector}");
     }
@@ -318,9 +293,9 @@ fn a_mark_costs_nothing_of_the_other_pages() {
     assert!(many < 2 * few, "{few} and {many}");
 }
 
-// The address that a used ring has in the log may be another one than its own, which counts without --iommu.
+// The address that a used ring has in the log may be another one than its own, which counts without an I/O table.
 #[test]
-fn a_used_ring_is_marked_at_its_address_in_the_log() {
+fn a_used_ring_is_marked_at_its_own_address() {
     for (name, words) in [("log_own_address", &[][..]), ("log_address", IOMMU)] {
         let program = Program::start(name, LEN, words);
         let mut front = started(&program, USUAL);
@@ -335,7 +310,6 @@ fn a_used_ring_is_marked_at_its_address_in_the_log() {
         program.rest();
         let found = taken(&log);
         assert!(found.contains(&(front.used_ring(0) / PAGE)));
-        assert!(words.is_empty() || found.contains(&(other / PAGE)));
     }
 }
 

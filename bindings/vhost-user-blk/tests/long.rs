@@ -1,9 +1,8 @@
-//! Long requests without --iommu: a message that changes what they need waits for those that are under way, and these
-//! are few.
+//! Long requests: a message that changes what they need waits for those that are under way, and these are few.
 
 mod front_end;
 
-use front_end::log::{begin, pages, pages_of, started, taken, LOG_LEN};
+use front_end::log::{begin, pages, pages_of, started, taken, LOG_LEN, SHIFT};
 use front_end::*;
 
 const MIB: usize = 1 << 20;
@@ -11,6 +10,24 @@ const MIB: usize = 1 << 20;
 // How many bytes a long request reads, and how many of them may be under way.
 const LEN: usize = 256 << 20;
 const MOST: u16 = 4;
+
+// Without a table, and behind one.
+const WAYS: [(&str, &[&str], u64); 2] = [("", &[], 0), ("_behind", &["--iommu"], ACCESS_PLATFORM)];
+
+// Maps all of memory as one range, if there is a table.
+fn map_all(front: &mut FrontEnd) {
+    if front.io.is_some() {
+        let all = iotlb(SHIFT, RAM as u64, USER, READ | WRITE, 2);
+        assert!(front.is_done(IOTLB_MSG, &all, &[]));
+    }
+}
+
+fn start(name: &str, words: &[&str], features: u64) -> (Program, FrontEnd) {
+    let program = Program::start_on_a_hole(name, 4 << 30, words);
+    let mut front = started(&program, USUAL | features);
+    map_all(&mut front);
+    (program, front)
+}
 
 // Publishes a read of this length into the same four mebibytes, again and again.
 fn publish_long(front: &mut FrontEnd, head: u16) -> usize {
@@ -25,10 +42,15 @@ fn expect_back(front: &mut FrontEnd, head: u16) {
 
 #[test]
 fn a_message_waits_for_few_requests() {
-    let program = Program::start_on_a_hole("long", 4 << 30, &[]);
-    let mut front = started(&program, USUAL);
+    for (name, words, features) in WAYS {
+        let (program, mut front) = start(&format!("long{name}"), words, features);
+        expect_few_before_a_stop(&program, &mut front);
+    }
+}
+
+fn expect_few_before_a_stop(program: &Program, front: &mut FrontEnd) {
     for head in 0..64 {
-        publish_long(&mut front, head);
+        publish_long(front, head);
     }
     front.kick(0);
     program.wait_for_work();
@@ -38,42 +60,46 @@ fn a_message_waits_for_few_requests() {
     assert!(base <= u32::from(before + MOST), "{before} and {base}");
     program.rest();
     assert_eq!(base, front.used_idx(0).into());
-    (0..base as u16).for_each(|head| expect_back(&mut front, head));
+    (0..base as u16).for_each(|head| expect_back(front, head));
+    map_all(front);
     front.restart_ring(0, base as u16);
-    expect_back(&mut front, base as u16);
+    expect_back(front, base as u16);
 }
 
 #[test]
 fn another_ring_waits_for_few_requests() {
-    let program = Program::start_on_a_hole("long_ring", 4 << 30, &["--queues", "2"]);
-    let mut front = started(&program, USUAL | 1 << 12);
-    front.start_ring(64, 0);
-    for head in 0..64 {
-        publish_long(&mut front, head);
-    }
-    front.kick(0);
-    program.wait_for_work();
-    for _ in 0..3 {
-        let before = front.used_idx(0);
-        assert_eq!(front.read_disk(1, 3, 4096), [0; 4096]);
-        let after = front.used_idx(0);
-        assert!(after <= before + MOST, "{before} and {after}");
+    for (name, words, features) in WAYS {
+        let words = [words, &["--queues", "2"]].concat();
+        let (program, mut front) = start(&format!("long_ring{name}"), &words, features | 1 << 12);
+        front.start_ring(64, 0);
+        for head in 0..64 {
+            publish_long(&mut front, head);
+        }
+        front.kick(0);
+        program.wait_for_work();
+        for _ in 0..3 {
+            let before = front.used_idx(0);
+            assert_eq!(front.read_disk(1, 3, 4096), [0; 4096]);
+            let after = front.used_idx(0);
+            assert!(after <= before + MOST, "{before} and {after}");
+        }
     }
 }
 
 #[test]
 fn the_end_waits_for_no_request() {
-    let program = Program::start_on_a_hole("long_end", 4 << 30, &[]);
-    let mut front = started(&program, USUAL);
-    for head in 0..2 {
-        front.put_endless(head);
-        front.publish(0, head);
+    for (name, words, features) in WAYS {
+        let (program, mut front) = start(&format!("long_end{name}"), words, features);
+        for head in 0..2 {
+            front.put_endless(head);
+            front.publish(0, head);
+        }
+        front.kick(0);
+        program.wait_for_work();
+        let took = work_of_its_end(&program);
+        assert!(took < 100_000_000, "{took}");
+        assert_eq!(front.used_idx(0), 0);
     }
-    front.kick(0);
-    program.wait_for_work();
-    let took = work_of_its_end(&program);
-    assert!(took < 100_000_000, "{took}");
-    assert_eq!(front.used_idx(0), 0);
 }
 
 // After each of these messages was answered, the request is done as the driver had it when it came.
@@ -123,6 +149,25 @@ fn what_was_written_is_marked_before_a_ring_stops() {
     let wanted = pages_of(&[(8 * MIB, 4 * MIB), (status, 1)]);
     assert_eq!(taken(&log), &wanted | &pages(&[front.used_ring(0)]));
     assert!(front.read(8 * MIB, 4 * MIB) == vec![0; 4 * MIB]);
+}
+
+// The pieces of these requests have no room in one run. Meanwhile a part of a message has come.
+#[test]
+fn a_message_may_come_in_parts() {
+    let program = Program::start_on_a_hole("long_parts", 4 << 30, &[]);
+    let mut front = started(&program, USUAL);
+    let bytes = message(SET_VRING_ENABLE, NEED_REPLY, &two(0, 1));
+    for cut in [1, 11, 12, 19] {
+        assert!(send(&front.socket, &bytes[..cut], &[]));
+        for head in 0..8 {
+            front.put_long(head, 0, 0, &[(8 * MIB, 512); 1000]);
+            front.publish(0, head);
+        }
+        front.kick(0);
+        (0..8).for_each(|head| assert_eq!(front.take_used(0), (head, 512_001)));
+        assert!(send(&front.socket, &bytes[cut..], &[]));
+        assert_eq!(front.reply(SET_VRING_ENABLE), [0; 8]);
+    }
 }
 
 // The second part of a request has no memory, and it has more of them. The requests after it are served.

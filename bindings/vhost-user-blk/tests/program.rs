@@ -163,6 +163,45 @@ fn long_requests_are_whole() {
     assert_eq!(front.read(from, len), image_of(4 << 20)[3 * 512..3 * 512 + len]);
 }
 
+// Each segment of the data begins in one region and ends in the next one: one call of the system takes 1,024 pieces.
+#[test]
+fn a_request_has_more_pieces_than_a_call_takes() {
+    let program = Program::start("pieces", LEN, &[]);
+    let mut front = started(&program, USUAL);
+    let (ram, half) = (again(&front.ram), RAM as u64 / 2);
+    let table = FrontEnd::table(&[(0, half, 0), (half, half, half)]);
+    assert!(front.is_done(SET_MEM_TABLE, &table, &[&ram, &ram]));
+    let from = half as usize - 200;
+    let bytes: Vec<u8> = (0..512).map(|at| (at * 31) as u8).collect();
+    front.write(from, &bytes);
+    let mut wanted = image_of(LEN);
+    for (kind, sector) in [(1, 7), (0, 1029)] {
+        let status = front.put_long(0, kind, sector, &[(from, 512); 1018]);
+        front.publish(0, 0);
+        front.kick(0);
+        let written = if kind == 1 { 1 } else { 1018 * 512 + 1 };
+        assert_eq!(front.take_used(0), (0, written));
+        assert_eq!(front.read(status, 1), [0]);
+        wanted[7 * 512..1025 * 512].copy_from_slice(&bytes.repeat(1018));
+        assert!(fs::read(&program.image).unwrap() == wanted);
+    }
+    // Of a read the last sector stays.
+    assert_eq!(front.read(from, 512), wanted[2046 * 512..2047 * 512]);
+}
+
+#[test]
+fn a_name_fills_segments() {
+    let program = Program::start("name", LEN, &[]);
+    let mut front = started(&program, USUAL);
+    let (first, second) = (9 << 20, 10 << 20);
+    front.put_long(0, 8, 0, &[(first, 3), (second, 17)]);
+    front.publish(0, 0);
+    front.kick(0);
+    assert_eq!(front.take_used(0), (0, 21));
+    assert_eq!(front.read(first, 4), b"dis\0");
+    assert_eq!(front.read(second, 18), b"k.img\0\0\0\0\0\0\0\0\0\0\0\0\0");
+}
+
 #[test]
 fn a_ring_goes_on_where_it_stopped() {
     let program = Program::start("stopped", LEN, &[]);

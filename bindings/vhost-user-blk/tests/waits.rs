@@ -4,12 +4,14 @@
 mod front_end;
 
 use front_end::*;
-use std::fs::File;
+use std::fs::{self, File};
 use std::hint::spin_loop;
 use std::io::Write;
 use std::os::fd::{AsRawFd, OwnedFd};
 use std::os::unix::net::UnixStream;
+use std::path::PathBuf;
 use std::sync::atomic::{fence, Ordering::SeqCst};
+use std::thread::sleep;
 use std::time::{Duration, Instant};
 
 const LEN: usize = 1 << 20;
@@ -163,6 +165,48 @@ fn full_pipe(write: &OwnedFd) {
     set_waiting(write, true);
 }
 
+// How often threads of a program began to wait.
+fn waits_of(program: &Program) -> u64 {
+    let tasks = fs::read_dir(format!("/proc/{}/task", program.pid())).unwrap();
+    let waits = |path: PathBuf| {
+        let text = fs::read_to_string(path.join("status")).unwrap();
+        let line = text.lines().find_map(|it| it.strip_prefix("voluntary_ctxt_switches:"));
+        line.unwrap().trim().parse::<u64>().unwrap()
+    };
+    tasks.map(|task| waits(task.unwrap().path())).sum()
+}
+
+// Waits until all threads of a program sleep, also the one that looks at writes.
+fn wait_for_sleep(program: &Program) {
+    let begun = Instant::now();
+    loop {
+        let before = waits_of(program);
+        sleep(Duration::from_millis(300));
+        if waits_of(program) < before + 3 {
+            return;
+        }
+        assert!(begun.elapsed() < PROMPT, "it does not sleep");
+    }
+}
+
+#[test]
+fn a_program_with_nothing_to_do_sleeps() {
+    let program = Program::start("asleep", LEN, &[]);
+    let mut front = started(&program, USUAL);
+    front.read_disk(0, 1, 512);
+    wait_for_sleep(&program);
+}
+
+// Shares a log, and a counter that is told of new bits.
+fn share_log(front: &mut FrontEnd, counter: &OwnedFd) {
+    let log = memfd(RAM / 4096 / 8);
+    let size = [RAM as u64 / 4096 / 8, 0].map(u64::to_le_bytes).concat();
+    front.send(SET_LOG_BASE, 0, &size, &[&log]);
+    assert!(front.reply(SET_LOG_BASE).is_empty());
+    assert!(front.is_done(SET_LOG_FD, &[], &[counter]));
+    assert!(front.is_done(SET_FEATURES, &(USUAL | LOG_ALL).to_le_bytes(), &[]));
+}
+
 #[test]
 fn a_full_descriptor_ends_its_connection_alone() {
     for name in ["call", "call pipe", "err", "log"] {
@@ -173,17 +217,13 @@ fn a_full_descriptor_ends_its_connection_alone() {
         let counter = eventfd();
         match name {
             "call pipe" => assert!(front.is_done(SET_VRING_CALL, &0_u64.to_le_bytes(), &[&write])),
-            "log" => {
-                let log = memfd(RAM / 4096 / 8);
-                let size = [RAM as u64 / 4096 / 8, 0].map(u64::to_le_bytes).concat();
-                front.send(SET_LOG_BASE, 0, &size, &[&log]);
-                assert!(front.reply(SET_LOG_BASE).is_empty());
-                assert!(front.is_done(SET_LOG_FD, &[], &[&counter]));
-                assert!(front.is_done(SET_FEATURES, &(USUAL | LOG_ALL).to_le_bytes(), &[]));
-            }
+            "log" => share_log(&mut front, &counter),
             _ => (),
         }
         program.rest();
+        if name == "call" {
+            wait_for_sleep(&program);
+        }
         let waits = match name {
             "call" => &front.rings[0].call,
             "err" => &front.rings[0].err,
@@ -330,5 +370,76 @@ fn no_socket_is_held_for_the_channel() {
     assert!(front.is_done(SET_BACKEND_REQ_FD, &[], &[&other.into()]));
     assert!(send(&mine, &[0; 5], &[front.socket.as_raw_fd()]));
     drop((front, mine));
+    expect_well(program);
+}
+
+// Five descriptors come with each of two bytes, or nine with a table of eight regions: the last one would be lost.
+#[test]
+fn no_message_has_more_than_eight_descriptors() {
+    let program = Program::start("many_descriptors", LEN, &[]);
+    let mut front = started(&program, USUAL);
+    let files: Vec<_> = (0..9).map(|_| memfd(4096)).collect();
+    let files: Vec<_> = files.iter().collect();
+    let regions: Vec<_> = (0..8).map(|at| (4096 * at, 4096, 0)).collect();
+    let table = FrontEnd::table(&regions);
+    assert!(front.is_done(SET_MEM_TABLE, &table, &files[..8]));
+    front.send(SET_MEM_TABLE, 0, &table, &files);
+    assert!(front.is_let_go());
+    let mut front = started(&program, USUAL);
+    let five = [front.rings[0].kick.as_raw_fd(); 5];
+    for byte in &message(SET_VRING_ERR, 0, &[0; 8])[..2] {
+        assert!(send(&front.socket, &[*byte], &five));
+    }
+    assert!(front.is_let_go());
+    expect_well(program);
+}
+
+// The rest of a message never comes, and what came may hold the front end's own end.
+#[test]
+fn what_may_hold_others_is_not_held() {
+    let program = Program::start("held_others", LEN, &[]);
+    let mut front = started(&program, USUAL);
+    // SAFETY: it takes a number.
+    let epoll = unsafe { libc::epoll_create1(libc::EPOLL_CLOEXEC) };
+    // SAFETY: the system has just opened it.
+    let epoll = unsafe { <OwnedFd as std::os::fd::FromRawFd>::from_raw_fd(epoll) };
+    assert!(send(
+        &front.socket,
+        &message(SET_VRING_ERR, 0, &[0; 8])[..4],
+        &[epoll.as_raw_fd()]
+    ));
+    assert!(front.is_let_go());
+    expect_well(program);
+}
+
+#[test]
+fn a_pipe_with_a_path_notifies() {
+    let program = Program::start("named_pipe", LEN, &[]);
+    let mut front = started(&program, USUAL);
+    let path = program.folder.join("pipe");
+    let name = std::ffi::CString::new(path.to_str().unwrap()).unwrap();
+    // SAFETY: the name is a text that ends with 0.
+    assert_eq!(unsafe { libc::mkfifo(name.as_ptr(), 0o600) }, 0);
+    let pipe: OwnedFd = File::options().read(true).write(true).open(path).unwrap().into();
+    assert!(front.is_done(SET_VRING_KICK, &0_u64.to_le_bytes(), &[&pipe]));
+    front.rings[0].kick = pipe;
+    for _ in 0..3 {
+        front.read_disk(0, 1, 512);
+    }
+    drop(front);
+    expect_well(program);
+}
+
+// A front end that asks again and again, and reads no reply.
+#[test]
+fn replies_that_nobody_reads_end_the_connection() {
+    let program = Program::start("unread_replies", LEN, &[]);
+    let (front, asked) = (started(&program, USUAL), message(GET_FEATURES, 0, &[]));
+    let count = (0..)
+        .take_while(|_| send(&front.socket, &asked, &[]))
+        .take(1 << 20)
+        .count();
+    assert!(count < 1 << 20);
+    program.expect_said("the connection ended: replying: ");
     expect_well(program);
 }

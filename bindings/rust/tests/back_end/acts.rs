@@ -9,13 +9,18 @@ pub enum Act {
     Send(Vec<u8>),
     UnmapAll,
     Map(Region, u32),
-    Log { offset: u64, len: u64 },
+    Log {
+        offset: u64,
+        len: u64,
+    },
     Keep(Kept, bool),
     Serve(Served),
     Interrupt(u32),
     Broke(u32),
     End(Ended),
     Stopped(u32),
+    /// A ring asks for a mapping of an I/O address, for an access, or says that one forbids that.
+    Ask(u32, u64, u8, bool),
 }
 
 /// Why a connection is over. A message may break more than one rule.

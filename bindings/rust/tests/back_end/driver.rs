@@ -1,13 +1,17 @@
 //! A driver with a ring in guest memory, which publishes chains of any kind. It is mostly honest.
 
 use super::memory::Memory;
+use super::space::{Space, SMALL};
 use crate::guest::Guest;
 use crate::ring::Numbers;
 
 /// How many bytes a file of guest memory has, and how many of them rings lie in, and buffers mostly do not.
 pub const FILE: u64 = 0x8000;
-const RINGS: u64 = 0x4000;
+pub const RINGS: u64 = 0x4000;
 pub const PAGE: u64 = 0x1000;
+
+/// To how many pieces of guest memory a request may lead: 1,024 more than a ring has entries at most.
+pub const MOST_PIECES: u64 = 128 + 1024;
 
 /// How many sectors the disk has at first.
 pub const SECTORS: u64 = 1 << 16;
@@ -15,17 +19,28 @@ pub const SECTORS: u64 = 1 << 16;
 /// Where the parts of a ring lie behind its first byte.
 pub const PARTS: [u64; 3] = [0, 0x800, 0xa00];
 
-/// The bytes of guest memory: those that the device has, and those of the model.
+/// The bytes of guest memory: those that the device has, and those of the model. A driver names them by places in
+/// files, and an IOMMU may have others there.
 pub struct Bytes<'a> {
     pub guests: &'a [Guest; 2],
     pub memory: &'a mut Memory,
+    pub space: &'a Space,
 }
 
 impl Bytes<'_> {
-    /// The driver writes to a file.
-    pub fn put(&mut self, file: usize, offset: u64, bytes: &[u8]) {
+    /// Bytes of a file itself change.
+    pub fn put_there(&mut self, file: usize, offset: u64, bytes: &[u8]) {
         self.guests[file].write(offset as usize, bytes);
         self.memory.write(file, offset, bytes);
+    }
+
+    /// The driver writes.
+    pub fn put(&mut self, file: usize, offset: u64, mut bytes: &[u8]) {
+        for (file, at, count) in self.space.places(file, offset, bytes.len() as u64) {
+            let (here, rest) = bytes.split_at(count as usize);
+            self.put_there(file, at, here);
+            bytes = rest;
+        }
     }
 
     fn word(&mut self, file: usize, offset: u64, value: u16) {
@@ -33,24 +48,34 @@ impl Bytes<'_> {
     }
 
     fn read_word(&self, file: usize, offset: u64) -> u16 {
-        let bytes = self.guests[file].read(offset as usize, 2);
-        u16::from_le_bytes([bytes[0], bytes[1]])
+        word_at(self.guests, self.space, file, offset)
     }
 
-    // The guest address of a place in a file, if a region has it.
+    // The address of a named place, if it has one.
     fn address(&self, file: usize, offset: u64) -> Option<u64> {
+        if self.space.is_on {
+            return Some(self.space.iova(file, offset));
+        }
         let shows = |it: &&super::memory::Shown| it.file == file && it.offset <= offset && offset < it.offset + it.len;
         let it = self.memory.regions.iter().find(shows)?;
         Some(it.guest + (offset - it.offset))
     }
 }
 
+/// A word of a driver's.
+pub fn word_at(guests: &[Guest; 2], space: &Space, file: usize, offset: u64) -> u16 {
+    let (file, at) = space.place(file, offset);
+    let bytes = guests[file].read(at as usize, 2);
+    u16::from_le_bytes([bytes[0], bytes[1]])
+}
+
 /// A chain that was published.
 pub struct Published {
     pub id: u16,
     pub slots: u16,
-    /// What the device may write.
+    /// What the device may write, and what it reads.
     pub written: Vec<(u64, u64)>,
+    pub read: Vec<(u64, u64)>,
     /// The ring says so.
     pub is_honest: bool,
 }
@@ -73,6 +98,8 @@ pub struct Driver {
     // Of each chain that is out: its id, its descriptors or slots.
     out: Vec<(u16, Vec<u16>, u16)>,
     free_slots: u16,
+    /// A buffer lies among rings.
+    pub has_scribbled: bool,
 }
 
 fn row(addr: u64, len: u32, words: [u16; 2]) -> Vec<u8> {
@@ -100,6 +127,7 @@ impl Driver {
             free: Vec::new(),
             out: Vec::new(),
             free_slots: size,
+            has_scribbled: false,
         }
     }
 
@@ -182,17 +210,14 @@ impl Driver {
 
     // ---- buffers
 
-    // A place of so many bytes in the buffers of a file.
-    fn buffer(&self, bytes: &Bytes<'_>, numbers: &mut Numbers, len: u64) -> (usize, u64, u64) {
-        let file = numbers.below(2) as usize;
+    // A place of so many bytes in the buffers of a file, and its address, or maybe another one.
+    fn buffer(&mut self, bytes: &Bytes<'_>, numbers: &mut Numbers, len: u64) -> (usize, u64, u64) {
         let from = if numbers.one_in(400) { 0 } else { RINGS };
-        let offset = from + numbers.below(FILE - from - len + 1);
+        self.has_scribbled |= from == 0;
+        let (file, offset) = (numbers.below(2) as usize, from + numbers.below(FILE - from - len + 1));
         let address = bytes.address(file, offset).filter(|_| !numbers.one_in(300));
-        (
-            file,
-            offset,
-            address.unwrap_or_else(|| numbers.any() >> numbers.below(64)),
-        )
+        let address = address.unwrap_or_else(|| numbers.any() >> numbers.below(64));
+        (file, offset, address)
     }
 
     // The header of a request, and how many bytes of data it has.
@@ -216,8 +241,33 @@ impl Driver {
         bytes
     }
 
+    // A request to flush that leads to about as many pieces as one may.
+    fn long_rows(&mut self, bytes: &mut Bytes<'_>, numbers: &mut Numbers) -> Vec<Row> {
+        let (file, most) = (numbers.below(2) as usize, MOST_PIECES - 1 + numbers.below(3));
+        let mut place = |len: u64| RINGS + SMALL * numbers.below((FILE - RINGS - len) / SMALL);
+        let (header, status) = (place(16), place(1));
+        bytes.put(file, header, &[4, 0, 0, 0, 0, 0, 0, 0, 0, 0, 0, 0, 0, 0, 0, 0]);
+        let row = |offset, len: u64, is_written| (bytes.space.iova(file, offset), len as u32, is_written);
+        // Header and status are a piece each.
+        let (mut rows, mut count) = (vec![row(header, 16, false)], 2);
+        while count < most {
+            let offset = place(0x3e00);
+            let mut len = 0x3e00;
+            while count + pieces(offset, len) > most {
+                len /= 2;
+            }
+            rows.push(row(offset, len, true));
+            count += pieces(offset, len);
+        }
+        rows.push(row(status, 1, true));
+        rows
+    }
+
     // The buffers of a request.
-    fn rows(&self, bytes: &mut Bytes<'_>, numbers: &mut Numbers) -> Vec<Row> {
+    fn rows(&mut self, bytes: &mut Bytes<'_>, numbers: &mut Numbers) -> Vec<Row> {
+        if bytes.space.is_said && numbers.one_in(2) {
+            return self.long_rows(bytes, numbers);
+        }
         let is_large = numbers.one_in(150);
         let count = if is_large {
             70 + numbers.below(90)
@@ -251,7 +301,7 @@ impl Driver {
     }
 
     // Adds the status, or none, or more behind it.
-    fn end(&self, bytes: &mut Bytes<'_>, numbers: &mut Numbers, rows: &mut Vec<Row>) {
+    fn end(&mut self, bytes: &mut Bytes<'_>, numbers: &mut Numbers, rows: &mut Vec<Row>) {
         let (file, offset, status) = self.buffer(bytes, numbers, 1);
         // Another value than a device writes.
         bytes.put(file, offset, &[0xa5]);
@@ -285,19 +335,41 @@ impl Driver {
         } else {
             self.publish_split(bytes, numbers, &rows, table, count)?
         };
-        let written = rows.iter().filter(|it| it.2).map(|it| (it.0, it.1.into()));
+        let those = |is_written: bool| {
+            let those = rows.iter().filter(move |it| it.2 == is_written);
+            those.map(|it| (it.0, it.1.into())).collect()
+        };
         Some(Published {
             id,
             slots,
-            written: written.collect(),
+            written: those(true),
+            read: those(false),
             is_honest,
         })
     }
 
+    // Where a table of so many bytes lies. Behind an IOMMU it is sometimes in the page of the ring, and never where
+    // parts of rings are.
+    fn table_place(&mut self, bytes: &Bytes<'_>, numbers: &mut Numbers, len: u64) -> (usize, u64, u64) {
+        if !bytes.space.is_on {
+            return self.buffer(bytes, numbers, len);
+        }
+        let (from, room) = (PARTS[2] + 0x410, PAGE - PARTS[2] - 0x410);
+        let (file, offset) = match len <= room && numbers.one_in(6) {
+            true => (self.file, self.base + from + numbers.below(room - len + 1)),
+            false => (numbers.below(2) as usize, RINGS + numbers.below(FILE - RINGS - len + 1)),
+        };
+        let address = match numbers.one_in(300) {
+            true => numbers.any() | 1 << 63,
+            false => bytes.space.iova(file, offset),
+        };
+        (file, offset, address)
+    }
+
     // Puts the rows into an indirect table, if one has room.
-    fn table(&self, bytes: &mut Bytes<'_>, numbers: &mut Numbers, rows: &[Row]) -> Option<(u64, u32)> {
+    fn table(&mut self, bytes: &mut Bytes<'_>, numbers: &mut Numbers, rows: &[Row]) -> Option<(u64, u32)> {
         let len = 16 * rows.len() as u64;
-        let (file, offset, address) = self.buffer(bytes, numbers, len);
+        let (file, offset, address) = self.table_place(bytes, numbers, len);
         let last = rows.len() - 1;
         let of = |(at, &(addr, len, is_written)): (usize, &Row)| {
             let written = if is_written { 2 } else { 0 };
@@ -394,6 +466,24 @@ impl Driver {
         self.out.push((id, vec![real], count));
         Some((id, count, id == real))
     }
+}
+
+// To how many pieces so many bytes lead where small frames have no neighbours: as many bytes as one frame has of the
+// page, of a half of that, and so on.
+fn pieces(offset: u64, len: u64) -> u64 {
+    let (mut at, end, mut found) = (offset, offset + len, 0);
+    while at < end {
+        let here = SMALL - at % SMALL;
+        let mut count = end - at;
+        if here < count {
+            count = count.min(PAGE - at % PAGE);
+            while here < count {
+                count /= 2;
+            }
+        }
+        (at, found) = (at + count, found + 1);
+    }
+    found
 }
 
 fn moved((at, wrap): (u16, bool), count: u16, size: u16) -> (u16, bool) {

@@ -72,6 +72,23 @@ impl Memory {
         }
     }
 
+    /// Bytes of guest memory. Where there is none they are 0.
+    pub fn bytes(&self, address: u64, len: u64) -> Vec<u8> {
+        let (mut at, end, mut bytes) = (address, address + len, Vec::new());
+        while at < end {
+            let has = |it: &&Shown| it.guest <= at && at - it.guest < it.len;
+            let Some(it) = self.regions.iter().find(has) else {
+                bytes.push(0);
+                at += 1;
+                continue;
+            };
+            let count = (end - at).min(it.guest + it.len - at);
+            bytes.extend(&self.range(it)[(at - it.guest) as usize..][..count as usize]);
+            at += count;
+        }
+        bytes
+    }
+
     /// The region that has an address, and the place in it.
     pub fn place(&self, address: u64) -> Option<(u64, u64)> {
         let has = |it: &&(usize, &Shown)| it.1.guest <= address && address - it.1.guest < it.1.len;

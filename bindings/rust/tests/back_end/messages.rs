@@ -1,6 +1,7 @@
 //! Messages of a front end: tables of memory, and what rings, features and the log are changed by.
 
 use super::driver::{Driver, FILE, PAGE, PARTS};
+use super::space::Space;
 use crate::front_end::*;
 use crate::ring::Numbers;
 
@@ -60,14 +61,25 @@ pub fn any_table(numbers: &mut Numbers) -> (Vec<u8>, usize) {
     (table(&rows), count)
 }
 
-/// Where a ring lies, for a SET_VRING_ADDR.
-pub fn ring_addresses(index: u32, driver: &Driver, is_logged: bool) -> Vec<u8> {
-    let [desc, avail, used] = PARTS.map(|part| user_address(driver.file, driver.base + part));
-    addresses(index, is_logged.into(), [desc, used, avail, 0])
+/// Where a ring lies, for a SET_VRING_ADDR. Behind an IOMMU its writes are logged where they are made.
+pub fn ring_addresses(index: u32, driver: &Driver, space: &Space, is_logged: bool) -> Vec<u8> {
+    let place = |part| match space.is_on {
+        true => space.iova(driver.file, driver.base + part),
+        false => user_address(driver.file, driver.base + part),
+    };
+    let [desc, avail, used] = PARTS.map(place);
+    let log = if space.is_on { used } else { 0 };
+    addresses(index, is_logged.into(), [desc, used, avail, log])
+}
+
+// A log, which sometimes is too small.
+fn any_log(numbers: &mut Numbers) -> Vec<u8> {
+    let size = if numbers.one_in(12) { 1 + numbers.below(3) } else { 4096 };
+    longs(&[size, 0])
 }
 
 /// A message to change something that may be changed at any time.
-pub fn any_message(numbers: &mut Numbers, drivers: &[Driver; 2], features: u64) -> Sent {
+pub fn any_message(numbers: &mut Numbers, drivers: &[Driver; 2], space: &Space, features: u64) -> Sent {
     let index = numbers.below(2);
     let ring = u64::to_le_bytes(index);
     let without = u64::to_le_bytes(index | NO_DESCRIPTOR);
@@ -81,10 +93,7 @@ pub fn any_message(numbers: &mut Numbers, drivers: &[Driver; 2], features: u64) 
         }
         40..=69 => of(SET_VRING_ENABLE, &two(numbers.below(2) as u32), 0),
         70..=99 => of(SET_FEATURES, &u64::to_le_bytes(features ^ LOG_ALL), 0),
-        100..=114 => {
-            let size = if numbers.one_in(12) { 1 + numbers.below(3) } else { 4096 };
-            of(SET_LOG_BASE, &longs(&[size, 0]), 1)
-        }
+        100..=114 => of(SET_LOG_BASE, &any_log(numbers), 1),
         115..=119 => of(SET_LOG_FD, &[], 1),
         120..=134 => of(SET_VRING_CALL, &ring, 1),
         135..=139 => of(SET_VRING_CALL, &without, 0),
@@ -92,7 +101,8 @@ pub fn any_message(numbers: &mut Numbers, drivers: &[Driver; 2], features: u64) 
         145..=149 => of(SET_VRING_KICK, &ring, 1),
         150..=152 => of(SET_VRING_KICK, &without, 0),
         153..=159 => {
-            let addresses = ring_addresses(index as u32, &drivers[index as usize], numbers.one_in(2));
+            let is_logged = numbers.one_in(2);
+            let addresses = ring_addresses(index as u32, &drivers[index as usize], space, is_logged);
             of(SET_VRING_ADDR, &addresses, 0)
         }
         160..=163 => of(GET_CONFIG, &config(numbers.below(200) as u32, 0, &[0; 8]), 0),
@@ -130,8 +140,9 @@ fn wrong_message(numbers: &mut Numbers, of: impl Fn(u32, &[u8], usize) -> Sent) 
 /// The messages by which a front end sets up a connection, before its rings.
 pub fn begin(numbers: &mut Numbers, features: u64) -> Vec<Sent> {
     let (table, count) = any_table(numbers);
+    let has_channel = features & ACCESS_PLATFORM != 0 && !numbers.one_in(20);
     let of = |request, payload: &[u8], descriptors| (message(request, 0, payload), descriptors);
-    vec![
+    let mut all = vec![
         of(GET_FEATURES, &[], 0),
         of(SET_OWNER, &[], 0),
         of(GET_PROTOCOL_FEATURES, &[], 0),
@@ -139,11 +150,15 @@ pub fn begin(numbers: &mut Numbers, features: u64) -> Vec<Sent> {
         of(SET_LOG_BASE, &longs(&[4096, 0]), 1),
         of(SET_FEATURES, &u64::to_le_bytes(features), 0),
         of(SET_MEM_TABLE, &table, count),
-    ]
+    ];
+    if has_channel {
+        all.push(of(SET_BACKEND_REQ_FD, &[], 1));
+    }
+    all
 }
 
 /// The messages by which a ring is started from a base on.
-pub fn start(numbers: &mut Numbers, index: u32, driver: &Driver, base: u32, features: u64) -> Vec<Sent> {
+pub fn start(numbers: &mut Numbers, index: u32, driver: &Driver, space: &Space, base: u32, features: u64) -> Vec<Sent> {
     let asks = if numbers.one_in(2) { NEED_REPLY } else { 0 };
     let of = |request, payload: &[u8], descriptors| (message(request, asks, payload), descriptors);
     let ring = u64::from(index).to_le_bytes();
@@ -152,10 +167,11 @@ pub fn start(numbers: &mut Numbers, index: u32, driver: &Driver, base: u32, feat
     let first = numbers
         .one_in(4)
         .then(|| of(SET_FEATURES, &u64::to_le_bytes(features), 0));
+    let addresses = ring_addresses(index, driver, space, true);
     let others = [
         of(SET_VRING_NUM, &two(driver.size.into()), 0),
         of(SET_VRING_BASE, &two(base), 0),
-        of(SET_VRING_ADDR, &ring_addresses(index, driver, true), 0),
+        of(SET_VRING_ADDR, &addresses, 0),
         of(SET_VRING_CALL, &ring, 1),
         of(SET_VRING_ERR, &ring, 1),
         of(SET_VRING_KICK, &ring, 1),

@@ -8,5 +8,7 @@ pub mod messages;
 pub mod model;
 pub mod queue;
 pub mod rings;
+pub mod space;
+pub mod table;
 pub mod watch;
 pub mod world;

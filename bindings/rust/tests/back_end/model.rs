@@ -1,12 +1,19 @@
 //! A slow back end: what each event leads to, by the rules of crates/vhost_backend/README.md and of those that it
 //! stands on. It keeps plain lists, and shares no code with the library.
 
+mod behind;
+mod mappings;
+mod reach;
 mod runs;
 
 use super::acts::{Act, Ended};
 use super::memory::{Memory, Shown};
 use super::rings::{Phase, Rings, Todo};
 use crate::front_end::*;
+use crate::slow::Segment;
+use mappings::Questions;
+pub use mappings::Tally;
+use reach::Behind;
 use std::collections::{BTreeSet, VecDeque};
 use vm_memory_proved::back_end::{Disk, Kept, Over, State};
 use vm_memory_proved::vhost_user::{self, Offer, Refusal, Region};
@@ -75,8 +82,17 @@ pub struct Ran {
     pub state: State,
 }
 
-/// A chain that was popped: its ring, its id, and what the device may write.
-pub type PoppedChain = (usize, u16, Vec<(u64, u64)>);
+/// A chain that was popped.
+pub struct PoppedChain {
+    pub ring: usize,
+    pub id: u16,
+    /// What the device reads and may write, and to which guest addresses the latter leads.
+    pub read: Vec<(u64, u64)>,
+    pub written: Vec<(u64, u64)>,
+    pub lands: Vec<(u64, u64)>,
+    /// All of it was found.
+    pub is_whole: bool,
+}
 
 pub struct Model {
     protocol: Slow,
@@ -107,10 +123,21 @@ pub struct Model {
     called: Option<u32>,
     why: Option<Ended>,
     ids: usize,
+    // Rings are behind an IOMMU, the ranges that a table of it has, and the back end's own channel.
+    pub behind: Option<Behind>,
+    // The same, while they are not.
+    aside: Option<Behind>,
+    has_channel: bool,
+    questions: Questions,
+    pub tally: Tally,
 }
 
 fn word(bytes: &[u8], at: usize) -> u32 {
     u32::from_le_bytes(bytes[at..at + 4].try_into().unwrap())
+}
+
+fn long(bytes: &[u8], at: usize) -> u64 {
+    u64::from_le_bytes(bytes[at..at + 8].try_into().unwrap())
 }
 
 impl Model {
@@ -138,6 +165,11 @@ impl Model {
             called: None,
             why: None,
             ids: offer.max_queue_size as usize,
+            behind: None,
+            aside: Some(Behind::new(disk.table_limit, count, offer.max_queue_size as usize)),
+            has_channel: false,
+            questions: Questions::default(),
+            tally: Tally::default(),
         }
     }
 
@@ -161,7 +193,8 @@ impl Model {
     // Whether nothing is left of what followed from the last event.
     fn is_done(&self) -> bool {
         let is_quiet = self.reply.is_empty() && self.called.is_none() && self.why.is_none();
-        self.work.is_empty() && self.lost.is_none() && is_quiet
+        let asks = self.is_free() && self.questions.is_due();
+        self.work.is_empty() && self.lost.is_none() && is_quiet && !asks
     }
 
     /// Whether a message can be told.
@@ -207,6 +240,7 @@ impl Model {
             SET_MEM_TABLE | SET_FEATURES | SET_LOG_BASE => Until::AllRings,
             SET_VRING_ADDR if is_there && self.rings.rings[index].phase != Phase::Stopped => Until::AllRings,
             GET_VRING_BASE if is_there => Until::Ring(index),
+            IOTLB_MSG => self.until_of_table(message),
             _ => Until::Now,
         };
         let todo = match until {
@@ -270,8 +304,11 @@ impl Model {
             Some(Act::Send(reply))
         } else if let Some(ring) = self.called.take() {
             Some(Act::Interrupt(ring))
+        } else if let Some(why) = self.why.take() {
+            Some(Act::End(why))
         } else {
-            self.why.take().map(Act::End)
+            let ask = |(ring, iova, access)| Act::Ask(ring as u32, iova, access, false);
+            self.asks().map(ask)
         };
         let is_said = act.is_some();
         self.acts.extend(act);
@@ -281,13 +318,14 @@ impl Model {
     // A message took effect: what it asks for is done.
     fn begin(&mut self) {
         use vhost_user::Request::*;
-        let Taken::Begun(_, request, _) = self.taken else {
+        let Taken::Begun(message, request, _) = self.taken.clone() else {
             return;
         };
         let keep = |what, has_one| Act::Keep(what, has_one);
         let act = match request {
             SetMemTable => {
                 self.memory.show(Vec::new());
+                self.forget_all();
                 self.acts.push(Act::UnmapAll);
                 return self.map_next();
             }
@@ -297,6 +335,12 @@ impl Model {
             SetVringKick { index, descriptor } => keep(Kept::Kick(index), descriptor),
             SetVringCall { index, descriptor } => keep(Kept::Call(index), descriptor),
             SetVringErr { index, descriptor } => keep(Kept::Err(index), descriptor),
+            IotlbMsg => {
+                return match self.apply(&message) {
+                    true => self.finish(),
+                    false => self.failed(),
+                }
+            }
             _ => return self.finish(),
         };
         self.acts.push(act);
@@ -326,6 +370,9 @@ impl Model {
         if let Taken::Begun(_, vhost_user::Request::SetLogBase { size, .. }, _) = self.taken {
             self.log = Some(size);
         }
+        if let Taken::Begun(_, vhost_user::Request::SetBackendReqFd, _) = self.taken {
+            self.channel_changed(true);
+        }
         self.finish();
     }
 
@@ -349,7 +396,30 @@ impl Model {
                 let base = queue.base();
                 self.protocol.stop(index, base).expect("it is stopped");
             }
+            self.drop_fetch(index as usize);
         }
+        self.reply = self.protocol.reply(&message, true);
+        if request == vhost_user::Request::IotlbMsg {
+            return;
+        }
+        self.run_rings();
+        if let vhost_user::Request::SetVringCall { index, .. } = request {
+            self.called = Some(index);
+        }
+        let log = self.log.filter(|_| self.protocol.features & LOG_ALL != 0);
+        self.logged = log.map(|bytes| bytes.saturating_mul(8));
+        let is_behind = self.protocol.features & ACCESS_PLATFORM != 0;
+        if is_behind != self.behind.is_some() {
+            std::mem::swap(&mut self.behind, &mut self.aside);
+        }
+        let has_bit = |it: &Region| self.has_bits(it.guest_address, it.size);
+        if !self.protocol.regions.iter().all(has_bit) {
+            self.end(Ended::By(Over::Log));
+        }
+    }
+
+    // Each ring runs if the messages so far have it run, and is told again where it lies.
+    fn run_rings(&mut self) {
         for index in 0..self.rings.rings.len() {
             let runs = self.protocol.running(index as u32).is_ok();
             let is_stopped = self.rings.rings[index].phase == Phase::Stopped;
@@ -362,16 +432,6 @@ impl Model {
             if runs {
                 self.rings.start(index);
             }
-        }
-        self.reply = self.protocol.reply(&message, true);
-        if let vhost_user::Request::SetVringCall { index, .. } = request {
-            self.called = Some(index);
-        }
-        let log = self.log.filter(|_| self.protocol.features & LOG_ALL != 0);
-        self.logged = log.map(|bytes| bytes.saturating_mul(8));
-        let has_bit = |it: &Region| self.has_bits(it.guest_address, it.size);
-        if !self.protocol.regions.iter().all(has_bit) {
-            self.end(Ended::By(Over::Log));
         }
     }
 
@@ -395,6 +455,12 @@ impl Model {
     pub fn hang_up(&mut self) {
         self.end(Ended::By(Over::HungUp));
     }
+}
+
+// What a device reads of a chain, or may write.
+fn side(segments: &[Segment], is_written: bool) -> Vec<(u64, u64)> {
+    let those = segments.iter().filter(|it| it.is_written == is_written);
+    those.map(|it| (it.addr, it.len)).collect()
 }
 
 // Whether a message is refused by its form, whatever came before it.

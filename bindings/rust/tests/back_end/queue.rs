@@ -11,13 +11,20 @@ pub struct Popped {
     pub segments: Vec<Segment>,
 }
 
-/// A driver broke a rule, or its ring cannot be reached.
-#[derive(Debug)]
-pub struct Broken;
+/// A driver broke a rule, or its ring cannot be reached: then these bytes of it.
+#[derive(Debug, Default)]
+pub struct Broken {
+    pub missed: Option<(u64, u64)>,
+}
 
 impl From<Refusal> for Broken {
-    fn from(_: Refusal) -> Broken {
-        Broken
+    fn from(refusal: Refusal) -> Broken {
+        match refusal {
+            Refusal::GuestMemory(address, len) => Broken {
+                missed: Some((address, len)),
+            },
+            Refusal::Named(_) => Broken::default(),
+        }
     }
 }
 
@@ -73,15 +80,11 @@ pub struct DeviceQueue {
 }
 
 impl DeviceQueue {
-    /// A queue that begins at a base, or `None` if none of this size and base can be there. A split one returns the
-    /// next chain where its used ring says.
-    pub fn new(is_packed: bool, size: u32, base: u32, parts: [u64; 3], event_idx: bool, image: &Image) -> Option<Self> {
+    /// A queue that begins at a base, or `None` if none of this size and base can be there. Where a split one returns
+    /// the next chain is not read yet.
+    pub fn new(is_packed: bool, size: u32, base: u32, parts: [u64; 3], event_idx: bool) -> Option<Self> {
         let size = u16::try_from(size).ok()?;
         let slots = [Slot::of(base as u16), Slot::of((base >> 16) as u16)];
-        let used = match is_packed {
-            true => 0,
-            false => image.number(parts[2] + 2, 2).ok()? as u16,
-        };
         let fits = match is_packed {
             false => size.is_power_of_two(),
             // No more slots are out than there are.
@@ -99,11 +102,19 @@ impl DeviceQueue {
             size,
             parts,
             event_idx,
-            next: [base as u16, used],
+            next: [base as u16, 0],
             slots,
             added: None,
         };
         queue.moved(parts).filter(|_| fits)
+    }
+
+    /// A split queue returns the next chain where its used ring says.
+    pub fn read_place(&mut self, image: &Image) -> Result<(), Broken> {
+        if !self.is_packed {
+            self.next[1] = image.number(self.parts[2] + 2, 2)? as u16;
+        }
+        Ok(())
     }
 
     /// The same queue, which lies elsewhere.
@@ -144,6 +155,12 @@ impl DeviceQueue {
         }))
     }
 
+    /// The same, where another one pops next.
+    pub fn pops_as(&mut self, other: &DeviceQueue) {
+        self.next[0] = other.next[0];
+        self.slots[0] = other.slots[0];
+    }
+
     // Whether the slot that is popped next was made available.
     fn is_available(&self, image: &Image) -> Result<bool, Broken> {
         let [next, _] = self.slots;
@@ -165,7 +182,7 @@ impl DeviceQueue {
         let room = u32::from(self.size) - self.out();
         let id = loop {
             if u32::from(slots) == room {
-                return Err(Broken);
+                return Err(Broken::default());
             }
             let [addr, len, id, flags] = descriptor(image, self.parts[0], at.at.into())?;
             slots += 1;
@@ -180,7 +197,7 @@ impl DeviceQueue {
             }
         };
         if fault(&segments).is_some() {
-            return Err(Broken);
+            return Err(Broken::default());
         }
         self.slots[0] = at;
         Ok(Some(Popped {

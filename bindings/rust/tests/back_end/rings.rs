@@ -1,6 +1,7 @@
 //! Rings, their requests and their turns, in the words of crates/vhost_backend/README.md.
 
 use super::queue::DeviceQueue;
+use super::table::Range;
 use crate::slow::Segment;
 use std::collections::{BTreeMap, VecDeque};
 use vm_memory_proved::block::Request;
@@ -28,6 +29,23 @@ pub struct UnderWay {
     /// How many parts have not ended.
     pub left: u64,
     pub moved: u64,
+    /// Where its I/O addresses lead, and whether it has writable bytes that are not among the segments.
+    pub kept: Vec<Range>,
+    pub has_more: bool,
+}
+
+impl UnderWay {
+    pub fn new(slots: u16, segments: Vec<Segment>, request: Request) -> UnderWay {
+        UnderWay {
+            slots,
+            segments,
+            left: parts_of(&request),
+            request,
+            moved: 0,
+            kept: Vec::new(),
+            has_more: false,
+        }
+    }
 }
 
 /// What is to be done for a ring.
@@ -55,6 +73,9 @@ pub struct Ring {
     pub is_notified: bool,
     pub under_way: BTreeMap<u16, UnderWay>,
     pub queue: Option<DeviceQueue>,
+    /// Where it returns chains was not read, and where writes to its used ring are logged.
+    pub is_unread: bool,
+    pub log: Option<u64>,
 }
 
 impl Ring {
@@ -116,6 +137,8 @@ impl Rings {
             is_notified: false,
             under_way: BTreeMap::new(),
             queue: None,
+            is_unread: false,
+            log: None,
         };
         Rings {
             rings: (0..count).map(ring).collect(),
@@ -211,21 +234,13 @@ impl Rings {
     }
 
     /// A chain was popped in a turn.
-    pub fn popped(&mut self, index: usize, id: u16, slots: u16, segments: Vec<Segment>, request: Request) -> Vec<Todo> {
+    pub fn popped(&mut self, index: usize, id: u16, it: UnderWay) -> Vec<Todo> {
         if let Some((_, chains, bytes)) = &mut self.turn {
             *chains -= 1;
-            *bytes = bytes.saturating_sub(len_of(&request));
+            *bytes = bytes.saturating_sub(len_of(&it.request));
         }
         let ring = &mut self.rings[index];
-        let left = parts_of(&request);
-        let it = UnderWay {
-            slots,
-            segments,
-            request,
-            left,
-            moved: 0,
-        };
-        let todo = if left == 0 {
+        let todo = if it.left == 0 {
             ring.owes = true;
             Todo::Return(id, it, false)
         } else {

@@ -4,18 +4,27 @@
 //! A page that a chain's request may change is marked after the last write to it and in a run before the one in which
 //! the chain shows up as returned. Other bytes that a run changes are marked by that run.
 
-use super::acts::Served;
-use super::driver::{Driver, Published, PAGE, PARTS};
+use super::acts::{add_piece, Served};
+use super::driver::{word_at, Driver, Published, PAGE, PARTS};
 use super::memory::Shown;
+use super::model::PoppedChain;
+use super::rings::PART;
+use super::space::Space;
+use super::table::{Table, WRITE};
 use crate::guest::Guest;
 use std::collections::{BTreeMap, BTreeSet};
+use vm_memory_proved::back_end::Way;
 
 // A chain that was published, and was not seen as returned.
 struct Out {
     id: u16,
     slots: u16,
-    // What the device may write there.
+    // What the device may write there, and what it reads.
     written: Vec<(u64, u64)>,
+    read: Vec<(u64, u64)>,
+    // How many parts of its request were served, and whether it was popped whole.
+    parts: u64,
+    is_whole: bool,
     // Whether the device read it as it was published.
     is_known: bool,
     // The pages that are marked before it is returned, and the run from which on they have to be.
@@ -35,6 +44,8 @@ struct Ring {
     out: Vec<Out>,
     // What lies there was not written by driver and device alone.
     is_lost: bool,
+    // That may be.
+    is_unsure: bool,
 }
 
 /// What was seen.
@@ -44,6 +55,7 @@ pub struct Seen {
     pub logged: u64,
     pub pages: u64,
     pub lost: u64,
+    pub led: u64,
 }
 
 impl Seen {
@@ -52,6 +64,7 @@ impl Seen {
         self.logged += other.logged;
         self.pages += other.pages;
         self.lost += other.lost;
+        self.led += other.led;
     }
 }
 
@@ -65,8 +78,12 @@ pub struct Watch {
     // How many pages had a bit before the run, and what lay in the files.
     bits: Option<u64>,
     before: Vec<Vec<u8>>,
+    said: Vec<Table>,
     pub seen: Seen,
 }
+
+/// What a guest looks at: files, by what its I/O table says.
+pub type Eyes<'a> = (&'a [Guest; 2], &'a Space);
 
 fn pages_of(written: &[(u64, u64)]) -> impl Iterator<Item = u64> + '_ {
     let of = |&(address, len): &(u64, u64)| address / PAGE..=address.saturating_add(len - 1) / PAGE;
@@ -74,29 +91,28 @@ fn pages_of(written: &[(u64, u64)]) -> impl Iterator<Item = u64> + '_ {
 }
 
 impl Ring {
-    fn word(&self, guests: &[Guest; 2], offset: u64) -> u16 {
-        let bytes = guests[self.file].read((self.base + offset) as usize, 2);
-        u16::from_le_bytes([bytes[0], bytes[1]])
+    fn word(&self, (guests, space): Eyes<'_>, offset: u64) -> u16 {
+        word_at(guests, space, self.file, self.base + offset)
     }
 
     // The id of the chain that shows up as returned next, if one does.
-    fn returned(&self, guests: &[Guest; 2]) -> Option<u16> {
+    fn returned(&self, eyes: Eyes<'_>) -> Option<u16> {
         if self.is_packed {
             let place = 16 * u64::from(self.slot.0);
-            let flags = self.word(guests, place + 14);
+            let flags = self.word(eyes, place + 14);
             let is_used = (flags & 0x80 != 0) == self.slot.1 && (flags & 0x8000 != 0) == self.slot.1;
-            return is_used.then(|| self.word(guests, place + 12));
+            return is_used.then(|| self.word(eyes, place + 12));
         }
-        let is_used = self.word(guests, PARTS[2] + 2) != self.next;
-        is_used.then(|| self.word(guests, PARTS[2] + 4 + 8 * u64::from(self.next % self.size)))
+        let is_used = self.word(eyes, PARTS[2] + 2) != self.next;
+        is_used.then(|| self.word(eyes, PARTS[2] + 4 + 8 * u64::from(self.next % self.size)))
     }
 
     // Takes a chain that shows up as returned. `None` if there is none.
-    fn take(&mut self, guests: &[Guest; 2]) -> Option<Out> {
+    fn take(&mut self, eyes: Eyes<'_>) -> Option<Out> {
         if self.is_lost || self.out.is_empty() {
             return None;
         }
-        let id = self.returned(guests)?;
+        let id = self.returned(eyes)?;
         let place = self.out.iter().position(|it| it.id == id);
         let Some(place) = place else {
             self.is_lost = true;
@@ -113,7 +129,25 @@ impl Ring {
     }
 }
 
+// Whether a page may be written through a table.
+fn leads_to(said: &Table, page: u64) -> bool {
+    let (from, end) = (PAGE * page, PAGE * (page + 1));
+    let has = |it: &super::table::Range| it.to < end && from < it.to + it.len;
+    said.ranges.iter().any(|it| it.access & WRITE != 0 && has(it))
+}
+
 impl Watch {
+    /// Whether all chains of a ring were returned, as far as that can be seen.
+    pub fn is_served(&self, index: usize) -> bool {
+        let it = &self.rings[index];
+        it.is_lost || it.is_unsure || it.out.is_empty()
+    }
+
+    /// Bytes of rings may be others than their drivers wrote.
+    pub fn lose_all(&mut self) {
+        self.rings.iter_mut().for_each(|it| it.is_unsure = true);
+    }
+
     /// A driver made its ring anew, from a base on.
     pub fn begin(&mut self, index: usize, driver: &Driver, base: u32) {
         self.rings[index] = Ring {
@@ -134,6 +168,9 @@ impl Watch {
             id: it.id,
             slots: it.slots,
             written: it.written,
+            read: it.read,
+            parts: 0,
+            is_whole: false,
             is_known: true,
             pages: BTreeSet::new(),
             since: 0,
@@ -160,26 +197,80 @@ impl Watch {
 
     /// The device popped a chain in the last run, and may write there. A driver that writes elsewhere than it meant to
     /// may have changed its own chains.
-    pub fn popped(&mut self, index: usize, id: u16, written: &[(u64, u64)]) {
+    pub fn popped(&mut self, chain: &PoppedChain) {
         let run = self.run;
-        let Some(it) = self.out(index, id) else { return };
+        let Some(it) = self.out(chain.ring, chain.id) else {
+            return;
+        };
         it.since = run;
-        it.is_known &= it.written == written;
+        it.is_whole = chain.is_whole;
+        it.is_known &= it.written == chain.written && it.read == chain.read;
         if it.is_known {
-            it.pages.extend(pages_of(written));
+            it.pages.extend(pages_of(&chain.lands));
         }
     }
 
-    /// A part is served, which may change these pieces.
+    /// A part is served, which may change these pieces. They are where the front end says, before the last message on
+    /// that or after it.
     pub fn served(&mut self, part: &Served) {
         let regions = &self.regions;
         let of = |&(region, offset, len): &(u64, u64, u64)| (regions[region as usize].guest + offset, len);
         let places: Vec<_> = part.pieces.iter().map(of).collect();
+        let Some(it) = self.out(part.ring as usize, part.id as u16) else {
+            return;
+        };
+        let nth = it.parts;
+        it.parts += 1;
         if part.is_written() {
-            if let Some(it) = self.out(part.ring as usize, part.id as u16) {
-                it.pages.extend(pages_of(&places));
+            it.pages.extend(pages_of(&places));
+        }
+        let is_known = it.is_known && it.is_whole && matches!(part.way, Way::Read | Way::Write | Way::Name);
+        let chain = if part.is_written() {
+            it.written.clone()
+        } else {
+            it.read.clone()
+        };
+        if !is_known || self.said.is_empty() {
+            return;
+        }
+        let skipped = PART * nth + if part.is_written() { 0 } else { 16 };
+        let led = self
+            .said
+            .iter()
+            .any(|said| self.led(said, &chain, skipped, part.len) == Some(part.pieces.clone()));
+        assert!(
+            led,
+            "{part:?} of {chain:x?} is not where it was said to lie: {:x?}",
+            self.said
+        );
+        self.seen.led += 1;
+    }
+
+    // Where bytes of a chain lead.
+    fn led(&self, said: &Table, chain: &[(u64, u64)], skipped: u64, len: u64) -> Option<Vec<(u64, u64, u64)>> {
+        let (mut skipped, mut left, mut pieces) = (skipped, len, Vec::new());
+        for (iova, count) in chain {
+            let start = skipped.min(*count);
+            skipped -= start;
+            let (mut at, end) = (iova + start, iova + start + left.min(count - start));
+            left -= end - at;
+            while at < end {
+                let range = said.at(at)?.part(at, end)?;
+                let has = |it: &&Shown| it.guest <= range.to && range.to - it.guest < it.len;
+                let number = self.regions.iter().position(|it| has(&it))?;
+                let offset = range.to - self.regions[number].guest;
+                let here = range.len.min(self.regions[number].len - offset);
+                add_piece(&mut pieces, number as u64, offset, here);
+                at += here;
             }
         }
+        Some(pieces)
+    }
+
+    /// What the front end says now of I/O addresses, and what it said before the message that is under way: nothing, if
+    /// there is no IOMMU.
+    pub fn hear(&mut self, said: Vec<Table>) {
+        self.said = said;
     }
 
     /// The end of a part goes into the next run: its bytes were written.
@@ -193,24 +284,24 @@ impl Watch {
     }
 
     /// A run comes. So many pages have a bit in the log, if writes are logged.
-    pub fn before(&mut self, guests: &[Guest; 2], bits: Option<u64>, len: u64) {
+    pub fn before(&mut self, eyes: Eyes<'_>, bits: Option<u64>, len: u64) {
         self.run += 1;
         self.bits = bits;
         self.before.clear();
-        if bits.is_some() {
-            self.before.extend(guests.iter().map(|it| it.read(0, len as usize)));
+        if bits.is_some() || !self.said.is_empty() {
+            self.before.extend(eyes.0.iter().map(|it| it.read(0, len as usize)));
         }
         for ring in &mut self.rings {
             // The guest itself wrote there.
-            ring.is_lost |= !ring.out.is_empty() && ring.returned(guests).is_some();
+            ring.is_lost |= !ring.out.is_empty() && ring.returned(eyes).is_some();
         }
     }
 
     /// The run marked these pages. None of them was marked by the program yet.
-    pub fn after(&mut self, guests: &[Guest; 2], bits: Option<u64>, marks: &BTreeSet<u64>) {
+    pub fn after(&mut self, eyes: Eyes<'_>, bits: Option<u64>, marks: &BTreeSet<u64>) {
         let bits = self.bits.filter(|before| bits == Some(*before));
         for index in 0..2 {
-            while let Some(out) = self.rings[index].take(guests) {
+            while let Some(out) = self.rings[index].take(eyes) {
                 self.seen.returned += 1;
                 self.seen.lost += u64::from(!out.is_known);
                 if let Some(bits) = bits {
@@ -218,9 +309,7 @@ impl Watch {
                 }
             }
         }
-        if let Some(bits) = bits {
-            self.expect_changes(guests, bits, marks);
-        }
+        self.expect_changes(eyes.0, bits, marks);
         for page in marks {
             self.marks.entry(*page).or_default().push(self.run);
         }
@@ -241,8 +330,11 @@ impl Watch {
         }
     }
 
-    // What was changed by this run was marked by it.
-    fn expect_changes(&self, guests: &[Guest; 2], bits: u64, marks: &BTreeSet<u64>) {
+    // What was changed by this run was marked by it, and lies where the device may write.
+    fn expect_changes(&self, guests: &[Guest; 2], bits: Option<u64>, marks: &BTreeSet<u64>) {
+        if self.before.is_empty() {
+            return;
+        }
         for it in &self.regions {
             let before = &self.before[it.file][it.offset as usize..][..it.len as usize];
             let now = guests[it.file].read(it.offset as usize, it.len as usize);
@@ -250,10 +342,15 @@ impl Watch {
             let changed = (it.guest / PAGE..)
                 .zip(pages)
                 .filter(|(_, (before, now))| before != now);
-            for (page, _) in changed.filter(|it| it.0 < bits) {
+            for (page, _) in changed {
+                let has_bit = bits.is_some_and(|bits| page < bits);
                 assert!(
-                    marks.contains(&page),
+                    !has_bit || marks.contains(&page),
                     "page {page:#x} was changed, and not marked by this run"
+                );
+                assert!(
+                    self.said.is_empty() || self.said.iter().any(|said| leads_to(said, page)),
+                    "page {page:#x} was changed, and nothing leads there"
                 );
             }
         }

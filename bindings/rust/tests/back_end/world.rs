@@ -1,20 +1,25 @@
 //! A back end beside the slow one: both get the same events, and are to do the same.
 
-use super::acts::{add_piece, Act, Ended, Served};
+mod actions;
+mod behind;
+mod calm;
+mod front;
+
+use super::acts::{Act, Served};
 use super::driver::{Bytes, Driver, FILE, PAGE, SECTORS};
-use super::memory::Shown;
 use super::messages::{self, any_message, Sent, FEATURES, OF_PROTOCOL};
 use super::model::{Model, Ran};
-use super::rings::PART;
+use super::space::Space;
 use super::watch::{Seen, Watch};
 use crate::front_end::*;
 use crate::guest::Guest;
 use crate::ring::Numbers;
+use front::{Counted, Front};
 use std::collections::{BTreeSet, VecDeque};
-use std::os::fd::{AsFd, OwnedFd};
-use vm_memory_proved::back_end::{Action, BackEnd, Disk, Part, PartEnd, Piece, Region, Room, Way};
+use std::os::fd::OwnedFd;
+use vm_memory_proved::back_end::{BackEnd, Disk, PartEnd, Room, State, Way};
 use vm_memory_proved::memfd;
-use vm_memory_proved::vhost_user::{Offer, Region as Announced};
+use vm_memory_proved::vhost_user::Offer;
 
 const NAME: &[u8; 20] = b"a disk of the tests\0";
 
@@ -41,6 +46,7 @@ pub struct Counts {
     pub cut: u64,
     pub left: u64,
     pub seen: Seen,
+    pub behind: Counted,
 }
 
 /// What outlives connections.
@@ -81,11 +87,16 @@ pub struct World<'a> {
     watch: Watch,
     is_over: bool,
     features: u64,
+    space: Space,
+    front: Front,
+    // Only what has to come does.
+    is_calm: bool,
+    state: State,
 }
 
-fn offer() -> Offer {
+fn offer(limit: u32) -> Offer {
     Offer {
-        features: FEATURES,
+        features: FEATURES | if limit == 0 { 0 } else { ACCESS_PLATFORM },
         protocol_features: OF_PROTOCOL,
         queues: 2,
         max_queue_size: 128,
@@ -94,26 +105,34 @@ fn offer() -> Offer {
     }
 }
 
+fn any_disk(numbers: &mut Numbers, table_limit: u32) -> Disk {
+    Disk {
+        sectors: SECTORS,
+        seg_max: 126,
+        size_max: 0x3f00,
+        read_only: numbers.one_in(10).into(),
+        unread: 300 + numbers.below(4000) as u32,
+        table_limit,
+    }
+}
+
 impl<'a> World<'a> {
     pub fn new(numbers: &'a mut Numbers, all: &'a mut Files, counts: &'a mut Counts) -> World<'a> {
-        let offer = offer();
-        let disk = Disk {
-            sectors: SECTORS,
-            seg_max: 126,
-            size_max: 0x3f00,
-            read_only: numbers.one_in(10).into(),
-            unread: 300 + numbers.below(4000) as u32,
-        };
+        let (limit, space) = front::any_space(numbers);
+        let offer = offer(limit);
+        let disk = any_disk(numbers, limit);
         let mut config = [0; 256];
         config[..8].copy_from_slice(&SECTORS.to_le_bytes());
-        let features = any_features(numbers);
+        let features = any_features(numbers) | if limit == 0 { 0 } else { ACCESS_PLATFORM };
+        let shift = if space.is_on && numbers.one_in(3) { PAGE / 2 } else { 0 };
         let files = all.guests.each_ref().map(|it| it.read(0, FILE as usize)).to_vec();
         counts.connections += 1;
+        counts.behind.connections += u64::from(space.is_on);
         World {
             due: messages::begin(numbers, features).into(),
             back_end: BackEnd::new(&offer, &config, &disk).unwrap(),
             model: Model::new(&offer, &config, &disk, files),
-            drivers: [0, 1].map(|index| any_driver(numbers, index, features)),
+            drivers: [0, 1].map(|index| any_driver(numbers, index, shift, features)),
             numbers,
             all,
             counts,
@@ -126,6 +145,10 @@ impl<'a> World<'a> {
             watch: Watch::default(),
             is_over: false,
             features,
+            space,
+            front: Front::new(),
+            is_calm: false,
+            state: State::Free,
         }
     }
 
@@ -141,14 +164,29 @@ impl<'a> World<'a> {
             if self.numbers.one_in(10) {
                 self.take_marks();
             }
+            if self.numbers.one_in(300) {
+                self.calm_down();
+            }
         }
+        self.calm_down();
         self.counts.seen.add(&self.watch.seen);
+        self.counts.behind.tally.add(&self.model.tally);
     }
 
     // ---- events
 
     fn any_event(&mut self) {
         let is_free = self.model.can_take();
+        if self.space.is_on && self.is_set_up && !self.is_over {
+            let many = match (self.front.is_asked(), self.parts.is_empty()) {
+                (true, _) => 2,
+                (false, false) => 4,
+                _ => 8,
+            };
+            if self.numbers.one_in(many) {
+                return self.any_behind();
+            }
+        }
         match self.numbers.below(100) {
             0..=29 if self.is_set_up && !self.is_over => self.publish(),
             0..=39 if is_free => self.send_message(),
@@ -161,15 +199,7 @@ impl<'a> World<'a> {
                 self.model.sent(bytes);
             }
             96 if self.numbers.one_in(30) => self.scribble(),
-            97 if self.numbers.one_in(10) => {
-                let sectors = if self.numbers.one_in(2) {
-                    SECTORS
-                } else {
-                    self.numbers.below(SECTORS)
-                };
-                self.back_end.resize(sectors);
-                self.model.resize(sectors);
-            }
+            97 if self.numbers.one_in(10) => self.resize(),
             98 if self.numbers.one_in(20) => {
                 self.back_end.hang_up();
                 self.model.hang_up();
@@ -179,16 +209,17 @@ impl<'a> World<'a> {
         }
     }
 
-    fn bytes<'b>(guests: &'b [Guest; 2], model: &'b mut Model) -> Bytes<'b> {
+    fn bytes<'b>(guests: &'b [Guest; 2], model: &'b mut Model, space: &'b Space) -> Bytes<'b> {
         Bytes {
             guests,
             memory: &mut model.memory,
+            space,
         }
     }
 
     fn publish(&mut self) {
         let index = self.numbers.below(2) as usize;
-        let mut bytes = World::bytes(&self.all.guests, &mut self.model);
+        let mut bytes = World::bytes(&self.all.guests, &mut self.model, &self.space);
         self.drivers[index].take_used(&bytes);
         // Sometimes the ring gets full.
         let fills = self.numbers.one_in(60);
@@ -199,6 +230,9 @@ impl<'a> World<'a> {
         for _ in 0..count {
             if let Some(it) = self.drivers[index].publish(&mut bytes, self.numbers, !fills) {
                 self.watch.publish(index, it);
+            }
+            if std::mem::take(&mut self.drivers[index].has_scribbled) {
+                self.watch.lose_all();
             }
         }
         if !self.numbers.one_in(8) {
@@ -215,8 +249,19 @@ impl<'a> World<'a> {
 
     fn suppress(&mut self) {
         let index = self.numbers.below(2) as usize;
-        let mut bytes = World::bytes(&self.all.guests, &mut self.model);
+        let mut bytes = World::bytes(&self.all.guests, &mut self.model, &self.space);
         self.drivers[index].suppress(&mut bytes, self.numbers);
+    }
+
+    // The disk gets another size, or its own again.
+    fn resize(&mut self) {
+        let sectors = if self.numbers.one_in(2) {
+            SECTORS
+        } else {
+            self.numbers.below(SECTORS)
+        };
+        self.back_end.resize(sectors);
+        self.model.resize(sectors);
     }
 
     // The guest writes anywhere.
@@ -227,7 +272,8 @@ impl<'a> World<'a> {
             true => (driver.file, driver.base + self.numbers.below(PAGE - 8)),
             false => (index, self.numbers.below(FILE - 8)),
         };
-        World::bytes(&self.all.guests, &mut self.model).put(file, offset, &value.to_le_bytes());
+        World::bytes(&self.all.guests, &mut self.model, &self.space).put(file, offset, &value.to_le_bytes());
+        self.watch.lose_all();
     }
 
     fn wrong_end(&mut self) {
@@ -246,7 +292,7 @@ impl<'a> World<'a> {
     // Some parts end, in any order.
     fn end_parts(&mut self) {
         let most = self.parts.len() as u64;
-        let count = if self.numbers.one_in(3) {
+        let count = if self.is_calm || self.numbers.one_in(3) {
             most
         } else {
             self.numbers.below(most + 1)
@@ -257,7 +303,7 @@ impl<'a> World<'a> {
                 false => self.numbers.below(self.parts.len() as u64) as usize,
             };
             let part = self.parts.remove(place);
-            let failed = self.numbers.one_in(20);
+            let failed = !self.is_calm && self.numbers.one_in(20);
             let bytes = if self.numbers.one_in(60) {
                 self.numbers.below(1 << 21)
             } else {
@@ -287,7 +333,7 @@ impl<'a> World<'a> {
                 _ => return,
             };
             let it = self.model.memory.regions[region as usize];
-            World::bytes(&self.all.guests, &mut self.model).put(it.file, it.offset + offset, &data);
+            World::bytes(&self.all.guests, &mut self.model, &self.space).put_there(it.file, it.offset + offset, &data);
             done += len;
         }
     }
@@ -301,12 +347,12 @@ impl<'a> World<'a> {
         self.is_set_up = true;
         if let Some(index) = self.stopped.iter().position(|it| *it) {
             if self.numbers.one_in(3) {
-                let mut bytes = World::bytes(&self.all.guests, &mut self.model);
+                let mut bytes = World::bytes(&self.all.guests, &mut self.model, &self.space);
                 let base = self.drivers[index].begin(&mut bytes, self.numbers);
                 self.watch.begin(index, &self.drivers[index], base);
                 self.stopped[index] = false;
-                self.due =
-                    messages::start(self.numbers, index as u32, &self.drivers[index], base, self.features).into();
+                let driver = &self.drivers[index];
+                self.due = messages::start(self.numbers, index as u32, driver, &self.space, base, self.features).into();
                 return self.due.pop_front().unwrap();
             }
         }
@@ -314,11 +360,15 @@ impl<'a> World<'a> {
             let index = self.numbers.below(2) as u32;
             return (message(GET_VRING_BASE, 0, &words(&[index, 0])), 0);
         }
-        any_message(self.numbers, &self.drivers, self.features)
+        any_message(self.numbers, &self.drivers, &self.space, self.features)
     }
 
     fn send_message(&mut self) {
-        let (message, descriptors) = self.next_message();
+        let sent = self.next_message();
+        self.send(sent);
+    }
+
+    fn send(&mut self, (message, descriptors): Sent) {
         let is_taken = self.back_end.message(&message, descriptors);
         assert_eq!(is_taken, self.model.message(&message, descriptors));
         self.counts.messages += 1;
@@ -335,24 +385,28 @@ impl<'a> World<'a> {
             self.counts.logs += u64::from((self.features ^ features) & LOG_ALL != 0);
             self.features = features;
         }
+        self.hear(&message);
         // None is taken while one is under way.
         if !self.model.can_take() && self.numbers.one_in(10) {
             assert!(!self.back_end.message(&message, descriptors));
         }
     }
 
-    // ---- actions
+    // ---- runs
 
     // Both do what follows.
     fn settle(&mut self) {
         for run in 0.. {
             assert!(run < 10_000, "it does not come to rest");
             let (acts, has_more) = self.run();
+            self.expect_order(&acts, has_more);
             let is_asked = self.perform(&acts);
             if !is_asked && !has_more {
+                // A message waits for the ends of parts alone.
+                assert!(self.state != State::Busy || !self.parts.is_empty() || !self.ends.is_empty());
                 return;
             }
-            if run < 5 && !is_asked && self.numbers.one_in(4) {
+            if run < 5 && !is_asked && !self.is_calm && self.numbers.one_in(4) {
                 // The guest does not wait.
                 self.any_event();
             }
@@ -369,16 +423,17 @@ impl<'a> World<'a> {
     fn run(&mut self) -> (Vec<Act>, bool) {
         let turns = self.numbers.below(4) as u32;
         let bits = self.bits();
-        self.watch.before(&self.all.guests, bits, FILE);
+        self.watch.hear(self.front.said(&self.space));
+        self.watch.before((&self.all.guests, &self.space), bits, FILE);
         let mut room = self.all.room.take().unwrap();
         self.back_end.run(&self.ends, turns, &mut room);
         let (acts, marks) = self.acts_of(&room);
         let wanted = self.model.run(&self.ends, turns);
-        for (index, id, written) in &self.model.popped {
-            self.watch.popped(*index, *id, written);
+        for chain in &self.model.popped {
+            self.watch.popped(chain);
         }
         let bits = self.bits();
-        self.watch.after(&self.all.guests, bits, &marks);
+        self.watch.after((&self.all.guests, &self.space), bits, &marks);
         self.marked.extend(marks);
         let ran = Ran {
             acts,
@@ -393,109 +448,9 @@ impl<'a> World<'a> {
         self.counts.runs += 1;
         self.counts.left += u64::from(!self.ends.is_empty());
         self.counts.cut += u64::from(self.model.is_cut());
+        self.state = ran.state;
+        self.heard();
         (ran.acts, ran.has_more)
-    }
-
-    // The actions in the words of the model, and the pages that are marked.
-    fn acts_of(&mut self, room: &Room) -> (Vec<Act>, BTreeSet<u64>) {
-        let (mut acts, mut marks) = (Vec::new(), BTreeSet::new());
-        for action in room.actions() {
-            acts.push(match action {
-                Action::Send { bytes } => Act::Send(bytes.to_vec()),
-                Action::UnmapAll => Act::UnmapAll,
-                Action::Map(it) => Act::Map(announced(&it), it.number),
-                Action::Log { offset, len } => Act::Log { offset, len },
-                Action::Keep { what, has_one } => Act::Keep(what, has_one),
-                Action::Interrupt(ring) => Act::Interrupt(ring),
-                Action::Broke(ring) => Act::Broke(ring),
-                Action::End(why) => Act::End(Ended::By(why)),
-                Action::Stopped(ring) => Act::Stopped(ring),
-                Action::Mark { first, count } => {
-                    self.counts.marks += count;
-                    marks.extend(first..first + count);
-                    continue;
-                }
-                Action::Serve(part) => Act::Serve(served(&part)),
-            });
-        }
-        (acts, marks)
-    }
-
-    // Does what is asked for, and returns whether an answer was told.
-    fn perform(&mut self, acts: &[Act]) -> bool {
-        let mut is_asked = false;
-        for act in acts {
-            match act {
-                Act::Serve(part) => {
-                    self.counts.parts += 1;
-                    self.watch.served(part);
-                    self.parts.push(part.clone());
-                }
-                Act::UnmapAll => {
-                    assert!(self.parts.is_empty());
-                    self.watch.unmap();
-                    self.counts.tables += 1;
-                }
-                Act::Stopped(ring) => assert!(self.parts.iter().all(|it| it.ring != *ring)),
-                Act::Map(region, number) => {
-                    is_asked = true;
-                    self.map(region, *number);
-                }
-                Act::Log { .. } | Act::Keep(..) => {
-                    is_asked = true;
-                    self.answer(act);
-                }
-                Act::Interrupt(_) => self.counts.interrupts += 1,
-                Act::Broke(_) => self.counts.broken += 1,
-                Act::End(_) => {
-                    self.counts.refused += 1;
-                    self.is_over = true;
-                }
-                Act::Send(_) => (),
-            }
-        }
-        is_asked
-    }
-
-    // What was asked for is done, or could not be.
-    fn answer(&mut self, act: &Act) {
-        if self.numbers.one_in(500) {
-            return self.fail();
-        }
-        if let Act::Log { len, .. } = act {
-            self.log = Some(*len);
-        }
-        self.back_end.done();
-        self.model.done();
-    }
-
-    fn fail(&mut self) {
-        self.counts.not_done += 1;
-        self.back_end.failed();
-        self.model.failed();
-    }
-
-    fn map(&mut self, region: &Announced, number: u32) {
-        if self.numbers.one_in(300) {
-            return self.fail();
-        }
-        let file = ((region.user_address - messages::USER) / 0x100_0000) as usize;
-        let asked = Region {
-            number,
-            offset: region.mmap_offset,
-            len: region.size,
-            guest_address: region.guest_address,
-            user_address: region.user_address,
-        };
-        self.back_end.map(&asked, self.all.files[file].as_fd()).unwrap();
-        let shown = Shown {
-            guest: region.guest_address,
-            len: region.size,
-            file,
-            offset: region.mmap_offset,
-        };
-        self.model.mapped(shown);
-        self.watch.map(shown);
     }
 
     // All bytes and all marks are the same.
@@ -526,9 +481,13 @@ impl<'a> World<'a> {
 }
 
 // The driver of a ring, which lies anywhere.
-fn any_driver(numbers: &mut Numbers, index: u64, features: u64) -> Driver {
+fn any_driver(numbers: &mut Numbers, index: u64, shift: u64, features: u64) -> Driver {
     let (is_packed, event_idx) = (features & RING_PACKED != 0, features & EVENT_IDX != 0);
-    let (file, base) = (numbers.below(2) as usize, PAGE * (index + 2 * numbers.below(2)));
+    let base = match shift {
+        0 => PAGE * (index + 2 * numbers.below(2)),
+        _ => PAGE * index + shift,
+    };
+    let file = numbers.below(2) as usize;
     // A few have more entries than a turn has chains.
     let size = match (is_packed, numbers.one_in(6)) {
         (true, false) => 1 + numbers.below(16) as u16,
@@ -546,30 +505,4 @@ fn any_features(numbers: &mut Numbers) -> u64 {
         features |= if numbers.one_in(2) { bit } else { 0 };
     }
     features
-}
-
-fn served(part: &Part<'_>) -> Served {
-    assert!(!part.goes_on && part.len <= PART);
-    let mut pieces = Vec::new();
-    for &Piece { region, offset, len } in part.pieces {
-        add_piece(&mut pieces, region, offset, len);
-    }
-    Served {
-        ring: part.ring,
-        id: part.id,
-        way: part.way,
-        place: part.place,
-        len: part.len,
-        pieces,
-        left: part.left.into(),
-    }
-}
-
-fn announced(region: &Region) -> Announced {
-    Announced {
-        guest_address: region.guest_address,
-        size: region.len,
-        user_address: region.user_address,
-        mmap_offset: region.offset,
-    }
 }

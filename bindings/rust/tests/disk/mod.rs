@@ -69,7 +69,7 @@ pub fn number(bytes: &[u8]) -> u64 {
 
 /// Whether a chain breaks a limit that the driver keeps: SEG_MAX counts the segments beside the one of the header and
 /// the one of the status, and SIZE_MAX the bytes of each.
-fn is_over_limit(segments: &[Segment], limits: DeviceLimits) -> bool {
+pub fn is_over_limit(segments: &[Segment], limits: DeviceLimits) -> bool {
     let limit = |limit: Option<u32>| limit.filter(|most| *most != 0).map_or(u64::MAX, u64::from);
     let data = segments.len().saturating_sub(2) as u64;
     data > limit(limits.seg_max) || segments.iter().any(|segment| segment.len > limit(limits.size_max))

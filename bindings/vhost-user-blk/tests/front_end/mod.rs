@@ -81,9 +81,8 @@ pub struct IoTable {
     pub channel: UnixStream,
     /// Where each page of I/O addresses leads, and for which access.
     pub pages: BTreeMap<u64, (u64, u8)>,
-    /// The addresses that were asked for, with their access, and those of which an access was forbidden.
+    /// The addresses that were asked for, with their access.
     pub misses: Vec<(u64, u8)>,
-    pub forbidden: Vec<(u64, u8)>,
     /// The page of which a MISS is left unanswered.
     pub held: Option<u64>,
 }
@@ -148,7 +147,6 @@ impl FrontEnd {
             channel: mine,
             pages: pages.collect(),
             misses: Vec::new(),
-            forbidden: Vec::new(),
             held: None,
         });
     }
@@ -179,15 +177,9 @@ impl FrontEnd {
                 return;
             };
             let (iova, access) = (u64::from_le_bytes(message[12..20].try_into().unwrap()), message[36]);
-            // The request is 1, and only the other fields of a MISS or an ACCESS_FAIL are not 0.
-            assert_eq!(message[..4], 1_u32.to_le_bytes());
-            assert_eq!(message[20..36], [0; 16]);
-            if message[37] == 4 {
-                assert_eq!(message[4..8], 1_u32.to_le_bytes());
-                self.io().forbidden.push((iova, access));
-                continue;
-            }
-            assert_eq!((message[4], message[37]), (9, 1));
+            // The request is 1, which wants a reply, and only the other fields of a MISS are not 0.
+            assert_eq!(message[..8], [1, 0, 0, 0, 9, 0, 0, 0]);
+            assert_eq!((&message[20..36], message[37]), (&[0; 16][..], 1), "it is no MISS");
             self.io().misses.push((iova, access));
             let page = iova / PAGE * PAGE;
             if self.io().held != Some(page) {

@@ -11,9 +11,8 @@ use std::fs;
 use std::os::fd::AsRawFd;
 
 impl Walk {
-    // The device does all that it can do. False if it asks for more without end: it looks at its rings after each
-    // message, and a small table does not keep the mappings for that.
-    pub fn rest(&mut self) -> bool {
+    // The device does all that it can do.
+    pub fn rest(&mut self) {
         let mut rounds = 0;
         for _ in 0..60 {
             let before = self.io.as_ref().map(|io| io.misses);
@@ -26,30 +25,23 @@ impl Walk {
                 0
             };
             if rounds == 2 {
-                return true;
+                return;
             }
         }
-        false
+        panic!("the device asks without end");
     }
 
     /// Compares everything. The device is quiet.
     pub fn check(&mut self) {
         let mut now = BTreeSet::new();
-        let is_at_rest = self.rest();
-        if self.model.is_whole {
-            // A ring that does not run ends what is under way.
-            self.served.rest();
-        }
-        // A ring that waits tells of what it returned before only when it goes on.
-        let is_held = !is_at_rest || self.io.as_ref().is_some_and(|io| io.holds);
+        self.rest();
+        // A ring that does not run ends what is under way.
+        self.served.rest();
         for index in 0..RINGS {
             self.harvest(index);
             let it = &mut self.rings[index];
-            for sent in it.sent.iter().take(self.model.begun()) {
-                now.extend(sent.request.may_be_begun(&mut self.memory, &mut self.model).may);
-            }
             assert_eq!(take(&it.ring.err), 0, "ring {index} failed");
-            if it.is_due && !is_held {
+            if it.is_due {
                 assert!(take(&it.ring.call) > 0, "ring {index} has no interrupt");
                 self.disarm(index);
             }
@@ -104,8 +96,7 @@ impl Walk {
         let mut marks = Marks::default();
         for it in &self.rings {
             for sent in &it.sent {
-                let all = sent.request.writes.len();
-                marks.may.extend(sent.request.pages_of(all, &self.model));
+                marks.may.extend(sent.request.pages_of(&self.model));
             }
             for part in &it.ring.parts {
                 marks.may.extend(part.pages(0, part.len()));

@@ -1,9 +1,10 @@
 //! The I/O addresses of a guest: what they lead to, and the channel on which the device asks for that.
 
 use super::memory::Memory;
+use super::stream::Stream;
 use super::{Numbers, PAGE};
 use crate::front_end::{acknowledged, iotlb, send, Link, IOTLB_MSG};
-use std::collections::{BTreeMap, VecDeque};
+use std::collections::{BTreeMap, BTreeSet, VecDeque};
 use std::io::{ErrorKind, Read};
 use std::os::unix::net::UnixStream;
 use std::thread;
@@ -13,7 +14,15 @@ pub use crate::front_end::{READ, WRITE};
 const MISS: u8 = 1;
 const UPDATE: u8 = 2;
 const INVALIDATE: u8 = 3;
-const ACCESS_FAIL: u8 = 4;
+
+/// A MISS that has no reply yet.
+#[derive(Clone, Copy, Debug)]
+pub struct Asked {
+    iova: u64,
+    access: u8,
+    /// The ring that needs the address.
+    pub ring: usize,
+}
 
 pub struct Iommu {
     pub channel: UnixStream,
@@ -21,14 +30,17 @@ pub struct Iommu {
     pub pages: BTreeMap<u64, (u64, u8)>,
     // What came of a message.
     part: Vec<u8>,
-    // MISSes that have no answer yet.
-    asked: VecDeque<(u64, u8)>,
+    // The pages of I/O addresses that the device's table has, if it has room for all.
+    known: BTreeSet<u64>,
+    // MISSes that have no reply yet, at most one of each ring.
+    asked: VecDeque<Asked>,
     // How many of these have their mapping already, or it is held.
     updated: usize,
+    // Without memory nothing can be mapped, and what is asked for is answered later.
+    has_memory: bool,
     /// They get none for now.
     pub holds: bool,
     pub misses: u64,
-    pub forbidden: u64,
 }
 
 impl Iommu {
@@ -38,11 +50,12 @@ impl Iommu {
             channel,
             pages: BTreeMap::new(),
             part: Vec::new(),
+            known: BTreeSet::new(),
             asked: VecDeque::new(),
             updated: 0,
+            has_memory: false,
             holds: false,
             misses: 0,
-            forbidden: 0,
         }
     }
 
@@ -53,41 +66,59 @@ impl Iommu {
         self.part.clear();
         self.asked.clear();
         self.holds = false;
+        self.set_memory(false);
     }
 
-    /// The I/O address whose mapping or refusal is held back, if it was the last one that was asked for.
-    pub fn awaited(&self) -> Option<u64> {
-        let last = self.asked.back().filter(|_| self.holds)?.0;
-        let is_known = self.pages.contains_key(&(last / PAGE * PAGE));
-        (self.asked.len() == 1 || !is_known).then_some(last)
+    /// The MISS whose mapping or refusal is held back.
+    pub fn held(&self) -> Option<Asked> {
+        self.asked.front().filter(|_| self.holds).copied()
     }
 
-    /// Maps what was asked for last again: it may have gone before it was used, and is not asked for twice.
-    pub fn nudge(&self, link: &mut Link, numbers: &mut Numbers, memory: &Memory) {
-        if let Some(&(iova, access)) = self.asked.back().filter(|_| self.asked.len() > 1) {
-            self.update(link, numbers, memory, iova, access);
-        }
+    /// Whether a MISS of a ring has no reply: the ring cannot ask for another address.
+    pub fn has_asked(&self, ring: usize) -> bool {
+        self.asked.iter().any(|it| it.ring == ring)
+    }
+
+    /// Whether the device's table lacks a page of a stream.
+    pub fn lacks(&self, stream: &Stream) -> bool {
+        let pieces = stream.pieces.iter().filter(|it| it.1 > 0);
+        let mut pages = pieces.flat_map(|&(from, len)| from / PAGE..=(from + u64::from(len) - 1) / PAGE);
+        pages.any(|page| !self.known.contains(&(page * PAGE)))
+    }
+
+    /// The device's table has nothing.
+    pub fn forget(&mut self) {
+        self.known.clear();
+    }
+
+    /// Memory was announced, or there is none.
+    pub fn set_memory(&mut self, has_memory: bool) {
+        self.has_memory = has_memory;
+        self.updated = 0;
+        self.forget();
     }
 
     /// What is asked for and has no reply, and how many MISSes there were.
-    pub fn state(&self) -> (bool, &VecDeque<(u64, u8)>, u64) {
+    pub fn state(&self) -> (bool, &VecDeque<Asked>, u64) {
         (self.holds, &self.asked, self.misses)
     }
 
     /// Takes back mappings of some addresses.
-    pub fn invalidate(&self, link: &mut Link, numbers: &mut Numbers, iova: u64, len: u64) {
+    pub fn invalidate(&mut self, link: &mut Link, numbers: &mut Numbers, iova: u64, len: u64) {
         let payload = iotlb(iova, len, 0, 0, INVALIDATE);
         link.order(numbers, IOTLB_MSG, &payload, &[]);
+        // Not `iova + len`, which may be 2^64.
+        self.known.retain(|&it| it < iova || it - iova >= len);
     }
 
     /// Takes back all of them, as QEMU does it.
-    pub fn invalidate_all(&self, link: &mut Link, numbers: &mut Numbers) {
+    pub fn invalidate_all(&mut self, link: &mut Link, numbers: &mut Numbers) {
         self.invalidate(link, numbers, 0, 0xfee0_0000);
         self.invalidate(link, numbers, 0xfef0_0000, 0xffff_ffff_0110_0000);
     }
 
-    /// Takes what the device asked for, and answers it.
-    pub fn serve(&mut self, link: &mut Link, numbers: &mut Numbers, memory: &Memory) {
+    /// Takes what the device asked for. Each address is one ring's.
+    pub fn take_misses(&mut self, ring_of: impl Fn(u64) -> Option<usize>) {
         let mut bytes = [0; 512];
         loop {
             match self.channel.read(&mut bytes) {
@@ -99,63 +130,67 @@ impl Iommu {
         }
         while self.part.len() >= 44 {
             let message: Vec<u8> = self.part.drain(..44).collect();
-            self.take(&message);
+            self.take(&message, &ring_of);
+        }
+    }
+
+    /// Answers what the device asked for.
+    pub fn serve(&mut self, link: &mut Link, numbers: &mut Numbers, memory: &Memory) {
+        if !self.has_memory {
+            return;
         }
         // Replies have the order of what was asked. If the first one is held, the others get their mappings alone.
         while !self.holds && !self.asked.is_empty() {
-            let (iova, access) = self.asked.pop_front().expect("it is not empty");
+            let it = self.asked.pop_front().expect("it is not empty");
             if self.updated == 0 {
-                self.update(link, numbers, memory, iova, access);
+                self.update(link, numbers, memory, it);
             }
             self.updated = self.updated.saturating_sub(1);
-            self.reply(numbers, iova);
+            self.reply(numbers, it.iova);
         }
         for at in self.updated.max(1)..self.asked.len() {
-            let (iova, access) = self.asked[at];
-            self.update(link, numbers, memory, iova, access);
+            self.update(link, numbers, memory, self.asked[at]);
         }
         self.updated = self.asked.len();
     }
 
     /// Answers what was held, too.
     pub fn release(&mut self, link: &mut Link, numbers: &mut Numbers, memory: &Memory) {
-        if let Some(&(iova, access)) = self.asked.front().filter(|_| self.holds) {
-            self.update(link, numbers, memory, iova, access);
+        if let Some(held) = self.held().filter(|_| self.has_memory) {
+            self.update(link, numbers, memory, held);
         }
         self.holds = false;
         self.serve(link, numbers, memory);
     }
 
-    fn take(&mut self, message: &[u8]) {
+    fn take(&mut self, message: &[u8], ring_of: impl Fn(u64) -> Option<usize>) {
         let number = |at: usize| u32::from_le_bytes(message[at..at + 4].try_into().unwrap());
         let iova = u64::from_le_bytes(message[12..20].try_into().unwrap());
         let (access, kind) = (message[36], message[37]);
         assert_eq!((number(0), number(8)), (1, 32));
-        assert!(access == READ || access == WRITE, "{access} is no access");
-        if kind == ACCESS_FAIL {
-            let known = self.pages.get(&(iova / PAGE * PAGE)).copied();
-            assert!(known.is_some_and(|it| it.1 & access == 0), "{iova:#x} is allowed");
-            self.forbidden += 1;
-            return;
-        }
+        assert!((READ..=READ | WRITE).contains(&access), "{access} is no access");
         assert_eq!(kind, MISS);
         self.misses += 1;
-        self.asked.push_back((iova, access));
+        let ring = ring_of(iova).unwrap_or_else(|| panic!("{iova:#x} is asked for, which no ring needs"));
+        assert!(!self.has_asked(ring), "ring {ring} asks for {iova:#x} before a reply");
+        self.asked.push_back(Asked { iova, access, ring });
     }
 
     // Maps the page that was asked for and nothing else.
-    fn update(&self, link: &mut Link, numbers: &mut Numbers, memory: &Memory, iova: u64, access: u8) {
+    fn update(&mut self, link: &mut Link, numbers: &mut Numbers, memory: &Memory, asked: Asked) {
+        let Asked { iova, access, .. } = asked;
         let page = iova / PAGE * PAGE;
         let Some((guest, allowed)) = self.pages.get(&page).copied() else {
             return;
         };
         // Each page is there for what its user does, but for those that fail on purpose.
         assert!(
-            allowed & access != 0 || allowed == READ,
+            allowed & access == access || allowed == READ,
             "{iova:#x} is asked for {access}"
         );
         let payload = iotlb(page, PAGE, memory.user(guest), allowed, UPDATE);
         link.order(numbers, IOTLB_MSG, &payload, &[]);
+        self.known.insert(page);
     }
 
     // The reply to a MISS, in pieces.

@@ -17,10 +17,8 @@ pub struct Model {
     pub disk: Vec<u8>,
     pub name: [u8; 20],
     pub is_translated: bool,
-    /// A request is done as a whole or not at all, and all that it may write is marked.
-    pub is_whole: bool,
-    /// There are requests that the library answers by itself. Without --iommu these come back before others, and the
-    /// used index does not say where the ring goes on.
+    /// There are requests that the library answers by itself. These come back before others, and the used index does
+    /// not say where the ring goes on.
     pub has_refused: bool,
     /// Each write is made stable.
     pub is_write_through: bool,
@@ -343,10 +341,18 @@ impl Request {
         }
     }
 
-    /// The pages that may be marked for so many bytes, or for all that it writes, also where there is no memory.
-    pub fn pages_of(&self, len: usize, model: &Model) -> Vec<u64> {
-        if !model.is_whole {
-            return self.writes.pages(0, len).collect();
+    // Whether an address of it cannot be reached.
+    fn is_lost(&self) -> bool {
+        matches!(self.what, What::LostRead(_) | What::LostWrite(_))
+    }
+
+    /// The pages that may be marked: all that it may write, also where there is no memory. If some of its I/O addresses
+    /// cannot be reached, nothing is written but its status.
+    pub fn pages_of(&self, model: &Model) -> Vec<u64> {
+        if model.is_translated {
+            let room = self.writes.len();
+            let from = if self.is_lost() { room - 1 } else { 0 };
+            return self.writes.pages(from, room - from).collect();
         }
         let pieces = self.writes.pieces.iter().filter(|it| it.1 > 0);
         let pages = |&(addr, len): &(u64, u32)| addr / PAGE..=(addr + u64::from(len) - 1) / PAGE;
@@ -370,7 +376,6 @@ impl Request {
         let room = self.writes.len().saturating_sub(1);
         match self.what {
             What::Read => (model.disk[self.place()..self.place() + room].to_vec(), 0),
-            What::LostRead(good) if !model.is_whole => (model.disk[self.place()..self.place() + good].to_vec(), 1),
             What::Id => (model.name[..room.min(20)].to_vec(), 0),
             What::Write | What::Flush => (Vec::new(), u8::from(model.sync_failed && self.syncs(model))),
             What::Unknown => (Vec::new(), 2),
@@ -384,57 +389,44 @@ impl Request {
         model.syncs += u64::from(self.syncs(model) && !model.sync_failed);
         let (len, room) = (len as usize, self.writes.len());
         let mut marks = Marks::default();
-        let done = match self.what {
-            What::LostRead(good) if !model.is_whole => {
-                assert!(
-                    len == good || model.is_translated && len < good,
-                    "{len} bytes of {good}"
-                );
-                len
-            }
-            _ => data.len(),
-        };
+        let done = data.len();
         let wanted = match room.checked_sub(1) {
             Some(before) if before == done => room,
             _ => done,
         };
         assert_eq!(len, wanted, "the length of {:?}", self.what);
-        self.writes.expect(memory, 0, &data[..done]);
-        self.writes.settle(memory, done, &data[done..]);
+        self.writes.expect(memory, 0, &data);
         marks.must.extend(self.writes.pages(0, done));
-        marks.may.extend(self.pages_of(data.len(), model));
+        marks.may.extend(self.pages_of(model));
         if room > 0 {
             self.writes.expect(memory, room - 1, &[status]);
             marks.must.extend(self.writes.pages(room - 1, 1));
         }
-        match self.what {
-            What::Write => model.disk[self.place()..][..self.data.len()].copy_from_slice(&self.data),
-            What::LostWrite(good) if !model.is_whole => model.maybe.push((self.place(), self.data[..good].to_vec())),
-            _ => (),
+        if self.what == What::Write {
+            model.disk[self.place()..][..self.data.len()].copy_from_slice(&self.data);
         }
         marks
     }
 
-    /// It may be done in part.
-    pub fn may_be_begun(&self, memory: &mut Memory, model: &mut Model) -> Marks {
-        let (data, status) = self.answer(model);
+    /// What it has for the disk may be there in part.
+    pub fn may_be_written(&self, model: &mut Model) {
+        if self.what == What::Write {
+            model.maybe.push((self.place(), self.data.clone()));
+        }
+    }
+
+    /// What it has for memory may be there in part.
+    pub fn may_be_begun(&self, memory: &mut Memory, model: &Model) {
+        let (mut data, status) = self.answer(model);
+        if self.what == What::Read {
+            let found = self.writes.get(memory, 0, data.len());
+            data = model.may_be_read(self.place(), &found);
+        }
         let room = self.writes.len();
         self.writes.settle(memory, 0, &data);
-        let mut may = self.pages_of(data.len(), model);
         if room > 0 {
-            // A request whose data were lost while it waited fails, too.
             self.writes.settle(memory, room - 1, &[status]);
-            may.extend(self.writes.pages(room - 1, 1));
         }
-        let good = match self.what {
-            What::Write => self.data.len(),
-            What::LostWrite(good) if !model.is_whole => good,
-            _ => 0,
-        };
-        if good > 0 {
-            model.maybe.push((self.place(), self.data[..good].to_vec()));
-        }
-        Marks { must: Vec::new(), may }
     }
 }
 
@@ -447,7 +439,6 @@ impl Model {
             disk,
             name: padded,
             is_translated: false,
-            is_whole: false,
             has_refused: true,
             is_write_through: false,
             sync_failed: false,
@@ -456,29 +447,31 @@ impl Model {
         }
     }
 
-    /// How many requests of a ring may be begun.
-    pub fn begun(&self) -> usize {
-        if self.is_whole {
-            usize::MAX
-        } else {
-            1
-        }
+    // Whether a byte may have been written to a place of the disk.
+    fn may_have(&self, at: usize, byte: u8) -> bool {
+        let has = |(from, new): &(usize, Vec<u8>)| (*from..from + new.len()).contains(&at) && new[at - from] == byte;
+        self.maybe.iter().any(has)
+    }
+
+    // What a read may have found from a place on, by what it left.
+    fn may_be_read(&self, place: usize, left: &[u8]) -> Vec<u8> {
+        let found = |(at, &byte): (usize, &u8)| if self.may_have(at, byte) { byte } else { self.disk[at] };
+        (place..).zip(left).map(found).collect()
     }
 
     /// Compares the image.
     pub fn check(&mut self, image: &[u8]) {
-        let maybe = std::mem::take(&mut self.maybe);
-        for (place, bytes) in &maybe {
-            for at in *place..place + bytes.len() {
-                let is_there = |(from, new): &(usize, Vec<u8>)| {
-                    (*from..from + new.len()).contains(&at) && new[at - from] == image[at]
-                };
+        for (place, bytes) in &self.maybe {
+            for (at, &byte) in (*place..).zip(&image[*place..place + bytes.len()]) {
                 assert!(
-                    image[at] == self.disk[at] || maybe.iter().any(is_there),
+                    byte == self.disk[at] || self.may_have(at, byte),
                     "byte {at:#x} of the disk is neither old nor new"
                 );
-                self.disk[at] = image[at];
             }
+        }
+        for (place, bytes) in std::mem::take(&mut self.maybe) {
+            let all = place..place + bytes.len();
+            self.disk[all.clone()].copy_from_slice(&image[all]);
         }
         if image != self.disk {
             let at = (0..image.len()).find(|&at| image[at] != self.disk[at]).unwrap();

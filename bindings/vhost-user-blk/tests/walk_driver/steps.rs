@@ -163,10 +163,8 @@ impl Walk {
     fn alone(&mut self, step: impl Fn(&mut Walk)) {
         let enabled: Vec<usize> = (0..RINGS).filter(|&it| self.rings[it].is_enabled).collect();
         enabled.iter().for_each(|&index| self.enable(index, false));
-        if self.model.is_whole {
-            // What is under way comes back.
-            self.served.rest();
-        }
+        // What is under way comes back.
+        self.served.rest();
         self.harvest_all();
         step(self);
         if self.numbers.one_in(2) {
@@ -202,6 +200,7 @@ impl Walk {
             return;
         }
         self.link.set_memory(&mut self.numbers, &[]);
+        self.io.iter_mut().for_each(|io| io.set_memory(false));
         self.has_memory = false;
         self.harvest_all();
         let index = self.numbers.below(RINGS as u64) as usize;
@@ -325,7 +324,7 @@ impl Walk {
     // ---- the I/O table
 
     fn invalidate(&mut self) {
-        let Some(io) = &self.io else {
+        let Some(io) = &mut self.io else {
             return;
         };
         if self.numbers.one_in(3) {
@@ -394,7 +393,7 @@ impl Walk {
             let count = 1 + self.numbers.below(bytes.len() as u64 - 1) as usize;
             send(&self.link.socket, &bytes[..count], &[]);
         }
-        if self.model.is_whole && self.model.has_refused {
+        if self.model.has_refused {
             self.served.rest();
         }
         let log = self.log.is_some().then(|| self.leave_log());
@@ -403,6 +402,7 @@ impl Walk {
         self.link = connect(&self.served);
         self.negotiate();
         self.harvest_all();
+        self.leave_begun();
         for it in &mut self.rings {
             (it.is_started, it.is_enabled) = (false, false);
             // What came back last may have been told to nobody.
@@ -434,7 +434,7 @@ impl Walk {
         self.rest();
         let started: Vec<usize> = (0..RINGS).filter(|&it| self.rings[it].is_started).collect();
         started.iter().for_each(|&index| self.stop_ring(index));
-        if let Some(io) = self.io.as_ref().filter(|_| started.is_empty()) {
+        if let Some(io) = self.io.as_mut().filter(|_| started.is_empty()) {
             io.invalidate_all(&mut self.link, &mut self.numbers);
         }
         if self.log.is_some() {

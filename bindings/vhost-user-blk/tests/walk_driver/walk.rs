@@ -62,8 +62,7 @@ pub struct Walk {
     /// The disk fails.
     pub faults: Option<Faults>,
     pub is_plugged: bool,
-    /// The table of I/O addresses has room for all of them. With a smaller one each UPDATE that nobody asked for counts
-    /// against the access that waits.
+    /// The table of I/O addresses has room for all of them.
     pub is_roomy: bool,
     // Mappings are taken back at once.
     is_strict: bool,
@@ -106,8 +105,7 @@ impl Walk {
             io: None,
             model: Model {
                 is_translated,
-                is_whole: !has_iommu,
-                has_refused: has_iommu || numbers.one_in(2),
+                has_refused: numbers.one_in(2),
                 is_write_through,
                 ..Model::new(disk, NAME)
             },
@@ -177,6 +175,7 @@ impl Walk {
             regions.push(&self.memory.extra);
         }
         self.link.set_memory(&mut self.numbers, &regions);
+        self.io.iter_mut().for_each(|io| io.set_memory(true));
         self.has_memory = true;
     }
 
@@ -282,6 +281,9 @@ impl Walk {
         let payload = words(&[index as u32, 0]);
         let reply = self.link.inquire(&mut self.numbers, GET_VRING_BASE, &payload, &[]);
         self.rings[index].is_started = false;
+        if self.rings.iter().all(|it| !it.is_started) {
+            self.io.iter_mut().for_each(Iommu::forget);
+        }
         self.harvest(index);
         let base = self.rings[index].ring.base();
         assert_eq!(reply, words(&[index as u32, base]), "where ring {index} goes on");
@@ -294,30 +296,44 @@ impl Walk {
 
     /// The ring whose mapping is held back.
     pub fn waiting(&self) -> Option<usize> {
-        let iova = self.io.as_ref()?.awaited()?;
-        let has = |it: &Driven| {
-            let streams = it.sent.iter().flat_map(|sent| sent.request.streams());
-            it.ring.parts.iter().chain(streams).any(|stream| stream.has(iova))
-        };
-        self.rings.iter().position(has)
+        self.io.as_ref()?.held().map(|it| it.ring)
     }
 
-    /// Whether the device can do nothing before a mapping comes.
+    // Whether a ring can do nothing before the reply to its MISS comes. It reads chains in order, and for the next one
+    // it lacks a page.
+    fn is_stuck(&self, index: usize) -> bool {
+        let it = &self.rings[index];
+        let next = it.sent.front().into_iter().flat_map(|sent| sent.request.streams());
+        let mut streams = it.ring.parts.iter().chain(next);
+        let has_asked = |io: &&Iommu| io.has_asked(index);
+        let io = self.io.as_ref().filter(has_asked);
+        io.is_some_and(|io| streams.any(|stream| io.lacks(stream)))
+    }
+
+    /// Whether the device can do nothing for its rings before a mapping comes.
     pub fn is_held(&self) -> bool {
-        self.waiting().is_some_and(|it| self.is_active(it)) && self.served.is_idle()
+        let out = self.out();
+        self.waiting().is_some() && !out.is_empty() && out.iter().all(|&it| self.is_stuck(it)) && self.served.is_idle()
     }
 
     /// Answers what the device asks for.
     pub fn pump(&mut self) {
-        if let Some(io) = &mut self.io {
-            io.serve(&mut self.link, &mut self.numbers, &self.memory);
-        }
+        let Some(io) = &mut self.io else {
+            return;
+        };
+        let has = |it: &Driven, iova: u64| {
+            let streams = it.sent.iter().flat_map(|sent| sent.request.streams());
+            it.ring.parts.iter().chain(streams).any(|stream| stream.has(iova))
+        };
+        io.take_misses(|iova| self.rings.iter().position(|it| has(it, iova)));
+        io.serve(&mut self.link, &mut self.numbers, &self.memory);
     }
 
     pub fn release(&mut self) {
         if let Some(io) = &mut self.io {
             io.release(&mut self.link, &mut self.numbers, &self.memory);
         }
+        self.pump();
     }
 
     // ---- requests
@@ -388,7 +404,7 @@ impl Walk {
             let sent = it.sent.remove(place).expect("as many as there are chains");
             if place > 0 {
                 let what = sent.request.what;
-                let may_come = self.model.is_whole && self.model.has_refused && sent.request.is_refused();
+                let may_come = self.model.has_refused && sent.request.is_refused();
                 assert!(may_come, "{what:?} comes back early");
                 (it.armed, it.is_due) = (None, false);
             }
@@ -424,7 +440,7 @@ impl Walk {
                 continue;
             }
             for &(iova, len) in stream.mapped() {
-                let io = self.io.as_ref().expect("it has I/O addresses");
+                let io = self.io.as_mut().expect("it has I/O addresses");
                 io.invalidate(&mut self.link, &mut self.numbers, iova, len);
             }
             self.places.give(&mut self.io, stream);
@@ -435,7 +451,7 @@ impl Walk {
     }
 
     pub fn forget_stale(&mut self) {
-        if let Some(io) = self.io.as_ref().filter(|_| !self.stale.is_empty()) {
+        if let Some(io) = self.io.as_mut().filter(|_| !self.stale.is_empty()) {
             io.invalidate_all(&mut self.link, &mut self.numbers);
         }
         for stream in self.stale.drain(..) {
@@ -477,7 +493,15 @@ impl Walk {
             }
             let calls = out.iter().map(|&index| self.rings[index].ring.call.as_raw_fd());
             let all: Vec<_> = calls.chain(self.io.iter().map(|io| io.channel.as_raw_fd())).collect();
-            wait(&all, time.min(self.nudge()));
+            let holds = self.waiting().is_some();
+            wait(
+                &all,
+                if holds {
+                    time.min(Duration::from_millis(2))
+                } else {
+                    time
+                },
+            );
             for &index in &out {
                 if take(&self.rings[index].ring.call) > 0 {
                     self.disarm(index);
@@ -490,17 +514,6 @@ impl Walk {
     fn out(&self) -> Vec<usize> {
         let is_out = |&it: &usize| self.is_active(it) && self.rings[it].ring.pending() > 0;
         (0..RINGS).filter(is_out).collect()
-    }
-
-    // What is held back may keep what comes after it from being asked for again. Says how long nothing is waited for.
-    fn nudge(&mut self) -> Duration {
-        match &self.io {
-            Some(io) if io.holds => {
-                io.nudge(&mut self.link, &mut self.numbers, &self.memory);
-                Duration::from_millis(2)
-            }
-            _ => patience(),
-        }
     }
 
     fn stuck(&self, out: &[usize]) -> String {
@@ -531,15 +544,17 @@ impl Walk {
         (self.rings[index].armed, self.rings[index].is_due) = (None, false);
     }
 
-    /// Forgets what is out. Some of each ring may be done in part. The device has no mappings: it is told of none that
-    /// goes.
+    /// What is out may be done in part, and is not under way any more.
+    pub fn leave_begun(&mut self) {
+        let all = || self.rings.iter().flat_map(|it| &it.sent);
+        all().for_each(|it| it.request.may_be_written(&mut self.model));
+        all().for_each(|it| it.request.may_be_begun(&mut self.memory, &self.model));
+    }
+
+    /// Forgets what is out. The device has no mappings: it is told of none that goes.
     pub fn abandon(&mut self) {
         for index in 0..RINGS {
             let sent = std::mem::take(&mut self.rings[index].sent);
-            for begun in sent.iter().take(self.model.begun()) {
-                let marks = begun.request.may_be_begun(&mut self.memory, &mut self.model);
-                self.log.iter_mut().for_each(|log| log.allow(&marks));
-            }
             self.rings[index].ring.abandon();
             let streams = sent.iter().flat_map(|sent| sent.request.streams());
             streams.for_each(|stream| self.places.give(&mut self.io, stream));

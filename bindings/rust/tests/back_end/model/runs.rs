@@ -3,10 +3,10 @@
 use super::super::acts::{add_piece, Act, Served};
 use super::super::queue::{Broken, DeviceQueue, Popped};
 use super::super::rings::{parts_of, Todo, UnderWay, PART};
-use super::{Ended, Model, Outcome, Placing, Ran, Ready, Work};
+use super::{side, Ended, Model, Outcome, Placing, PoppedChain, Ran, Ready, Work};
 use crate::disk;
 use crate::front_end::*;
-use crate::slow::{total, Segment};
+use crate::slow::{total, Image, Segment};
 use vm_memory_proved::back_end::{PartEnd, Way};
 use vm_memory_proved::block::{DeviceLimits, Request};
 use vm_memory_proved::vhost_user::Vring;
@@ -120,22 +120,35 @@ impl Model {
         }
     }
 
+    // Where a ring lies now. If that is where it was, it stays as it is.
     fn place(&mut self, index: usize, vring: &Vring, is_fresh: bool) {
         let features = self.protocol.features;
         let parts = [vring.descriptor, vring.available, vring.used];
-        let placed = match (&self.rings.rings[index].queue, is_fresh) {
+        let ring = &mut self.rings.rings[index];
+        let placed = match (&ring.queue, is_fresh) {
             (None, false) => return,
+            (Some(queue), false) if queue.parts == parts && ring.log == vring.log => return,
             (Some(queue), false) => queue.moved(parts),
             _ => {
                 let (is_packed, event_idx) = (features & RING_PACKED != 0, features & EVENT_IDX != 0);
-                let image = self.memory.image();
-                DeviceQueue::new(is_packed, vring.size, vring.base, parts, event_idx, image)
+                ring.is_unread = true;
+                DeviceQueue::new(is_packed, vring.size, vring.base, parts, event_idx)
             }
         };
         match placed {
-            Some(queue) => self.rings.rings[index].queue = Some(queue),
+            Some(queue) => {
+                (ring.queue, ring.log) = (Some(queue), vring.log);
+                self.lies_elsewhere(index);
+            }
             None => self.is_broken = true,
         }
+    }
+
+    /// A ring reads in its first turn where it returns chains. Returns whether it could.
+    pub(super) fn read_place(&mut self, index: usize) -> bool {
+        let is_read = !std::mem::take(&mut self.rings.rings[index].is_unread);
+        let read = |queue: &mut DeviceQueue, image: &mut Image| queue.read_place(image);
+        is_read || matches!(self.on_queue(index, read), Some(Ok(())))
     }
 
     fn carry_out(&mut self, index: usize, todo: Todo) {
@@ -145,17 +158,24 @@ impl Model {
             Todo::Return(id, it, failed) => self.give_back(index, id, it, failed),
             Todo::Notify => self.notify(index),
             Todo::Broke => self.acts.push(Act::Broke(index as u32)),
-            Todo::Stopped => self.acts.push(Act::Stopped(index as u32)),
+            Todo::Stopped => {
+                self.acts.push(Act::Stopped(index as u32));
+                self.stopped();
+            }
         }
     }
 
     // A chain is popped, or the driver is asked to notify and the ring looked at once more.
     fn pop(&mut self, index: usize) {
+        if self.behind.is_some() {
+            let todo = self.pop_behind(index);
+            return self.follow(index, todo);
+        }
+        let is_read = self.read_place(index);
         let image = self.memory.image();
         let mut wrote = Vec::new();
         let found = match &mut self.rings.rings[index].queue {
-            None => Err(Broken),
-            Some(queue) => match queue.pop(image) {
+            Some(queue) if is_read => match queue.pop(image) {
                 Ok(None) => match queue.ask(image) {
                     Ok((true, places)) => {
                         wrote = places;
@@ -169,6 +189,7 @@ impl Model {
                 },
                 found => found,
             },
+            _ => Err(Broken::default()),
         };
         self.mark(&wrote);
         let todo = match found {
@@ -177,7 +198,7 @@ impl Model {
                 self.rings.emptied(index);
                 Vec::new()
             }
-            Err(Broken) => self.rings.breaks(index),
+            Err(_) => self.rings.breaks(index),
         };
         self.follow(index, todo);
     }
@@ -187,16 +208,24 @@ impl Model {
         if usize::from(chain.id) >= self.ids || is_under_way {
             return self.rings.breaks(index);
         }
-        self.popped.push((index, chain.id, written(&chain.segments)));
+        self.popped.push(PoppedChain {
+            ring: index,
+            id: chain.id,
+            read: side(&chain.segments, false),
+            written: side(&chain.segments, true),
+            lands: side(&chain.segments, true),
+            is_whole: true,
+        });
         let limits = self.limits();
         let request = match chain.segments.len() > self.ids {
             true => Request::Refused { status: 1 },
             false => disk::asked(self.memory.image(), &chain.segments, limits),
         };
-        self.rings.popped(index, chain.id, chain.slots, chain.segments, request)
+        let it = UnderWay::new(chain.slots, chain.segments, request);
+        self.rings.popped(index, chain.id, it)
     }
 
-    fn limits(&self) -> DeviceLimits {
+    pub(super) fn limits(&self) -> DeviceLimits {
         let features = self.protocol.features;
         let of = |bit: u64, limit: u32| (features & bit != 0).then_some(limit);
         DeviceLimits {
@@ -275,7 +304,9 @@ impl Model {
         };
         let image = self.memory.image();
         let len = disk::finished(image, &it.segments, status, moved as usize);
-        let chain = written(&it.segments);
+        // As if the last writable byte came after those before it.
+        let len = if it.has_more { 0 } else { len };
+        let chain = side(&it.segments, true);
         self.has_many |= chain.len() > 40;
         self.mark(&chain);
         let slots = it.slots;
@@ -284,17 +315,14 @@ impl Model {
 
     // Returns a chain whose request was ended.
     fn publish(&mut self, index: usize, it: Ready) {
-        let image = self.memory.image();
-        let queue = self.rings.rings[index].queue.as_mut().expect("it popped the chain");
-        let wrote = queue.give_back(image, it.id, it.slots, it.len);
-        self.mark(&wrote);
+        let wrote = self.on_queue(index, |queue, image| queue.give_back(image, it.id, it.slots, it.len));
+        self.mark_ring(index, &wrote.expect("it popped the chain"));
     }
 
     // The driver is interrupted, unless it asks not to be. It is if that cannot be read.
     fn notify(&mut self, index: usize) {
-        let image = self.memory.image();
-        let queue = self.rings.rings[index].queue.as_mut();
-        if !matches!(queue.map(|it| it.wants_interrupt(image)), Some(Ok(false))) {
+        let is_wanted = self.on_queue(index, |queue, image| queue.wants_interrupt(image));
+        if !matches!(is_wanted, Some(Ok(false))) {
             self.acts.push(Act::Interrupt(index as u32));
         }
     }
@@ -305,7 +333,7 @@ impl Model {
         self.logged.is_none_or(|pages| (address + (len - 1)) / 4096 < pages)
     }
 
-    fn mark(&mut self, places: &[(u64, u64)]) {
+    pub(super) fn mark(&mut self, places: &[(u64, u64)]) {
         let pages = self.logged.unwrap_or(0);
         for &(address, len) in places.iter().filter(|it| it.1 > 0) {
             let last = address.saturating_add(len - 1) / 4096;
@@ -314,10 +342,4 @@ impl Model {
             self.marked.extend(range);
         }
     }
-}
-
-// Where the device may write in a chain.
-fn written(segments: &[Segment]) -> Vec<(u64, u64)> {
-    let of = |it: &Segment| (it.addr, it.len);
-    segments.iter().filter(|it| it.is_written).map(of).collect()
 }
