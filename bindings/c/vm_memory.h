@@ -851,9 +851,8 @@ typedef struct vmm_backend_disk {
  * failed, 3 if an allocation failed, 4 if too many bytes of replies wait, 5 if a page has no bit in the log, 6
  * after vmm_backend_hang_up.
  * STOPPED: the ring is stopped, and its descriptor of kicks is let go.
- * ASK: the front end is sent vmm_vhost_miss on the back end's own channel, or with `count` 1 vmm_vhost_access_fail,
- * for the I/O address `place` and the access `way`, which `ring` needs. Each MISS has a reply, for
- * vmm_backend_answered. */
+ * ASK: the front end is sent vmm_vhost_miss on the back end's own channel, for the I/O address `place` and the access
+ * `way`, which `ring` needs. Each has a reply, for vmm_backend_answered. */
 typedef struct vmm_backend_action {
     uint32_t kind, ring, id, way, count, more, left;
     uint64_t place, len, guest, user;

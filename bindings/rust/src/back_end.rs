@@ -200,7 +200,7 @@ pub enum Action<'a> {
     /// A ring was stopped: its descriptor of kicks is the front end's again.
     Stopped(u32),
     /// The front end is sent a message on the back end's own channel, by [`miss`](crate::vhost_user::miss), whose reply
-    /// goes to [`BackEnd::answered`], or by [`access_fail`](crate::vhost_user::access_fail), which has none.
+    /// goes to [`BackEnd::answered`].
     Ask {
         /// The ring that needs the address.
         ring: u32,
@@ -208,8 +208,6 @@ pub enum Action<'a> {
         iova: u64,
         /// The access.
         access: Permissions,
-        /// Whether a mapping forbids it.
-        is_forbidden: bool,
     },
 }
 

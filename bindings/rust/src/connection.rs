@@ -57,7 +57,7 @@ use crate::incoming::{self, Incoming};
 use crate::notify::{signal, Kick, Watchdog};
 use crate::pieces::Pieces;
 pub use crate::stats::Stats;
-use crate::vhost_user::{access_fail, config_change, miss, Refusal, ANSWER_LEN, MAX_MESSAGE};
+use crate::vhost_user::{config_change, miss, Refusal, ANSWER_LEN, MAX_MESSAGE};
 use std::error::Error;
 use std::fmt;
 use std::fs::File;
@@ -397,14 +397,8 @@ impl<'a> Connection<'a> {
                 device.broke(ring);
                 self.notify(|it| it.rings[ring as usize].err.as_ref());
             }
-            Action::Ask {
-                iova,
-                access,
-                is_forbidden,
-                ..
-            } => {
-                let message = if is_forbidden { access_fail } else { miss };
-                let sent = self.ask(|room| message(iova, access, room));
+            Action::Ask { iova, access, .. } => {
+                let sent = self.ask(|room| miss(iova, access, room));
                 sent.map_err(Ended::failed("the back end's channel"))?;
             }
             Action::Stopped(ring) => self.forget_kick(ring, Notified::Not, device),

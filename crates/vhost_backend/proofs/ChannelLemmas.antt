@@ -9,7 +9,7 @@ use Rattle.vhost_message.specs.declared.refusal.Refusal.{Refusal}
 use Rattle.vhost_message.specs.declared.refusal.Refusal.TheVariants.{Descriptors}
 use Rattle.vhost_user.specs.Connection.{Connection, served}
 use Rattle.vhost_backend.specs.Backend.{BackendState, after_message, begun_by, decoded, is_free, placed, refused, taken_until, to_do, waiting}
-use Rattle.vhost_backend.specs.BlockBackend.{asked_due, asked_next, asked_or_told, came, in_use, is_asked, is_quiet, may_ask, said_on_channel, taken_by, with_change}
+use Rattle.vhost_backend.specs.BlockBackend.{asked_due, asked_next, came, in_use, is_asked, is_quiet, may_ask, said_on_channel, taken_by, with_change}
 use Rattle.vhost_backend.specs.Questions.{QuestionsState, has_next, taken_due}
 use Rattle.vhost_backend.specs.Rings.{nothing}
 use Rattle.vhost_backend.specs.declared.backend.Outcome.TheVariants.{Stays}
@@ -28,16 +28,12 @@ pub on_channel : (w : BlockBackend) (P : BlockBackend × Made → Type 0) → (m
     → ((q : QuestionsState) → P (record w { questions = q }, made.Again)) → P (said_on_channel w)
 on_channel w P idle says again = go (may_ask w) refl
   where
-    due : (q : QuestionsState) (t : QuestionsState × Option Miss) → P (asked_due (record w { questions = q }) t)
-    due q (questions, Some miss) = says questions (deed.Ask miss)
-    due q (questions, None) = again questions
-
-    told : (t : QuestionsState × Option Miss) → P (asked_or_told w t)
-    told (questions, Some miss) = says questions (deed.Deny miss)
-    told (questions, None) = due questions (taken_due questions)
+    due : (t : QuestionsState × Option Miss) → P (asked_due w t)
+    due (questions, Some miss) = says questions (deed.Ask miss)
+    due (questions, None) = again questions
 
     go : (v : Bool) → may_ask w ≡ v → P (if v then asked_next w else (w, made.Idle))
-    go true is = told (record w.questions { denial = None }, w.questions.denial)
+    go true is = due (taken_due w.questions)
     go false is = idle is
 
 -- ---- messages

@@ -70,7 +70,6 @@ follow_leads c c' (deed.Stopped ring) is = same c c' _ is (stop_leads c)
 follow_leads c c' (deed.End y) is = same c c' _ is (stays c.backend.backend)
 follow_leads c c' deed.Table applies = apply_leads c c' applies
 follow_leads c c' (deed.Ask miss) is = same c c' _ is (stays c.backend.backend)
-follow_leads c c' (deed.Deny miss) is = same c c' _ is (stays c.backend.backend)
 
 gives_leads : (c c' : BlockConnection) (m : Move) → GivesBy c m c' → Becomes c c'
 gives_leads c c' (gives_marks range) (l, takes, is) = same c c' _ is (stays c.backend.backend)

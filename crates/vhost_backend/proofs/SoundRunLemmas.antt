@@ -105,7 +105,6 @@ follow_sound c c' (deed.Stopped ring) is sound = same c' _ is (stop_sound c soun
 follow_sound c c' (deed.End y) is sound = same c' _ is sound
 follow_sound c c' deed.Table applies sound = apply_sound c c' applies sound
 follow_sound c c' (deed.Ask miss) is sound = same c' _ is sound
-follow_sound c c' (deed.Deny miss) is sound = same c' _ is sound
 
 gives_sound : (c c' : BlockConnection) (m : Move) → GivesBy c m c' → IsSound c → IsSound c'
 gives_sound c c' (gives_marks range) (l, takes, is) sound = same c' _ is sound

@@ -101,7 +101,6 @@ sent_pages (deed.Stopped ring) c = refl
 sent_pages (deed.End y) c = refl
 sent_pages deed.Table c = refl
 sent_pages (deed.Ask miss) c = refl
-sent_pages (deed.Deny miss) c = refl
 
 open_pages : (c : BlockConnection) (ring id : ℕ) (part : BlockStep) (left : ℕ) (v : Bool)
     → (open_part c ring id part left v).memory.logged.pages ≡ c.memory.logged.pages
@@ -148,7 +147,6 @@ follow_keeps c c' (deed.Stopped ring) is =
 follow_keeps c c' (deed.End y) is = keeps_by c c' (ap (λ (v : BlockConnection). v.memory.logged.pages) is)
 follow_keeps c c' deed.Table applies = apply_keeps c c' applies
 follow_keeps c c' (deed.Ask miss) is = keeps_by c c' (ap (λ (v : BlockConnection). v.memory.logged.pages) is)
-follow_keeps c c' (deed.Deny miss) is = keeps_by c c' (ap (λ (v : BlockConnection). v.memory.logged.pages) is)
 
 log_keeps : (page : ℕ) (c : BlockConnection) → IsToMark page c.memory.logged.pages
     → IsToMark page (as_negotiated c).memory.logged.pages
@@ -307,7 +305,6 @@ sent_marks (deed.Stopped ring) c = refl
 sent_marks (deed.End y) c = refl
 sent_marks deed.Table c = refl
 sent_marks (deed.Ask miss) c = refl
-sent_marks (deed.Deny miss) c = refl
 
 open_marks : (c : BlockConnection) (ring id : ℕ) (part : BlockStep) (left : ℕ) (v : Bool)
     → (open_part c ring id part left v).marks ≡ c.marks
@@ -337,7 +334,6 @@ follow_marks c c' (deed.Stopped ring) is = ap (λ (v : BlockConnection). v.marks
 follow_marks c c' (deed.End y) is = ap (λ (v : BlockConnection). v.marks) is
 follow_marks c c' deed.Table (n, w, t, logged, changes, evicts, is) = ap (λ (v : BlockConnection). v.marks) is
 follow_marks c c' (deed.Ask miss) is = ap (λ (v : BlockConnection). v.marks) is
-follow_marks c c' (deed.Deny miss) is = ap (λ (v : BlockConnection). v.marks) is
 
 log_marks : (c : BlockConnection) → (as_negotiated c).marks ≡ c.marks
 log_marks c = go (is_covered c.backend.backend.connection)

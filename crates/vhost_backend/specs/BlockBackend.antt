@@ -24,7 +24,7 @@ use Rattle.vhost_backend.specs.BlockTable.{asked_for, freed_by}
 use Rattle.vhost_backend.specs.Config.{config_changed}
 use Rattle.vhost_backend.specs.Kicks.{TakesKick}
 use Rattle.vhost_backend.specs.PageList.{capped}
-use Rattle.vhost_backend.specs.Questions.{QuestionsState, after_reply, has_next, lost, no_questions, stale, taken_denial, taken_due}
+use Rattle.vhost_backend.specs.Questions.{QuestionsState, after_reply, has_next, lost, no_questions, stale, taken_due}
 use Rattle.vhost_backend.specs.RingMemory.{MemoryStep, Returned}
 use Rattle.vhost_backend.specs.TableChange.{change_in}
 use Rattle.vhost_backend.specs.Wanted.{wanted_at}
@@ -310,17 +310,13 @@ counted w unread = if nat_lt w.limits.unread unread then hung_up (record w { unr
 abbrev pub replied : BlockBackend → BlockBackend × Made
 replied w = (counted w (capped (w.unread + length w.reply)), made.Deed deed.Send)
 
--- the front end is told of an access that a mapping forbids, or asked for a mapping
+-- the front end is asked for a mapping
 abbrev pub asked_due : BlockBackend → QuestionsState × Option Miss → BlockBackend × Made
 asked_due w (questions, Some miss) = (record w { questions = questions }, made.Deed (deed.Ask miss))
 asked_due w (questions, None) = (record w { questions = questions }, made.Again)
 
-abbrev pub asked_or_told : BlockBackend → QuestionsState × Option Miss → BlockBackend × Made
-asked_or_told w (questions, Some miss) = (record w { questions = questions }, made.Deed (deed.Deny miss))
-asked_or_told w (questions, None) = asked_due (record w { questions = questions }) (taken_due questions)
-
 abbrev pub asked_next : BlockBackend → BlockBackend × Made
-asked_next w = asked_or_told w (taken_denial w.questions)
+asked_next w = asked_due w (taken_due w.questions)
 
 abbrev pub said_on_channel : BlockBackend → BlockBackend × Made
 said_on_channel w = if may_ask w then asked_next w else (w, made.Idle)

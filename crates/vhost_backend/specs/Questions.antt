@@ -1,5 +1,5 @@
 -- What a front end is asked on the back end's own channel.
-use Rattle.std.specs.Prelude.{◌≡◌, ◌≤◌, ℕ, ◌+◌, ◌==◌, ◌||◌, ◌&&◌, not, nat_lt, Bool, true, false, if◌then◌else◌, List, [], ◌∷◌, ◌++◌, length, map, filter, position, slice_set, Option, Some, None, is_some}
+use Rattle.std.specs.Prelude.{◌≡◌, ◌≤◌, ℕ, ◌==◌, ◌||◌, ◌&&◌, not, nat_lt, Bool, true, false, if◌then◌else◌, List, [], ◌∷◌, ◌++◌, length, map, filter, position, slice_set, Option, Some, None}
 use Rattle.std.specs.List.{list_any}
 use Rattle.vhost_backend.specs.Line.{is_line}
 use Rattle.vhost_backend.specs.declared.questions.Miss.{Miss}
@@ -11,12 +11,9 @@ pub record QuestionsState : Type 0 where
   -- the MISSes without a reply, in the order in which they were sent, and those that are to be sent
   pub sent : List SentMiss
   pub due : List Miss
-  -- an access that a mapping forbids, of which the front end is to be told, and how many were since the last reply
-  pub denial : Option Miss
-  pub denials : ℕ
 
 abbrev pub no_questions : ℕ → QuestionsState
-no_questions rings = record { rings = rings; sent = []; due = []; denial = None; denials = 0 }
+no_questions rings = record { rings = rings; sent = []; due = [] }
 
 -- the rings of MISSes that are without a reply, or are to be sent
 abbrev pub asking : List SentMiss → List Miss → List ℕ
@@ -42,7 +39,7 @@ has_miss sent due ring = is_asked sent ring || is_due due ring
 
 -- whether something is to be sent now
 abbrev pub has_next : QuestionsState → Bool
-has_next q = is_some q.denial || (not (length q.due == 0) && nat_lt (length q.sent) 64)
+has_next q = not (length q.due == 0) && nat_lt (length q.sent) 64
 
 -- ---- MISSes
 
@@ -84,15 +81,7 @@ after_reply_by q [] = (q, None)
 after_reply_by q (one ∷ rest) = (record q { sent = rest }, Some one)
 
 abbrev pub after_reply : QuestionsState → QuestionsState × Option SentMiss
-after_reply q = after_reply_by (record q { denials = 0 }) q.sent
-
--- ---- accesses that a mapping forbids
-
-abbrev pub denied : QuestionsState → Miss → QuestionsState
-denied q m = if nat_lt q.denials 16 then record q { denial = Some m; denials = q.denials + 1 } else q
-
-abbrev pub taken_denial : QuestionsState → QuestionsState × Option Miss
-taken_denial q = (record q { denial = None }, q.denial)
+after_reply q = after_reply_by q q.sent
 
 -- ---- the channel
 

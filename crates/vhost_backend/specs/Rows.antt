@@ -93,14 +93,9 @@ way_of_access permissions.Read = 1
 way_of_access permissions.Write = 2
 way_of_access permissions.ReadWrite = 3
 
--- a mapping is asked for, or it is told that one forbids the access
-abbrev pub ask_row : Miss → Bool → ActionRow
-ask_row miss is_denied = record (no_action 12) {
-  ring = number_of miss.ring;
-  way = way_of_access miss.access;
-  count = flag_of is_denied;
-  place = miss.iova;
-}
+-- a mapping is asked for
+abbrev pub ask_row : Miss → ActionRow
+ask_row miss = record (no_action 12) { ring = number_of miss.ring; way = way_of_access miss.access; place = miss.iova }
 
 -- what is to be done but a part of a request, of which the reply has so many bytes
 abbrev pub row_of : Deed → ℕ → Option ActionRow
@@ -116,8 +111,7 @@ row_of (deed.Tell ring) n = Some (on_ring 8 ring)
 row_of (deed.Stopped ring) n = Some (on_ring 11 ring)
 row_of (deed.End y) n = Some (end_row y)
 row_of deed.Table n = None
-row_of (deed.Ask miss) n = Some (ask_row miss false)
-row_of (deed.Deny miss) n = Some (ask_row miss true)
+row_of (deed.Ask miss) n = Some (ask_row miss)
 
 -- ---- parts
 

@@ -70,8 +70,6 @@ pub enum Deed {
     Table,
     /// The front end is asked for a mapping.
     Ask(Miss),
-    /// The front end is told that a mapping forbids an access.
-    Deny(Miss),
     /// The connection is over.
     End(Why),
 }

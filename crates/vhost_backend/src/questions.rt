@@ -2,9 +2,8 @@
 //! without a reply.
 ghost use Rattle.std.specs.Prelude.{◌≡◌, ◌≤◌, true, IfOk, length, vec_capacity};
 ghost use Rattle.vhost_backend.specs.Line.{is_line};
-ghost use Rattle.vhost_backend.specs.Questions.{after_reply, asking, denied, forgotten, lost, no_questions, stale};
-ghost use Rattle.vhost_backend.specs.Questions.{has_miss, has_next, is_asked, is_due, place_of, staled, taken_denial};
-ghost use Rattle.vhost_backend.specs.Questions.{taken_due, wanted};
+ghost use Rattle.vhost_backend.specs.Questions.{after_reply, asking, forgotten, has_miss, has_next, is_asked};
+ghost use Rattle.vhost_backend.specs.Questions.{is_due, lost, no_questions, place_of, stale, staled, taken_due, wanted};
 
 use std::alloc::{AllocError, Global};
 use std::marker::Model;
@@ -12,9 +11,6 @@ use vm_memory_base::Permissions;
 
 // How many MISSes are without a reply at most.
 const MOST_SENT: usize = 64;
-
-// How many ACCESS_FAILs are sent at most between two replies.
-const MOST_DENIALS: u32 = 16;
 
 /// An address that a ring needs for an access.
 #[derive(Clone, Copy, Debug, PartialEq, Eq)]
@@ -95,10 +91,6 @@ pub struct Questions {
     sent: Vec<SentMiss>,
     // Those that are to be sent, in this order.
     due: Vec<Miss>,
-    // An access that a mapping forbids, of which the front end is to be told.
-    denial: Option<Miss>,
-    // How many it was told since the last reply.
-    denials: u32,
 }
 
 impl Model for Questions {
@@ -111,8 +103,6 @@ impl Model for Questions {
       rings = q.rings;
       sent = q.sent.items;
       due = q.due.items;
-      denial = q.denial;
-      denials = q.denials;
     } };
 
     ghost invariant = { λ q. IsKept q.rings q.sent.items q.due.items (vec_capacity q.sent) (vec_capacity q.due) };
@@ -127,8 +117,6 @@ impl Questions {
             rings,
             sent: Vec::with_capacity(alloc, MOST_SENT)?,
             due: Vec::with_capacity(alloc, rings)?,
-            denial: None,
-            denials: 0,
         })
     }
 
@@ -137,7 +125,7 @@ impl Questions {
     pub fn has_next(&self) -> bool
         ensures { result ≡ has_next self.now }
     {
-        self.denial.is_some() || (!self.due.is_empty() && self.sent.len() < MOST_SENT)
+        !self.due.is_empty() && self.sent.len() < MOST_SENT
     }
 
     /// A ring needs an address. A MISS is to be sent for it, unless one of the ring is to be sent or without a reply:
@@ -181,28 +169,10 @@ impl Questions {
     pub fn replied(&mut self) -> Option<SentMiss>
         ensures { (self.new, result) ≡ after_reply self.old }
     {
-        self.denials = 0;
         if self.sent.is_empty() {
             return None;
         }
         Some(self.sent.remove(0))
-    }
-
-    /// A mapping forbids an access that a ring needs. The front end is told of that, unless there are many.
-    pub fn deny(&mut self, miss: Miss)
-        ensures { self.new ≡ denied self.old miss }
-    {
-        if self.denials < MOST_DENIALS {
-            self.denials += 1;
-            self.denial = Some(miss);
-        }
-    }
-
-    /// Takes the access of which the front end is to be told that a mapping forbids it.
-    pub fn take_denial(&mut self) -> Option<Miss>
-        ensures { (self.new, result) ≡ taken_denial self.old }
-    {
-        self.denial.take()
     }
 
     /// The channel is lost: no reply comes any more, and nothing is to be sent.
@@ -211,7 +181,5 @@ impl Questions {
     {
         self.sent.clear();
         self.due.clear();
-        self.denial = None;
-        self.denials = 0;
     }
 }

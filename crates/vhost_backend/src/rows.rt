@@ -26,7 +26,7 @@ pub struct ActionRow {
     pub id: u32,
     /// The way of a part, the use of a descriptor, an access, or why the connection is over.
     pub way: u32,
-    /// How many pieces a part has, whether a descriptor is to be kept, or whether a mapping forbids the access.
+    /// How many pieces a part has, or whether a descriptor is to be kept.
     pub count: u32,
     /// Whether the part goes on with the next action.
     pub more: u32,
@@ -329,13 +329,12 @@ fn way_of_access(access: Permissions) -> u32
     }
 }
 
-fn ask_row(miss: Miss, is_denied: bool) -> ActionRow
-    ensures { result ≡ ask_row miss is_denied }
+fn ask_row(miss: Miss) -> ActionRow
+    ensures { result ≡ ask_row miss }
 {
     ActionRow {
         ring: number_of(miss.ring),
         way: way_of_access(miss.access),
-        count: flag_of(is_denied),
         place: miss.iova,
         ..no_action(kind::ASK)
     }
@@ -355,8 +354,7 @@ pub(crate) fn row_of(deed: Deed, bytes: usize) -> Option<ActionRow>
         Deed::Tell(ring) => Some(on_ring(kind::ERROR, ring)),
         Deed::Stopped(ring) => Some(on_ring(kind::STOPPED, ring)),
         Deed::End(why) => Some(end_row(why)),
-        Deed::Ask(miss) => Some(ask_row(miss, false)),
-        Deed::Deny(miss) => Some(ask_row(miss, true)),
+        Deed::Ask(miss) => Some(ask_row(miss)),
         Deed::Join | Deed::Table | Deed::Part(..) => None,
     }
 }

@@ -165,7 +165,6 @@ fn ask_of<'a>(raw: &raw::Action) -> Action<'a> {
         ring: raw.ring,
         iova: raw.place,
         access: access_of(raw.way),
-        is_forbidden: raw.count == 1,
     }
 }
 

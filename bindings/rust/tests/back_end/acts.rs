@@ -19,8 +19,8 @@ pub enum Act {
     Broke(u32),
     End(Ended),
     Stopped(u32),
-    /// A ring asks for a mapping of an I/O address, for an access, or says that one forbids that.
-    Ask(u32, u64, u8, bool),
+    /// A ring asks for a mapping of an I/O address, for an access.
+    Ask(u32, u64, u8),
 }
 
 /// Why a connection is over. A message may break more than one rule.

@@ -307,7 +307,7 @@ impl Model {
         } else if let Some(why) = self.why.take() {
             Some(Act::End(why))
         } else {
-            let ask = |(ring, iova, access)| Act::Ask(ring as u32, iova, access, false);
+            let ask = |(ring, iova, access)| Act::Ask(ring as u32, iova, access);
             self.asks().map(ask)
         };
         let is_said = act.is_some();

@@ -79,16 +79,13 @@ impl BlockBackend {
     fn ask_next(&mut self) -> Made
         ensures { (self.new, result) ≡ asked_next self.old }
     {
-        if let Some(miss) = self.questions.take_denial() {
-            return Made::Deed(Deed::Deny(miss));
-        }
         match self.questions.take_due() {
             Some(miss) => Made::Deed(Deed::Ask(miss)),
             None => Made::Again,
         }
     }
 
-    // What the front end is asked or told on the channel.
+    // What the front end is asked on the channel.
     pub(super) fn say_on_channel(&mut self) -> Made
         ensures { (self.new, result) ≡ said_on_channel self.old }
     {

@@ -31,12 +31,7 @@ impl World<'_> {
                     continue;
                 }
                 Action::Serve(part) => Act::Serve(served(&part)),
-                Action::Ask {
-                    ring,
-                    iova,
-                    access,
-                    is_forbidden,
-                } => Act::Ask(ring, iova, access as u8, is_forbidden),
+                Action::Ask { ring, iova, access } => Act::Ask(ring, iova, access as u8),
             });
         }
         (acts, marks)
@@ -74,7 +69,7 @@ impl World<'_> {
                     self.is_over = true;
                 }
                 Act::Send(_) => (),
-                Act::Ask(ring, iova, _, is_forbidden) => self.asked(*ring, *iova, *is_forbidden),
+                Act::Ask(ring, iova, _) => self.asked(*ring, *iova),
             }
         }
         is_asked

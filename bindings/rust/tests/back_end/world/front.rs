@@ -21,8 +21,6 @@ pub struct Counted {
     pub asked: u64,
     pub unmapped: u64,
     pub refused: u64,
-    /// Mappings that forbid an access, of which the front end was told.
-    pub forbidden: u64,
     pub updates: u64,
     pub invalidates: u64,
     /// Messages on the table that waited for what was under way.
@@ -216,11 +214,7 @@ impl World<'_> {
     }
 
     /// A ring asks for a mapping: no more than one question of it has no reply, and no message is under way.
-    pub(super) fn asked(&mut self, ring: u32, iova: u64, is_forbidden: bool) {
-        if is_forbidden {
-            self.counts.behind.forbidden += 1;
-            return;
-        }
+    pub(super) fn asked(&mut self, ring: u32, iova: u64) {
         self.counts.behind.asked += 1;
         assert!(self.front.has_channel);
         assert!(
