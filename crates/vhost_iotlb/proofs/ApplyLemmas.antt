@@ -1,71 +1,102 @@
 -- What was made for a message of the front end.
-use Rattle.std.proofs.Common.{◌≡◌, ◌⊎◌, cond, ℕ, ◌+◌, ◌-◌, ◌^◌, ◌<◌, List, [], ◌∷◌, Some, Result, Ok, Err, refl, sym, ap, subst, ◌∙◌, inl, inr, arith}
-use Rattle.std.proofs.lemmas.Bool.{cond-false, le-ltb}
+use Rattle.std.proofs.Common.{◌≡◌, cond, ℕ, ◌+◌, ◌-◌, ◌^◌, ◌<◌, List, [], ◌∷◌, Option, Some, None, Result, Ok, Err, IfErr, OnOk, Bool, true, false, refl, sym, ap, subst, ◌∙◌}
 use Rattle.vm_memory_base.specs.Table as table
 use Rattle.vm_memory_base.specs.Table.{TableEvent, overruns}
 use Rattle.vm_memory_base.specs.declared.address.GuestAddress.{GuestAddress}
 use Rattle.vm_memory_base.specs.declared.iotlb.Permissions.{Permissions}
 use Rattle.vm_memory_guest.specs.Host.{Host}
-use Rattle.vhost_iotlb.specs.Changes.{Applies, Changes, DoneFor, Makes, MakesOfMalformed, call_of, invalidate, invalidated, set_to}
+use Rattle.vhost_iotlb.specs.Changes.{Applies, ChangesFor, LeftByRefused, Makes, MakesOfMalformed, MayWant, call_of, done_of, invalidate, invalidated, set_to}
 use Rattle.vhost_message.specs.Regions.{guest_of}
 use Rattle.vhost_message.specs.declared.refusal.Malformed.{Malformed}
 use Rattle.vhost_message.specs.declared.refusal.Malformed.TheVariants as malformed
 use Rattle.vhost_message.specs.declared.iotlb.IotlbMessage.{IotlbMessage}
-use Rattle.vhost_message.specs.declared.iotlb.IotlbMessage.TheVariants.{Update, Invalidate}
+use Rattle.vhost_message.specs.declared.iotlb.IotlbMessage.TheVariants.{Miss, Update, Invalidate, AccessFail}
 use Rattle.vhost_iotlb.specs.declared.table.Refusal.{Refusal}
 use Rattle.vhost_iotlb.specs.declared.table.Refusal.TheVariants as refusal
 use Rattle.vhost_message.specs.declared.regions.MemoryRegion.{MemoryRegion}
 
-abbrev asked_for : TableEvent → Result TableEvent Refusal
-asked_for call = Ok call
+-- an INVALIDATE is refused only if it is malformed
+not_user : (iova : ℕ) (r : Result ℕ Malformed) → invalidate iova r ≡ Err refusal.UserAddress → ⊥
+not_user iova (Ok len) is = absurd cc
+not_user iova (Err e) is = absurd cc
 
--- a range whose end is an address is malformed in no other way
-in_range : (iova size : ℕ) (r : Result TableEvent Refusal) → iova + size < 2 ^ 64
-    → cond (overruns iova size) (Err (refusal.Malformed malformed.Range)) r ≡ r
-in_range iova size r fits =
-    cond-false (overruns iova size) (Err (refusal.Malformed malformed.Range)) r
-    (le-ltb (2 ^ 64 - 1) (iova + size) (omega arith))
+-- ---- what no message is refused for
 
-module _ {B : Type 0} (number : ℕ) (regions : List MemoryRegion) (m : IotlbMessage) (old new : Host B) where
-  made_by : (wanted call : TableEvent) → call_of regions m ≡ asked_for wanted → DoneFor wanted call
-      → Changes number call old new
+abbrev is_odd : Result TableEvent Refusal → Bool
+is_odd (Err refusal.Memory) = true
+is_odd (Err refusal.NoTable) = true
+is_odd (Err refusal.UserAddress) = false
+is_odd (Err (refusal.Malformed e)) = false
+is_odd (Ok call) = false
+
+none_odd : (b : Bool) (r : Result TableEvent Refusal) → is_odd r ≡ false
+    → is_odd (cond b (Err (refusal.Malformed malformed.Range)) r) ≡ false
+none_odd true r even = refl
+none_odd false r even = even
+
+set_even : (iova size : ℕ) (perm : Permissions) (to : Option GuestAddress) → is_odd (set_to iova size perm to) ≡ false
+set_even iova size perm None = refl
+set_even iova size perm (Some to) = refl
+
+taken_even : (iova : ℕ) (r : Result ℕ Malformed) → is_odd (invalidate iova r) ≡ false
+taken_even iova (Ok len) = refl
+taken_even iova (Err e) = refl
+
+even : (regions : List MemoryRegion) (m : IotlbMessage) → is_odd (call_of regions m) ≡ false
+even regions (Update iova size user perm) =
+    none_odd (overruns iova size) (set_to iova size perm (guest_of regions user size))
+    (set_even iova size perm (guest_of regions user size))
+even regions (Invalidate iova size) = taken_even iova (invalidated iova size)
+even regions (Miss iova access) = refl
+even regions (AccessFail iova access) = refl
+
+never : (regions : List MemoryRegion) (m : IotlbMessage) (e : Refusal) → call_of regions m ≡ Err e
+    → is_odd (Err e) ≡ true → ⊥
+never regions m e is odd = let no = sym (even regions m) ∙ ap is_odd is ∙ odd in absurd cc
+
+-- ---- what was made
+
+module _ {B : Type 0} (number : ℕ) (regions : List MemoryRegion) (old new : Host B) where
+  -- a call that was asked for
+  made_by : (m : IotlbMessage) (wanted : TableEvent) → call_of regions m ≡ Ok wanted
+      → ChangesFor number wanted old new
       → (calls : List TableEvent) × Makes number (call_of regions m) calls old new
-  made_by wanted call is done changes = (
-    call ∷ [],
-    record { wanted = wanted; call = call; is_asked = is; done_for = done; made = refl; changes = changes },
+  made_by m wanted is by = (
+    by.0 ∷ [],
+    record { wanted = wanted; call = by.0; is_asked = is; done_for = by.1; made = refl; changes = by.2 },
   )
 
-  pub set_made : (iova size user : ℕ) (perm : Permissions) (to : GuestAddress) → m ≡ Update iova size user perm
-      → iova + size < 2 ^ 64 → guest_of regions user size ≡ Some to
-      → Changes number (table.Set iova to.0 size perm) old new
-      → (calls : List TableEvent) × Makes number (call_of regions m) calls old new
-  set_made iova size user perm to is fits lies changes =
-      let set = table.Set iova to.0 size perm in
-      made_by set set
-      (ap (call_of regions) is ∙ in_range iova size (set_to iova size perm (guest_of regions user size)) fits
-      ∙ ap (set_to iova size perm) lies)
-      refl changes
+  -- a change that was asked for, which an allocation may stop
+  pub made_or_not : (m : IotlbMessage) (wanted : TableEvent) → call_of regions m ≡ Ok wanted → (r : Result ℕ Refusal)
+      → OnOk r (ChangesFor number wanted old new)
+      → IfErr r (λ e. (e ≡ refusal.Memory) × MayWant (Ok wanted) × (new ≡ old))
+      → (calls : List TableEvent) × Applies number regions m (done_of r) calls old new
+  made_or_not m wanted is (Ok n) made refused = made_by m wanted is made
+  made_or_not m wanted is (Err e) made refused =
+      let wants : MayWant (call_of regions m) = subst MayWant (sym is) refused.1 in (
+        [],
+        subst (λ (f : Refusal). Applies number regions m (Err f) [] old new) (sym refused.0)
+            (wants, (refl, refused.2)),
+      )
 
-  pub taken_back : (iova size len : ℕ) → m ≡ Invalidate iova size → invalidated iova size ≡ Ok len
-      → Changes number (table.Invalidate iova len) old new ⊎ Changes number table.InvalidateAll old new
-      → (calls : List TableEvent) × Makes number (call_of regions m) calls old new
-  taken_back iova size len is fits changes =
-      let one : TableEvent = table.Invalidate iova len in
-      let asked : call_of regions m ≡ asked_for one = ap (call_of regions) is ∙ ap (invalidate iova) fits in
-      elim changes [
-        | inl c ↦ made_by one one asked (inl refl) c
-        | inr c ↦ made_by one table.InvalidateAll asked (inr refl) c
-      ]
+  malformed_by : (m : IotlbMessage) → LeftByRefused number m old new
+      → (calls : List TableEvent) × MakesOfMalformed number m calls old new
+  malformed_by (Invalidate iova size) left = (table.InvalidateAll ∷ [], (refl, left))
+  malformed_by (Update iova size user perm) left = ([], (refl, left))
+  malformed_by (Miss iova access) left = ([], (refl, left))
+  malformed_by (AccessFail iova access) left = ([], (refl, left))
 
-  -- an INVALIDATE that is malformed
-  pub all_invalidated : (iova size : ℕ) (e : Malformed) → m ≡ Invalidate iova size → invalidated iova size ≡ Err e
-      → Changes number table.InvalidateAll old new
-      → (calls : List TableEvent) × Applies number regions m (Err (refusal.Malformed e)) calls old new
-  all_invalidated iova size e is wrong changes = (
-    table.InvalidateAll ∷ [],
-    (
-      ap (call_of regions) is ∙ ap (invalidate iova) wrong,
-      subst (λ (n : IotlbMessage). MakesOfMalformed number n (table.InvalidateAll ∷ []) old new) (sym is)
-          (refl, changes),
-    ),
-  )
+  user_by : (m : IotlbMessage) → call_of regions m ≡ Err refusal.UserAddress → LeftByRefused number m old new
+      → new ≡ old
+  user_by (Invalidate iova size) is left = absurd (not_user iova (invalidated iova size) is)
+  user_by (Update iova size user perm) is left = left
+  user_by (Miss iova access) is left = left
+  user_by (AccessFail iova access) is left = left
+
+  -- a message for which no call is asked
+  pub refused_by : (m : IotlbMessage) (e : Refusal) → call_of regions m ≡ Err e → LeftByRefused number m old new
+      → (calls : List TableEvent) × Applies number regions m (Err e) calls old new
+  refused_by m (refusal.Malformed e) is left = let by = malformed_by m left in (by.0, (is, by.1))
+  refused_by m refusal.UserAddress is left = ([], (is, (refl, user_by m is left)))
+  refused_by m refusal.Memory is left = absurd (never regions m refusal.Memory is refl)
+  refused_by m refusal.NoTable is left = absurd (never regions m refusal.NoTable is refl)

@@ -70,6 +70,10 @@ pub record Changes {B : Type 0} (number : ℕ) (call : TableEvent) (old new : Ho
   pub there : slice_get old.tables number ≡ Some before
   pub left : new ≡ with_table_at old number (changed call before)
 
+-- a call was asked for, and one that may be made for it changed the table of this number
+abbrev pub ChangesFor : {B : Type 0} → ℕ → TableEvent → Host B → Host B → Type 0
+ChangesFor number wanted old new = (call : TableEvent) × DoneFor wanted call × Changes number call old new
+
 -- a call was asked for, and one was made for it
 pub record Makes {B : Type 0} (number : ℕ) (asked : Result TableEvent Refusal) (calls : List TableEvent)
     (old new : Host B) : Type 0 where
@@ -89,6 +93,11 @@ abbrev pub MakesOfMalformed : {B : Type 0} → ℕ → IotlbMessage → List Tab
 MakesOfMalformed number (Invalidate iova size) calls old new =
     (calls ≡ table.InvalidateAll ∷ []) × Changes number table.InvalidateAll old new
 MakesOfMalformed number m calls old new = MakesNothing calls old new
+
+-- what a message that is refused leaves of a host
+abbrev pub LeftByRefused : {B : Type 0} → ℕ → IotlbMessage → Host B → Host B → Type 0
+LeftByRefused number (Invalidate iova size) old new = Changes number table.InvalidateAll old new
+LeftByRefused number m old new = new ≡ old
 
 -- what was asked for may be refused because an allocation fails: that a range is mapped
 abbrev pub MayWant : Result TableEvent Refusal → Type 0

@@ -1,11 +1,13 @@
 //! A bounded table of a host, and what messages make of it.
 ghost use Rattle.std.specs.Prelude.{◌≡◌, ◌⊎◌, ◌+◌, ◌^◌, ◌<◌, true, false, List, [], length, Some, IfNone, IfOk, IfSome};
-ghost use Rattle.std.specs.Prelude.{Ok, Err, MatchResult, OnErr, OnOk, OnSome, slice_get};
+ghost use Rattle.std.specs.Prelude.{Ok, Err, IfErr, MatchResult, OnErr, OnOk, OnSome, slice_get};
 ghost use Rattle.vm_memory_base.specs.Table as tables;
 ghost use Rattle.vm_memory_base.specs.Table.{TableEvent};
 ghost use Rattle.vm_memory_guest.specs.Host.{shape_of, with_given_table};
-ghost use Rattle.vhost_iotlb.specs.Changes.{Applies, Changes, call_of, done_of, evicted_for, guest_asked, invalidated};
+ghost use Rattle.vhost_iotlb.specs.Changes.{Applies, Changes, ChangesFor, LeftByRefused, MayWant, call_of, done_of};
+ghost use Rattle.vhost_iotlb.specs.Changes.{evicted_for, guest_asked, invalidated};
 ghost use Rattle.vhost_iotlb.specs.Kept.{Fits, event_of};
+ghost use Rattle.vhost_iotlb.specs.declared.table.Refusal.TheVariants as refusal;
 ghost use Rattle.vhost_message.specs.declared.regions.MemoryRegion.{MemoryRegion};
 
 use crate::kept::Change;
@@ -160,6 +162,58 @@ fn take_back_in<B>(host: &mut HostMemory<B>, table: TlbId, iova: u64, size: u64)
     take_back(host.table_mut(table), iova, size);
 }
 
+// Makes a change to a table of a host, and returns how many ranges the table evicted. `Memory` if an allocation failed.
+fn make<B>(host: &mut HostMemory<B>, table: TlbId, change: Change) -> Result<usize, Refusal>
+    requires there { table.0 < length host.old.tables }
+    requires fits { Fits change }
+    ensures made { OnOk result (ChangesFor table.0 (event_of change) host.old host.new) }
+    ensures count { IfOk result (λ n. n ≡ evicted_for (Ok (event_of change)) (slice_get host.old.tables table.0)) }
+    ensures refused { IfErr result
+        (λ e. (e ≡ refusal.Memory) × MayWant (Ok (event_of change)) × (host.new ≡ host.old)) }
+    ensures shape { shape_of host.new ≡ shape_of host.old }
+{
+    match change {
+        Change::Map {
+            iova,
+            to,
+            len,
+            permissions,
+        } => match set_in(host, table, iova, GuestAddress(to), len, permissions) {
+            Some(count) => Ok(count),
+            None => Err(Refusal::Memory),
+        },
+        Change::Unmap { iova, len } => {
+            take_back_in(host, table, iova, len);
+            Ok(0)
+        }
+    }
+}
+
+// A message is refused: a malformed INVALIDATE invalidates everything.
+fn refuse<B>(host: &mut HostMemory<B>, table: TlbId, message: &IotlbMessage)
+    requires { table.0 < length host.old.tables }
+    ensures refused { LeftByRefused table.0 message.now host.old host.new }
+    ensures shape { shape_of host.new ≡ shape_of host.old }
+{
+    if let IotlbMessage::Invalidate { .. } = message {
+        invalidate_all(host, table);
+    }
+}
+
+// Where the range of an UPDATE lies in guest memory.
+fn guest_asked(memory: &MemoryRegions, message: &IotlbMessage) -> Option<GuestAddress>
+    ensures { result ≡ guest_asked memory.now message.now }
+{
+    match *message {
+        IotlbMessage::Update {
+            size,
+            user_address,
+            ..
+        } => memory.guest_of(user_address, size),
+        _ => None,
+    }
+}
+
 impl DeviceTable {
     /// Makes a table of a host that keeps at most `limit` ranges, which has to be 1 or more, for a front end that
     /// announced this memory. `AllocError` if its allocation fails, and then nothing changes.
@@ -221,38 +275,11 @@ impl DeviceTable {
         if !host.shape().has_table(self.table) {
             return Err(Refusal::NoTable);
         }
-        match *message {
-            IotlbMessage::Update {
-                iova,
-                size,
-                user_address,
-                permissions,
-            } => {
-                if iova.checked_add(size).is_none() {
-                    return Err(Refusal::Malformed(Malformed::Range));
-                }
-                let Some(to) = self.memory.guest_of(user_address, size) else {
-                    return Err(Refusal::UserAddress);
-                };
-                match set_in(host, self.table, iova, to, size, permissions) {
-                    Some(count) => Ok(count),
-                    None => Err(Refusal::Memory),
-                }
-            }
-            IotlbMessage::Invalidate { iova, size } => {
-                match invalidated(iova, size) {
-                    Ok(len) => {
-                        take_back_in(host, self.table, iova, len);
-                        Ok(0)
-                    }
-                    Err(error) => {
-                        invalidate_all(host, self.table);
-                        Err(Refusal::Malformed(error))
-                    }
-                }
-            }
-            IotlbMessage::Miss { .. } | IotlbMessage::AccessFail { .. } => {
-                Err(Refusal::Malformed(Malformed::Kind))
+        match change_of(message, guest_asked(&self.memory, message)) {
+            Ok(change) => make(host, self.table, change),
+            Err(error) => {
+                refuse(host, self.table, message);
+                Err(error)
             }
         }
     }
