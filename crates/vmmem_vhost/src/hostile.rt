@@ -1,5 +1,9 @@
 //! Malformed messages.
 
+use vhost_message::{
+    Header, PAYLOAD_LEN, VERSION, VHOST_USER_IOTLB_MSG, VHOST_USER_NEED_REPLY, VHOST_USER_REPLY,
+};
+
 const MAX: u64 = u64::MAX;
 
 // The fields of a payload: address, size, user address, permissions and kind.
@@ -23,11 +27,19 @@ const CASES: [Fields; 14] = [
     (0, 0x1000, MAX, 3, 2),
 ];
 
-/// How many malformed messages there are.
-pub const MALFORMED: usize = CASES.len();
+// The fields of headers: request, flags and size, of a payload of an UPDATE.
+const HEADERS: [(u32, u32, u32); 4] = [
+    (99, VERSION, 32),
+    (VHOST_USER_IOTLB_MSG, VERSION + 1, 32),
+    (VHOST_USER_IOTLB_MSG, VERSION | VHOST_USER_REPLY, 32),
+    (VHOST_USER_IOTLB_MSG, VERSION, 33),
+];
+
+// A payload of an UPDATE that the back end would apply.
+const UPDATE: Fields = (0, 0x1000, 0x7fff_4000_0000, 3, 2);
 
 // The bytes of a payload, of which the last six mean nothing.
-fn payload_of(fields: Fields) -> [u8; 32] {
+fn payload_of(fields: Fields) -> [u8; PAYLOAD_LEN] {
     let (iova, len, user, y, z) = fields;
     let [a, b, c, d, e, f, g, h] = iova.to_le_bytes();
     let [i, j, k, l, m, n, o, p] = len.to_le_bytes();
@@ -38,11 +50,29 @@ fn payload_of(fields: Fields) -> [u8; 32] {
     ]
 }
 
-/// The payload of a malformed message, and whether the back end invalidates everything for it: its kind is that of an
-/// INVALIDATE.
-pub fn malformed(pick: usize, first: u64) -> ([u8; 32], bool) {
-    let (iova, len, user, permissions, kind) = CASES[pick % CASES.len()];
+// The payload of these fields, where 0 is an address.
+fn payload_at(fields: Fields, first: u64) -> [u8; PAYLOAD_LEN] {
+    let (iova, len, user, permissions, kind) = fields;
     let address = if iova == 0 { first } else { iova };
-    let payload = payload_of((address, len, user, permissions, kind));
-    (payload, kind == 3)
+    payload_of((address, len, user, permissions, kind))
+}
+
+/// The malformed message of a number, one after the other, with the I/O address of the first page.
+pub fn malformed(number: u64, first: u64) -> (Header, [u8; PAYLOAD_LEN]) {
+    let pick = (number % (CASES.len() + HEADERS.len()) as u64) as usize;
+    if let Some(fields) = CASES.get(pick) {
+        let header = Header {
+            request: VHOST_USER_IOTLB_MSG,
+            flags: VERSION | VHOST_USER_NEED_REPLY,
+            size: PAYLOAD_LEN as u32,
+        };
+        return (header, payload_at(*fields, first));
+    }
+    let (request, flags, size) = HEADERS[pick.wrapping_sub(CASES.len()) % HEADERS.len()];
+    let header = Header {
+        request,
+        flags: flags | VHOST_USER_NEED_REPLY,
+        size,
+    };
+    (header, payload_at(UPDATE, first))
 }

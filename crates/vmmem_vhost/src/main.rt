@@ -1,17 +1,28 @@
 //! A front end and a back end of vhost, in two threads that share guest memory under a lock. The front end has a
-//! guest's I/O table and its driver. The back end serves a block device behind a table of few ranges, which it fills
-//! by asking. It prints what they did, and whether each byte that was read is the one that was written.
+//! guest's I/O table and its driver. The back end is the state machine of a block device, behind a table of few ranges,
+//! which it fills by asking, and an executor of its actions. It prints what they did, and whether each byte that was
+//! read is the one that was written.
 #![tactic(auto)]
 
 mod back;
+mod channel;
+mod driver;
+mod executor;
 mod front;
+mod guest;
 mod hostile;
+mod pages;
 mod world;
 
 use anyhow::bail;
-use back::{BackEnd, Done};
+use back::BackEnd;
+use channel::End;
 use clap::{Arg, ArgAction, Command, value_parser};
-use front::{End, FrontEnd, NOTHING, Pages, Seen, map_page};
+use driver::Driver;
+use executor::{Executor, Store};
+use front::{FrontEnd, PROTOCOL, features};
+use guest::{Guest, NOTHING, Seen};
+use pages::Pages;
 use rand_core::SeedableRng;
 use rand_xoshiro::Xoshiro256PlusPlus;
 use std::alloc::{AllocError, Global};
@@ -22,31 +33,43 @@ use std::sync::{Mutex, Wait};
 use std::thread::Threads;
 use std::time::Duration;
 use std::{env, thread};
-use vhost_iotlb::{DeviceIotlb, DeviceTable, Limits};
-use virtio_blk::MemoryDisk;
-use virtio_queue::DriverQueue;
-use vm_memory_guest::{SpaceId, TlbId};
-use world::{
-    FRAMES, Host, Layout, PAGES, SECTORS, SLOTS, announced, behind, driver_queue, make_host,
-};
+use vhost_backend::{BlockConnection, BlockDisk};
+use vhost_calls::VhostOffer;
+use vm_memory_base::GuestAddress;
+use world::{MOST_MEMORY, QUEUE_SIZE, SECTORS, SLOTS};
 
 // How many bytes the disk has.
 const DISK_LEN: usize = SECTORS as usize * 512;
 
+// How many bytes the configuration of the disk has.
+const CONFIG_LEN: usize = 60;
+
+// How many bytes of replies may wait.
+const UNREAD: u32 = 4096;
+
 // What the arguments ask for.
 #[derive(Clone, Copy)]
 struct Options {
-    limit: usize,
+    limit: u32,
     seed: u64,
     requests: u64,
     hostile: bool,
     events: bool,
+    counts: bool,
 }
 
 const ABOUT: &str = "\
 Runs a vhost front end and a back end in two threads. The front end's driver reads and writes sectors at random, and
 moves and unmaps pages meanwhile. The back end serves a block device behind an I/O table of few ranges. It prints what
 they did, and whether each byte that was read is the one that was written; else it fails.";
+
+// An argument that is there or not.
+fn flag<'a>(alloc: Global, name: &'a str, help: &'a str) -> Arg<'a> {
+    Arg::new(alloc, name)
+        .long(name)
+        .action(ArgAction::SetTrue)
+        .help(help)
+}
 
 // The arguments that it takes.
 fn command<'a>(alloc: Global) -> Result<Command<'a>, AllocError> {
@@ -73,18 +96,21 @@ fn command<'a>(alloc: Global) -> Result<Command<'a>, AllocError> {
                 .value_parser(value_parser!(u64))
                 .help("How many requests the driver makes [default: 1000]"),
         )?
-        .arg(
-            Arg::new(alloc, "hostile")
-                .long("hostile")
-                .action(ArgAction::SetTrue)
-                .help("Send malformed messages, too, each of which has to be refused"),
-        )?
-        .arg(
-            Arg::new(alloc, "no-event-idx")
-                .long("no-event-idx")
-                .action(ArgAction::SetTrue)
-                .help("Notify by the flags of the rings, and not by event indices"),
-        )
+        .arg(flag(
+            alloc,
+            "hostile",
+            "Send malformed messages, too, each of which has to end the connection",
+        ))?
+        .arg(flag(
+            alloc,
+            "no-event-idx",
+            "Notify by the flags of the rings, and not by event indices",
+        ))?
+        .arg(flag(
+            alloc,
+            "counts",
+            "Print also how often things happened that depend on how the threads meet",
+        ))
 }
 
 // The options, or the status to end with where there are none: the help or what is wrong with them is printed.
@@ -99,15 +125,14 @@ fn read_options(rt: &HostRuntime) -> anyhow::Result<Result<Options, u8>> {
         }
     };
     Ok(Ok(Options {
-        limit: matches.get_one::<u32>("limit").unwrap_or(8) as usize,
+        limit: matches.get_one::<u32>("limit").unwrap_or(8),
         seed: matches.get_one::<u64>("seed").unwrap_or(1),
         requests: matches.get_one::<u64>("requests").unwrap_or(1000),
         hostile: matches.get_flag("hostile"),
         events: !matches.get_flag("no-event-idx"),
+        counts: matches.get_flag("counts"),
     }))
 }
-
-type Ends = (FrontEnd<UnixStream>, BackEnd<UnixStream, UnixStream>);
 
 // The back end's sockets give up a read after a while, to look at the other one.
 fn channels<R: Net>(rt: &R) -> anyhow::Result<[UnixStream; 4]> {
@@ -119,111 +144,124 @@ fn channels<R: Net>(rt: &R) -> anyhow::Result<[UnixStream; 4]> {
     Ok([front, coming, own, back])
 }
 
-// The guest's table, in which each page leads to a frame.
-fn make_pages(alloc: Global, host: &mut Host) -> anyhow::Result<(TlbId, Pages)> {
-    let table = host.new_table()?;
-    let mut frames = [0; PAGES as usize];
-    for (page, frame) in (0..PAGES).zip(frames.iter_mut()) {
-        *frame = page.wrapping_mul(7).wrapping_add(5) % FRAMES;
-        map_page(host, table, page, *frame)?;
-    }
-    let mut free = Vec::new(alloc);
-    for frame in 0..FRAMES {
-        if !frames.contains(&frame) {
-            free.push(frame)?;
-        }
-    }
-    let pages = Pages {
-        frames,
-        free,
-        told: [false; PAGES as usize],
-    };
-    Ok((table, pages))
-}
-
-// Makes the back end, whose table is bounded, with its two sockets.
-fn make_back_end(
-    alloc: Global,
-    host: &mut Host,
-    layout: &Layout,
-    space: SpaceId,
-    driver: &DriverQueue,
-    sockets: [UnixStream; 2],
-    options: Options,
-) -> anyhow::Result<BackEnd<UnixStream, UnixStream>> {
-    let [coming, back] = sockets;
-    let limit = options.limit.max(1);
-    let bounded = DeviceTable::new(alloc, host, limit, announced(alloc)?)?;
-    let memory = behind(alloc, layout, bounded.table, space)?;
-    let mut queue = driver.queue()?;
-    queue.set_event_idx(options.events);
-    let limits = Limits {
-        tries: 100_000,
-        looks: 1_000_000,
-    };
-    BackEnd::new(
+// A guest that has done nothing yet.
+fn make_guest(alloc: Global, options: Options) -> anyhow::Result<Guest> {
+    Ok(Guest {
         alloc,
-        DeviceIotlb::new(bounded, coming, back, limits),
-        memory,
-        queue,
-        MemoryDisk::new(vec![in alloc; 0u8; DISK_LEN]?),
-    )
-}
-
-// Makes both ends, over a host with guest memory.
-fn make_ends<R: Net>(rt: &R, alloc: Global, options: Options) -> anyhow::Result<(Host, Ends)> {
-    let [front, coming, own, back] = channels(rt)?;
-    let (mut host, layout) = make_host(alloc)?;
-    let (table, pages) = make_pages(alloc, &mut host)?;
-    let space = host.new_space(())?;
-    let driver = driver_queue()?;
-    let back_end = make_back_end(
-        alloc,
-        &mut host,
-        &layout,
-        space,
-        &driver,
-        [coming, back],
-        options,
-    )?;
-    let front_end = FrontEnd {
-        alloc,
-        rng: Xoshiro256PlusPlus::seed_from_u64(options.seed),
+        requests: Xoshiro256PlusPlus::seed_from_u64(options.seed),
+        chances: Xoshiro256PlusPlus::seed_from_u64(options.seed ^ u64::MAX),
         hostile: options.hostile,
         events: options.events,
-        memory: behind(alloc, &layout, table, space)?,
-        layout,
-        table,
-        pages,
-        driver,
-        front: End { stream: front },
-        own: End { stream: own },
+        pages: Pages::new(alloc)?,
+        driver: Driver {
+            next_avail: 0,
+            next_used: 0,
+        },
         disk: vec![in alloc; 0u8; DISK_LEN]?,
         left: options.requests,
         sent: [None; SLOTS],
+        attacks: 0,
         seen: NOTHING,
+    })
+}
+
+fn make_store(alloc: Global) -> anyhow::Result<Store> {
+    Ok(Store {
+        disk: vec![in alloc; 0u8; DISK_LEN]?,
+        file: vec![in alloc; 0u8; MOST_MEMORY]?,
+        served: 0,
+    })
+}
+
+// A connection of which nothing was negotiated.
+fn connect(alloc: Global, options: Options) -> anyhow::Result<BlockConnection> {
+    let offer = VhostOffer {
+        features: features(true),
+        protocol_features: PROTOCOL,
+        queues: 1,
+        max_queue_size: u32::from(QUEUE_SIZE),
+        writable_from: 0,
+        writable_len: 0,
     };
-    Ok((host, (front_end, back_end)))
+    let disk = BlockDisk {
+        sectors: SECTORS,
+        seg_max: 0,
+        size_max: 0,
+        read_only: 0,
+        unread: UNREAD,
+        table_limit: options.limit,
+    };
+    match vhost_backend::open(alloc, &offer, &[0; CONFIG_LEN], &disk) {
+        Ok(connection) => Ok(connection),
+        Err(code) => bail!("there is no connection: {code}"),
+    }
 }
 
-// Runs both ends at once, each in a thread.
-fn run<R: Sync + Threads + Wait>(rt: &R, host: Host, ends: Ends) -> anyhow::Result<(Seen, Done)> {
-    let (front, back) = ends;
-    let lock = Mutex::new(host);
-    let (seen, done) = thread::join(rt, || front.run(rt, &lock), || back.run(rt, &lock));
-    Ok((seen?, done?))
+// Runs both ends of one connection at once, each in a thread. What outlives it comes back, and the guest's memory goes
+// back to its file.
+fn run<R: Net + Sync + Threads + Wait>(
+    rt: &R,
+    alloc: Global,
+    options: Options,
+    guest: Guest,
+    store: Store,
+) -> anyhow::Result<(Guest, Store)> {
+    let [front, coming, own, back] = channels(rt)?;
+    let lock = Mutex::new(connect(alloc, options)?);
+    let front_end = FrontEnd {
+        guest,
+        front: End { stream: front },
+        own: End { stream: own },
+        is_over: false,
+    };
+    let back_end = BackEnd {
+        executor: Executor::new(alloc, coming, back, store)?,
+    };
+    let (guest, store) = thread::join(rt, || front_end.run(rt, &lock), || back_end.run(rt, &lock));
+    let mut store = store?;
+    let guest = guest?;
+    lock.lock(rt)
+        .memory()
+        .read(store.file.as_mut_slice(), GuestAddress(0))?;
+    Ok((guest, store))
 }
 
-fn report<R: Print>(rt: &R, seen: &Seen, done: &Done) -> anyhow::Result<()> {
-    println!(rt; "requests served: {}", done.served)?;
-    println!(rt; "kicks: {}", seen.kicks)?;
-    println!(rt; "misses asked: {}", seen.misses)?;
-    println!(rt; "evictions: {}", seen.evictions)?;
-    println!(rt; "invalidations: {}", seen.invalidations)?;
+// Runs one connection after another, until the guest has nothing left to do.
+fn run_all<R: Net + Sync + Threads + Wait>(
+    rt: &R,
+    alloc: Global,
+    options: Options,
+) -> anyhow::Result<(Seen, Store)> {
+    let mut guest = make_guest(alloc, options)?;
+    let mut store = make_store(alloc)?;
+    for _ in 0..u64::MAX {
+        (guest, store) = run(rt, alloc, options, guest, store)?;
+        if guest.is_done() {
+            return Ok((guest.seen, store));
+        }
+    }
+    bail!("the guest is never done")
+}
+
+// What was done. How often some things happened depends on how the threads meet.
+fn report<R: Print>(rt: &R, options: Options, seen: &Seen, served: u64) -> anyhow::Result<()> {
+    println!(rt; "requests served: {}", seen.requests)?;
+    if options.counts {
+        println!(rt; "kicks: {}", seen.kicks)?;
+        println!(rt; "misses asked: {}", seen.misses)?;
+        println!(rt; "evictions: {}", seen.evictions)?;
+        println!(rt; "invalidations: {}", seen.invalidations)?;
+    }
     println!(rt; "failed accesses: {}", seen.failed)?;
-    println!(rt; "of these forbidden: {}", seen.forbidden)?;
+    if options.counts {
+        println!(rt; "of these forbidden: {}", seen.forbidden)?;
+    }
     println!(rt; "malformed messages refused: {}", seen.refused)?;
-    if seen.requests != done.served || seen.failed != done.given_up {
+    if seen.requests != options.requests || (seen.requests > 0 && seen.misses == 0) {
+        bail!("requests are lost, or no mapping was asked for");
+    }
+    // A request that is under way when a connection ends may be served twice.
+    if !options.hostile && served != seen.requests.saturating_sub(seen.failed) {
         bail!("the two ends do not agree on the requests");
     }
     if seen.wrong > 0 {
@@ -238,8 +276,7 @@ fn main(rt: HostRuntime) -> anyhow::Result<ExitCode> {
         Ok(options) => options,
         Err(status) => return Ok(ExitCode::from(status)),
     };
-    let (host, ends) = make_ends(&rt, rt.alloc(), options)?;
-    let (seen, done) = run(&rt, host, ends)?;
-    report(&rt, &seen, &done)?;
+    let (seen, store) = run_all(&rt, rt.alloc(), options)?;
+    report(&rt, options, &seen, store.served)?;
     Ok(ExitCode::SUCCESS)
 }
