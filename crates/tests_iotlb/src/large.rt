@@ -1,15 +1,12 @@
-//! Ranges past 2^31, 2^32 and 2^40 bytes, and a host under a lock beside one that no one else uses.
+//! Ranges past 2^31, 2^32 and 2^40 bytes.
 
+use crate::worlds::{Host, mapped};
 use std::alloc::Global;
-use std::sync::{Mutex, Wait};
 use std::test::Fail;
 use test_text::expect_text;
-use vhost_iotlb::{DeviceTable, IotlbMessage, LockedHost, SharedHost, reach};
-use vhost_message::{MemoryRegion, MemoryRegions};
-use vm_memory_base::{GuestAddress, Iotlb, Permissions};
-use vm_memory_guest::{HostMemory, TlbId};
-
-type Host = HostMemory<()>;
+use vhost_iotlb::{DeviceTable, IotlbMessage, MemoryRegion, MemoryRegions};
+use vm_memory_base::{GuestAddress, Permissions};
+use vm_memory_guest::TlbId;
 
 // What is announced: so many bytes, which are guest memory from here on.
 const SIZE: u64 = 1 << 62;
@@ -190,33 +187,21 @@ fn host_of(alloc: Global) -> Result<(Host, DeviceTable), Fail> {
 }
 
 // Fails where a message does not come to what it should.
-fn expect_applied<H: SharedHost>(
+fn expect_applied(
     alloc: Global,
-    host: &mut H,
+    host: &mut Host,
     table: &DeviceTable,
     case: usize,
     messages: &[(Asked, &str)],
 ) -> Result<(), Fail> {
     for (asked, wanted) in messages {
-        let told = match host.apply(table, &message_of(*asked)) {
+        let told = match table.apply(host, &message_of(*asked)) {
             Ok(()) => String::from_str(alloc, "ok")?,
             Err(refusal) => format!(in alloc; "{refusal:?}")?,
         };
         expect_text(case, told.as_str(), wanted)?;
     }
     Ok(())
-}
-
-// Where an I/O address leads, if it is mapped.
-fn mapped(host: &Host, table: TlbId, iova: u64) -> Option<u64> {
-    if !host.shape().has_table(table) {
-        return None;
-    }
-    let table = host.table(table);
-    let mut found = table
-        .lookup(GuestAddress(iova), 1, Permissions::ReadWrite)
-        .ok()?;
-    Some(found.next()?.base.0)
 }
 
 // Fails where an I/O address does not lead to where it should.
@@ -243,29 +228,6 @@ fn ranges_of_many_bytes(rt: HostRuntime) -> Result<(), Fail> {
         let (mut host, table) = host_of(alloc)?;
         expect_applied(alloc, &mut host, &table, case, messages)?;
         expect_mapped(alloc, &host, table.table, case, places)?;
-    }
-    Ok(())
-}
-
-// The same under a lock.
-fn expect_under_a_lock<W: Wait>(
-    rt: &W,
-    alloc: Global,
-    case: usize,
-    (messages, places): &Case,
-) -> Result<(), Fail> {
-    let (host, table) = host_of(alloc)?;
-    let lock = Mutex::new(host);
-    let mut shared = LockedHost { rt, lock: &lock };
-    expect_applied(alloc, &mut shared, &table, case, messages)?;
-    let guard = lock.lock(rt);
-    expect_mapped(alloc, &guard, table.table, case, places)
-}
-
-#[test]
-fn a_host_under_a_lock_answers_the_same(rt: HostRuntime) -> Result<(), Fail> {
-    for (case, messages) in CASES.iter().enumerate() {
-        expect_under_a_lock(&rt, rt.alloc(), case, messages)?;
     }
     Ok(())
 }
@@ -299,102 +261,6 @@ fn tables_of_any_limit(rt: HostRuntime) -> Result<(), Fail> {
         }
         let table = DeviceTable::new(alloc, &mut host, *limit, announced(alloc)?)?;
         assert!(rt; table.table == TlbId(number), "limit {limit}");
-    }
-    Ok(())
-}
-
-// Ranges of I/O addresses, from the first number on, as many as the second, which may be written or only read; a write:
-// from where on, and how many bytes; and how many of them the table allows, with what it comes to.
-type Reach = (&'static [(u64, u64, bool)], u64, u64, &'static str);
-
-static REACHES: [Reach; 12] = [
-    (&[], 0, 0, "0 Done"),
-    (&[], 5, 1, "0 Missed { iova: 5, access: Write }"),
-    (&[(0, 0x8000_0000, true)], 0, 0x8000_0000, "2147483648 Done"),
-    (
-        &[(0, 0x8000_0000, true)],
-        0,
-        0x8000_0001,
-        "2147483648 Missed { iova: 2147483648, access: Write }",
-    ),
-    (
-        &[(5, 0x1_0000_0000, true)],
-        5,
-        0x1_0000_0001,
-        "4294967296 Missed { iova: 4294967301, access: Write }",
-    ),
-    (
-        &[(5, 0x2_0000_0000, true)],
-        6,
-        0x1_ffff_ffff,
-        "8589934591 Done",
-    ),
-    (
-        &[
-            (0, 0x1_0000_0000, true),
-            (0x1_0000_0000, 0x1_0000_0000, true),
-        ],
-        0,
-        0x2_0000_0001,
-        "8589934592 Missed { iova: 8589934592, access: Write }",
-    ),
-    // What may only be read stops a write, if nothing is missed before.
-    (
-        &[(0, 0x1_0000_0000, true), (0x1_0000_0000, 16, false)],
-        0,
-        0x1_0000_0020,
-        "4294967296 Forbidden { iova: 4294967296, access: Write }",
-    ),
-    (
-        &[(0, 0x1_0000_0000, true), (0x1_0000_0010, 16, false)],
-        0,
-        0x1_0000_0020,
-        "4294967296 Missed { iova: 4294967296, access: Write }",
-    ),
-    (&[(0, SIZE, true)], 0, SIZE, "4611686018427387904 Done"),
-    (
-        &[(1, MAX - 2, true)],
-        1,
-        MAX - 2,
-        "18446744073709551613 Done",
-    ),
-    (
-        &[(1, MAX - 2, true)],
-        0,
-        MAX - 1,
-        "0 Missed { iova: 0, access: Write }",
-    ),
-];
-
-fn table_of(alloc: Global, ranges: &[(u64, u64, bool)]) -> Result<Iotlb, Fail> {
-    let mut table = Iotlb::new(alloc);
-    for (iova, size, may_write) in ranges {
-        if iova.checked_add(*size).is_none() {
-            return Err(Fail::new("a range passes the last address"));
-        }
-        let access = if *may_write {
-            Permissions::ReadWrite
-        } else {
-            Permissions::Read
-        };
-        table.set_mapping(
-            GuestAddress(*iova),
-            GuestAddress(GUEST),
-            *size as usize,
-            access,
-        )?;
-    }
-    Ok(table)
-}
-
-#[test]
-fn long_accesses_reach_as_far_as_they_may(rt: HostRuntime) -> Result<(), Fail> {
-    let alloc = rt.alloc();
-    for (case, (ranges, iova, len, wanted)) in REACHES.iter().enumerate() {
-        let table = table_of(alloc, ranges)?;
-        let (count, outcome) = reach(&table, *iova, *len as usize, Permissions::Write);
-        let told = format!(in alloc; "{count} {outcome:?}")?;
-        expect_text(case, told.as_str(), wanted)?;
     }
     Ok(())
 }

@@ -1,12 +1,22 @@
-//! Tests of tables that a front end fills: ranges and accesses of many bytes, requests that are tried
-//! in parts, and ranges that are taken piece by piece.
+//! Tests of tables that a front end fills: messages as bytes, ranges and limits, and ranges that are taken piece by
+//! piece.
 #![tactic(auto)]
 
 #[cfg(test)]
-mod chains;
+mod invalidations;
 #[cfg(test)]
 mod large;
+#[cfg(test)]
+mod limits;
+#[cfg(test)]
+mod messages;
+#[cfg(test)]
+mod payloads;
+#[cfg(test)]
+mod streams;
 #[cfg(test)]
 mod taking;
 #[cfg(test)]
 mod witnesses;
+#[cfg(test)]
+mod worlds;

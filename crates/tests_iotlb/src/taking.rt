@@ -134,7 +134,7 @@ type Wanted = (u64, u64, Permissions);
 // What is mapped, what is wanted, how many ranges may be kept, and what comes of it.
 type Case = (&'static [Mapped], &'static [Wanted], usize, &'static str);
 
-static CASES: [Case; 9] = [
+static CASES: [Case; 11] = [
     // A part of one mapping.
     (
         &[(0x1000, 0x3000, 0x9000, Permissions::ReadWrite)],
@@ -186,6 +186,19 @@ static CASES: [Case; 9] = [
         &[(u64::MAX - 1, 1, Permissions::Read)],
         8,
         "fffffffffffffffe>5000+1 Whole",
+    ),
+    // Ranges of more than 2^32 bytes, of which the first byte is mapped or not.
+    (
+        &[(5, 0x2_0000_0000, 0x1000, Permissions::ReadWrite)],
+        &[(6, 0x1_ffff_ffff, Permissions::Write)],
+        8,
+        "6>1001+1ffffffff Whole",
+    ),
+    (
+        &[(1, u64::MAX - 2, 0, Permissions::ReadWrite)],
+        &[(0, u64::MAX - 1, Permissions::Write)],
+        8,
+        "Misses(0, Write)",
     ),
     // As many ranges as may be kept, of which the last is the last one wanted or not.
     (

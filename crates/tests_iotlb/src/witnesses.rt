@@ -12,18 +12,38 @@ ghost use Rattle.vhost_iotlb.specs.Invalidation.{unmaps};
 ghost use Rattle.vhost_message.specs.Regions.{guest_of};
 ghost use Rattle.vhost_message.specs.declared.iotlb.IotlbMessage.TheVariants.{Invalidate, Update};
 
+use crate::worlds::{FIRST, IOVA, PAGE, World, make_world, mapped};
+use std::sync::Arc;
+use std::test::Fail;
 use vhost_iotlb::laws::{invalidated_addresses_are_missed, ranges_are_set_for_updates};
-use vhost_iotlb::{DeviceTable, Request, WriteChain};
-use vhost_message::IotlbMessage;
-use vm_memory_base::{Bitmap, Permissions};
-use vm_memory_guest::{GuestMemory, HostMemory};
+use vhost_iotlb::{DeviceTable, IotlbMessage};
+use vm_memory_base::{Bitmap, GuestAddress, Permissions};
+use vm_memory_device::{IommuMemory, TableIommu};
+use vm_memory_guest::laws::effects::writes_keep_shapes;
+use vm_memory_guest::{Bytes, GuestMemory, GuestMemoryMmap, HostMemory};
 
-// Maps a range, writes to a chain, takes the range back, and writes on: then the table misses the range, and no access
+// Writes bytes to guest memory, if the host has it. No table changes.
+fn write<M: GuestMemory, B: Bitmap>(
+    memory: &M,
+    host: &mut HostMemory<B>,
+    bytes: &[u8],
+    address: GuestAddress,
+)
+    ensures { host.new.tables ≡ host.old.tables }
+{
+    writes_keep_shapes::<B>();
+    if host.holds(memory) {
+        let _count = memory.write(host, bytes, address);
+    }
+}
+
+// Maps a range, writes there, takes the range back, and writes again: then the table misses the range, and no access
 // behind it reaches a byte there.
-pub(crate) fn map_and_take_back<M: GuestMemory, B: Bitmap>(
+fn map_and_take_back<M: GuestMemory, B: Bitmap>(
     device: &DeviceTable,
     host: &mut HostMemory<B>,
-    request: &mut WriteChain<'_, M>,
+    memory: &M,
+    bytes: &[u8],
     iova: u64,
     size: u64,
     user_address: u64,
@@ -49,7 +69,25 @@ pub(crate) fn map_and_take_back<M: GuestMemory, B: Bitmap>(
         permissions: Permissions::ReadWrite,
     };
     let _applied = device.apply(host, &update);
-    let _first = request.attempt(host);
+    write(memory, host, bytes, GuestAddress(iova));
     let _taken_back = device.apply(host, &IotlbMessage::Invalidate { iova, size });
-    let _second = request.attempt(host);
+    write(memory, host, bytes, GuestAddress(iova));
+}
+
+#[test]
+fn what_is_taken_back_is_missed(rt: HostRuntime) -> Result<(), Fail> {
+    let alloc = rt.alloc();
+    let World { mut host, table } = make_world(alloc, 8)?;
+    let layout = GuestMemoryMmap::from_ranges(alloc, &mut host, &[(GuestAddress(0), 0x1000)])?;
+    let space = host.new_space(())?;
+    let iommu = Arc::new(alloc, TableIommu::new(table.table))?;
+    let memory = IommuMemory::new(alloc, layout, iommu, true, space);
+    map_and_take_back(&table, &mut host, &memory, &[7; 8], IOVA, PAGE, FIRST);
+    assert!(rt; mapped(&host, table.table, IOVA).is_none());
+    let layout = memory.get_backend();
+    let mut bytes = [0; 9];
+    assert!(rt; host.holds(layout));
+    layout.read_slice(&host, &mut bytes, GuestAddress(0))?;
+    assert_eq!(rt; bytes, [7, 7, 7, 7, 7, 7, 7, 7, 0]);
+    Ok(())
 }

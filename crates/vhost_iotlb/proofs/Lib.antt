@@ -2,10 +2,6 @@ pub mod ApplyLemmas
 pub mod CallLemmas
 pub mod KeptLemmas
 pub mod LeadLemmas
-pub mod HandlingLemmas
 pub mod InvalidationLemmas
 pub mod TableLemmas
-pub mod MissLemmas
-pub mod ReplyLemmas
 pub mod TakingLemmas
-pub mod TryLemmas

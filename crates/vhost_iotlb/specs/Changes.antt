@@ -10,7 +10,6 @@ use Rattle.vhost_message.specs.declared.refusal.Malformed.{Malformed}
 use Rattle.vhost_message.specs.declared.refusal.Malformed.TheVariants as malformed
 use Rattle.vhost_message.specs.declared.iotlb.IotlbMessage.{IotlbMessage}
 use Rattle.vhost_message.specs.declared.iotlb.IotlbMessage.TheVariants.{Miss, Update, Invalidate, AccessFail}
-use Rattle.vhost_iotlb.specs.declared.table.DeviceTable.{DeviceTable}
 use Rattle.vhost_iotlb.specs.declared.table.Refusal.{Refusal}
 use Rattle.vhost_iotlb.specs.declared.table.Refusal.TheVariants as refusal
 use Rattle.vhost_message.specs.declared.regions.MemoryRegion.{MemoryRegion}
@@ -116,11 +115,6 @@ Applies number regions m (Err refusal.Memory) calls old new =
     MayWant (call_of regions m) × MakesNothing calls old new
 Applies number regions m (Err refusal.NoTable) calls old new =
     (length old.tables ≤ number) × MakesNothing calls old new
-
--- the same for the table and the memory of a device, whatever the calls
-abbrev pub AppliesTo : {B : Type 0} → DeviceTable → IotlbMessage → Result (Unit {0}) Refusal → Host B → Host B → Type 0
-AppliesTo device m answer old new =
-    (calls : List TableEvent) × Applies device.table.0 device.memory m answer calls old new
 
 -- all of a host may have changed but the table of this number
 abbrev pub KeepsTable : {B : Type 0} → ℕ → Host B → Host B → Type 0

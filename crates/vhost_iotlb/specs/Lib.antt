@@ -1,10 +1,5 @@
 pub mod Changes
-pub mod Handling
 pub mod Invalidation
 pub mod Kept
 pub mod Leads
-pub mod Misses
-pub mod Reaches
-pub mod Replies
 pub mod Taking
-pub mod Tries

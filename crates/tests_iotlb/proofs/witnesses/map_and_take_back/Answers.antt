@@ -17,19 +17,19 @@ of_some : (o : Option Table) (P : Table → Type 0) → ((t : Table) → o ≡ S
 of_some None P f = tt
 of_some (Some t) P f = f t refl
 
--- both messages came, and tries of the request before and after the second
+-- both messages came, and writes before and after the second
 pub returns-clause-came : goal.returns-clause-came
 returns-clause-came g c =
     let n = c.args.device.now.table.0 in
     let regions = c.args.device.now.memory in
     let one = c.apply-applied.ensures.applied in
     let two = c.apply-taken_back.ensures.applied in
-    let kept = ap (λ (ts : List Table). slice_get ts n) c.attempt-first.ensures.tried.1 in
-    let kept_too = ap (λ (ts : List Table). slice_get ts n) c.attempt-second.ensures.tried.1 in
+    let kept = ap (λ (ts : List Table). slice_get ts n) c.write.ensures in
+    let kept_too = ap (λ (ts : List Table). slice_get ts n) c.write-2.ensures in
     let update = Update c.args.iova c.args.size c.args.user_address ReadWrite in
     let back = Invalidate c.args.iova c.args.size in
     let calls = one.0 ++ (two.0 ++ []) in
-    let came : Handles n regions (update ∷ back ∷ []) calls c.args.host.now c.attempt-second.new.host = (
+    let came : Handles n regions (update ∷ back ∷ []) calls c.args.host.now c.write-2.new.host = (
       c.apply-applied.result,
       one.0,
       two.0 ++ [],
@@ -42,7 +42,7 @@ returns-clause-came g c =
         c.apply-taken_back.result,
         two.0,
         [],
-        c.attempt-first.new.host,
+        c.write.new.host,
         c.apply-taken_back.new.host,
         kept,
         two.1,
@@ -50,13 +50,13 @@ returns-clause-came g c =
         (refl, kept_too),
       ),
     ) in
-    (calls, came, λ at to len perm among. c.ranges_are_set_for_updates.ensures n regions (update ∷ back ∷ []) calls c.args.host.now c.attempt-second.new.host at to len perm came among)
+    (calls, came, λ at to len perm among. c.ranges_are_set_for_updates.ensures n regions (update ∷ back ∷ []) calls c.args.host.now c.write-2.new.host at to len perm came among)
 
 pub returns-clause-missed : goal.returns-clause-missed
 returns-clause-missed g c =
     let came = returns-clause-came g c in
     let n = c.args.device.now.table.0 in
-    let new = c.attempt-second.new.host in
+    let new = c.write-2.new.host in
     let update = Update c.args.iova c.args.size c.args.user_address ReadWrite in
     let P : Table → Type 0 = λ t. (x : ℕ) → x < 2 ^ 64 - 1 → unmaps c.args.iova c.args.size x ≡ true
     → (u : Table) × (slice_get new.tables n ≡ Some u) × (says u x ≡ None) in
@@ -70,7 +70,7 @@ returns-clause-unreached g c = λ m b behind is.
     let came = returns-clause-came g c in
     let regions = c.args.device.now.memory in
     let old = c.args.host.now in
-    let new = c.attempt-second.new.host in
+    let new = c.write-2.new.host in
     let update = Update c.args.iova c.args.size c.args.user_address ReadWrite in
     let back = Invalidate c.args.iova c.args.size in
     let handled : Handles b.table regions (update ∷ back ∷ []) came.0 old new =

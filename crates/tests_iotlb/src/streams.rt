@@ -1,14 +1,17 @@
 //! Streams that are made from a valid one by changes, beside a plain reading of the same bytes.
 
-use crate::channels::{Parts, byte_at, giving, number_at, put_header, put_message};
-use crate::worlds::{
-    Host, IOVA, Iotlb, NOWHERE, PAGE, World, invalidate, make_iotlb, make_world, mapped, update,
-};
+ghost use Rattle.std.specs.Prelude.{◌≤◌, length};
+
+use crate::payloads::{Parts, put_header, put_message};
+use crate::worlds::{FIRST, IOVA, PAGE, SECOND, World, invalidate, make_world, mapped, update};
 use std::alloc::Global;
+use std::io::{self, Read};
 use std::test::Fail;
 use test_text::next_number;
-use vhost_iotlb::{ChannelError, Handled, Limits, MessageRefusal, Refusal};
-use vhost_message::Malformed;
+use vhost_iotlb::Refusal;
+use vhost_message::{
+    ChannelError, FrontendReq, HEADER_LEN, Incoming, Malformed, Message, Refusal as MessageRefusal,
+};
 
 // How many streams each of the four tests handles.
 const STREAMS: usize = 25_000;
@@ -49,7 +52,7 @@ fn valid(alloc: Global) -> Result<Vec<u8>, Fail> {
     let wide = Parts {
         iova: IOVA,
         size: 4 * PAGE,
-        user: 0x7fff_0000_0000,
+        user: FIRST,
         permissions: 3,
         kind: 2,
     };
@@ -81,13 +84,26 @@ fn change(bytes: &mut [u8], state: &mut u64) {
     }
 }
 
+// The byte at a place, or 0 past the end.
+fn byte_at(bytes: &[u8], at: usize) -> u8 {
+    bytes.get(at).copied().unwrap_or(0)
+}
+
+// The number of 8 bytes from a place on, or 0 past the end.
+fn number_at(bytes: &[u8], at: usize) -> u64 {
+    let mut number = 0u64;
+    for i in 0..8 {
+        number |= u64::from(byte_at(bytes, at.saturating_add(i))) << (8 * i);
+    }
+    number
+}
+
 // The address of guest memory that so many bytes of the front end's are, if they were announced.
 fn announced(user: u64, size: u64) -> Option<u64> {
     let end = u128::from(user) + u128::from(size);
     for (start, guest, len) in [
-        (0x7fff_0000_0000u64, 0u64, 0x8000u64),
-        (0x7ffe_0000_0000, 0x8000, 0x8000),
-        (NOWHERE, 0x1_0000, 0x1000),
+        (FIRST, 0u64, 0x8000u64),
+        (SECOND, 0x8000, 0x8000),
     ] {
         if user >= start && end <= u128::from(start) + u128::from(len) {
             return Some(guest.wrapping_add(user.wrapping_sub(start)));
@@ -97,10 +113,9 @@ fn announced(user: u64, size: u64) -> Option<u64> {
 }
 
 // What a plain reading makes of a stream.
-#[derive(Drop)]
+#[derive(Clone, Copy)]
 struct Told {
     counts: Counts,
-    replies: Vec<u8>,
     // Where the first page of I/O addresses, and each of the next ones, leads.
     pages: [Option<u64>; 8],
 }
@@ -186,10 +201,9 @@ fn fault(request: u64, flags: u8, size: u64) -> Option<usize> {
     }
 }
 
-fn read_plainly(alloc: Global, bytes: &[u8]) -> Result<Told, Fail> {
+fn read_plainly(bytes: &[u8]) -> Told {
     let mut told = Told {
         counts: [0; 12],
-        replies: Vec::new(alloc),
         pages: [None; 8],
     };
     let mut at = 0usize;
@@ -215,28 +229,35 @@ fn read_plainly(alloc: Global, bytes: &[u8]) -> Result<Told, Fail> {
             1
         };
         count(&mut told.counts, place);
-        if place != 1 && flags / 8 % 2 == 1 {
-            told.replies.push(u8::from(place != 0))?;
-        }
         at = at.saturating_add(len);
     }
-    Ok(told)
+    told
 }
 
-fn place_of(handled: &Handled) -> Option<usize> {
-    match handled {
-        Handled::Nothing => None,
-        Handled::Applied(_) => Some(0),
-        Handled::Other(_) => Some(1),
-        Handled::Malformed(MessageRefusal::Iotlb(malformed))
-        | Handled::Refused(Refusal::Malformed(malformed)) => Some(match malformed {
-            Malformed::Kind => 4,
-            Malformed::EmptyRange => 5,
-            Malformed::Range => 6,
-            Malformed::Permissions => 7,
-        }),
-        Handled::Refused(Refusal::UserAddress) => Some(8),
-        Handled::Refused(_) | Handled::Malformed(_) => Some(9),
+// A channel that gives its bytes in pieces, and then ends.
+#[derive(Drop)]
+struct Given {
+    input: Vec<u8>,
+    at: usize,
+    piece: usize,
+}
+
+impl Read for Given {
+    fn read(&mut self, buf: &mut [u8]) -> io::Result<usize> {
+        let rest = self.input.as_slice().get(self.at..).unwrap_or(&[]);
+        let count = buf.len().min(self.piece).min(rest.len());
+        buf[..count].copy_from_slice(&rest[..count]);
+        self.at = self.at.saturating_add(count);
+        Ok(count)
+    }
+}
+
+fn place_of_malformed(malformed: Malformed) -> usize {
+    match malformed {
+        Malformed::Kind => 4,
+        Malformed::EmptyRange => 5,
+        Malformed::Range => 6,
+        Malformed::Permissions => 7,
     }
 }
 
@@ -250,16 +271,31 @@ fn place_of_fault(refusal: MessageRefusal) -> usize {
     }
 }
 
-// Handles all that comes, up to a header that begins no message, and counts it.
-fn handle_all(host: &mut Host, iotlb: &mut Iotlb) -> Result<Counts, ChannelError> {
+// Applies a message, and returns what it came to.
+fn place_of(world: &mut World, message: &Message) -> usize
+    requires { 12 ≤ length message.now }
+{
+    let payload = &message.as_slice()[HEADER_LEN..];
+    match FrontendReq::decode(&message.header(), payload) {
+        Ok(FrontendReq::IotlbMsg(message)) => match world.table.apply(&mut world.host, &message) {
+            Ok(()) => 0,
+            Err(Refusal::Malformed(malformed)) => place_of_malformed(malformed),
+            Err(Refusal::UserAddress) => 8,
+            Err(_) => 9,
+        },
+        Err(MessageRefusal::Iotlb(malformed)) => place_of_malformed(malformed),
+        _ => 1,
+    }
+}
+
+// Applies all that comes, up to a header that begins no message, and counts it.
+fn apply_all(world: &mut World, channel: &mut Given) -> Result<Counts, ChannelError> {
     let mut counts: Counts = [0; 12];
+    let mut incoming = Incoming::new();
     for _ in 0..u64::MAX {
-        match iotlb.handle(host) {
-            Ok(handled) => {
-                if let Some(place) = place_of(&handled) {
-                    count(&mut counts, place);
-                }
-            }
+        match incoming.look(channel) {
+            Ok(Some(message)) => count(&mut counts, place_of(world, &message)),
+            Ok(None) => {}
             Err(ChannelError::Ended) => return Ok(counts),
             Err(ChannelError::Refused(refusal)) => {
                 count(&mut counts, place_of_fault(refusal));
@@ -271,55 +307,34 @@ fn handle_all(host: &mut Host, iotlb: &mut Iotlb) -> Result<Counts, ChannelError
     Ok(counts)
 }
 
-// Fails where replies or the table are other than a plain reading makes them.
-fn compare(world: &World, wanted: &Told, replies: &[u8]) -> Result<(), Fail> {
-    for (i, value) in wanted.replies.as_slice().iter().enumerate() {
-        let at = i.saturating_mul(20).saturating_add(12);
-        if number_at(replies, at) != u64::from(*value) {
-            return Err(Fail::new(format_args!("reply {i}")));
-        }
+// Applies a stream in pieces, and fails where that is another than the plain reading.
+fn run(world: &mut World, bytes: Vec<u8>, piece: usize, total: &mut Counts) -> Result<(), Fail> {
+    let wanted = read_plainly(bytes.as_slice());
+    if world.host.shape().has_table(world.table.table) {
+        world.host.table_mut(world.table.table).invalidate_all();
     }
-    if replies.len() != wanted.replies.len().saturating_mul(20) {
-        return Err(Fail::new("more or fewer replies"));
-    }
-    for (i, to) in wanted.pages.iter().enumerate() {
-        let iova = IOVA.wrapping_add((i as u64).wrapping_mul(PAGE));
-        if mapped(world, iova) != *to {
-            return Err(Fail::new(format_args!("page {i}")));
-        }
-    }
-    Ok(())
-}
-
-// Handles a stream in pieces, and fails where that is another than the plain reading.
-fn run(
-    alloc: Global,
-    world: &mut World,
-    bytes: Vec<u8>,
-    piece: usize,
-    total: &mut Counts,
-) -> Result<(), Fail> {
-    let wanted = read_plainly(alloc, bytes.as_slice())?;
-    if world.host.shape().has_table(world.table) {
-        world.host.table_mut(world.table).invalidate_all();
-    }
-    let limits = Limits { tries: 1, looks: 1 };
-    let front = giving(alloc, bytes, piece, false, true);
-    let own = giving(alloc, Vec::new(alloc), 1, false, true);
-    let mut iotlb = make_iotlb(alloc, world.table, front, own, limits)?;
-    let counts = handle_all(&mut world.host, &mut iotlb)?;
+    let mut channel = Given {
+        input: bytes,
+        at: 0,
+        piece,
+    };
+    let counts = apply_all(world, &mut channel)?;
     if counts != wanted.counts {
         return Err(Fail::new(format_args!("{counts:?}, not {:?}", wanted.counts)));
     }
-    let (_table, front, _own) = iotlb.into_parts();
-    compare(world, &wanted, front.output.as_slice())?;
+    for (i, to) in wanted.pages.iter().enumerate() {
+        let iova = IOVA.wrapping_add((i as u64).wrapping_mul(PAGE));
+        if mapped(&world.host, world.table.table, iova) != *to {
+            return Err(Fail::new(format_args!("page {i}")));
+        }
+    }
     for (sum, more) in total.iter_mut().zip(counts) {
         *sum = sum.saturating_add(more);
     }
     Ok(())
 }
 
-// Handles streams that are changed at random from this seed on, and fails where other counts come out.
+// Applies streams that are changed at random from this seed on, and fails where other counts come out.
 fn expect_counts(alloc: Global, seed: u64, wanted: Counts) -> Result<(), Fail> {
     let mut state = seed;
     let mut total: Counts = [0; 12];
@@ -338,7 +353,7 @@ fn expect_counts(alloc: Global, seed: u64, wanted: Counts) -> Result<(), Fail> {
         } else {
             1000
         };
-        run(alloc, &mut world, bytes, piece, &mut total)?;
+        run(&mut world, bytes, piece, &mut total)?;
     }
     if total != wanted {
         return Err(Fail::new(format_args!("{total:?} of {NAMES:?}")));

@@ -1,6 +1,6 @@
 //! Each message, and each way in which one is malformed.
 
-use crate::channels::{Parts, put_payload};
+use crate::payloads::{Parts, payload_of};
 use std::alloc::Global;
 use std::test::Fail;
 use test_text::expect_text;
@@ -72,18 +72,6 @@ fn told(alloc: Global, decoded: Result<IotlbMessage, Malformed>) -> Result<Strin
         Err(error) => format!(in alloc; "{error:?}")?,
     };
     Ok(text)
-}
-
-// The payload of these fields, if it has 32 bytes.
-fn payload_of(alloc: Global, parts: Parts) -> Result<[u8; 32], Fail> {
-    let mut bytes = Vec::new(alloc);
-    put_payload(&mut bytes, parts)?;
-    let mut payload = [0; 32];
-    if bytes.len() != payload.len() {
-        return Err(Fail::new("the payload does not have 32 bytes"));
-    }
-    payload.copy_from_slice(bytes.as_slice());
-    Ok(payload)
 }
 
 #[test]

@@ -1,12 +1,12 @@
 //! Tables that keep few ranges, beside a plain list of pages.
 
-use crate::channels::{Parts, byte_at, giving, put_message};
-use crate::worlds::{IOVA, PAGE, World, content_at, make_iotlb, make_world};
+use crate::payloads::{Parts, payload_of};
+use crate::worlds::{FIRST, IOVA, PAGE, World, is_done, make_world};
 use std::alloc::Global;
 use std::test::Fail;
 use test_text::next_number;
-use vhost_iotlb::{Handled, Limits, Outcome, ReadBytes, Request, WriteBytes};
-use vm_memory_base::GuestAddress;
+use vhost_iotlb::{Lead, lead_of};
+use vm_memory_base::{Iotlb, Permissions};
 
 // How many pages of I/O addresses there are, and how many messages come.
 const SPACE: usize = 24;
@@ -106,7 +106,7 @@ fn message_of(change: Change) -> Parts {
         Some((to, permissions)) => Parts {
             iova,
             size,
-            user: 0x7fff_0000_0000u64.wrapping_add(to),
+            user: FIRST.wrapping_add(to),
             permissions,
             kind: 2,
         },
@@ -121,61 +121,34 @@ fn message_of(change: Change) -> Parts {
 }
 
 // Fails where a page leads elsewhere than the model says, or another access is allowed.
-fn expect_page(alloc: Global, world: &mut World, model: &Model, page: usize) -> Result<(), Fail> {
+fn expect_page(table: &Iotlb, model: &Model, page: usize) -> Result<(), Fail> {
     let said = if page < SPACE { model[page] } else { None };
-    let address = IOVA
-        .wrapping_add((page as u64).wrapping_mul(PAGE))
-        .wrapping_add(40);
-    let bytes = vec![in alloc; 0u8; 8]?;
-    let mut read = ReadBytes::new(&world.memory, world.table, GuestAddress(address), bytes);
-    let outcome = read.attempt(&mut world.host);
     let wanted = match said {
-        Some((_, 2)) => "Forbidden",
-        Some(_) => "Done",
-        None => "Missed",
+        Some((_, 2)) => Lead::Forbidden,
+        Some((to, _)) => Lead::To(to.wrapping_add(40), 8),
+        None => Lead::Missed,
     };
-    let told = match outcome {
-        Outcome::Done => "Done",
-        Outcome::Missed { iova, .. } if iova == address => "Missed",
-        Outcome::Forbidden { iova, .. } if iova == address => "Forbidden",
-        _ => "another one",
-    };
-    if told != wanted {
-        return Err(Fail::new(format_args!("page {page} is {told}, not {wanted}")));
-    }
-    if let (Some((to, _)), "Done") = (said, told) {
-        for (i, byte) in read.into_bytes().as_slice().iter().enumerate() {
-            let at = to.wrapping_add(40).wrapping_add(i as u64);
-            if *byte != content_at(at) {
-                return Err(Fail::new(format_args!("page {page} leads elsewhere")));
-            }
-        }
-    }
-    // A write of nothing is done without a mapping.
-    let mut write = WriteBytes::new(&world.memory, world.table, GuestAddress(address), &[]);
-    if write.attempt(&mut world.host) != Outcome::Done {
-        return Err(Fail::new("a write of no bytes was not done"));
+    let iova = IOVA + (page % SPACE) as u64 * PAGE + 40;
+    let lead = lead_of(table, iova, 8, Permissions::Read);
+    if lead != wanted {
+        return Err(Fail::new(format_args!("page {page}: {lead:?}, not {wanted:?}")));
     }
     Ok(())
 }
 
-// Applies a message, and answers how many ranges the table has then.
-fn apply(alloc: Global, world: &mut World, parts: Parts) -> Result<usize, Fail> {
-    let mut input = Vec::new(alloc);
-    put_message(&mut input, 9, parts)?;
-    let limits = Limits { tries: 1, looks: 1 };
-    let front = giving(alloc, input, 1000, false, false);
-    let own = giving(alloc, Vec::new(alloc), 1000, false, false);
-    let mut iotlb = make_iotlb(alloc, world.table, front, own, limits)?;
-    let handled = iotlb.handle(&mut world.host)?;
-    let (_table, front, _own) = iotlb.into_parts();
-    if !matches!(handled, Handled::Applied(_)) || byte_at(front.output.as_slice(), 12) != 0 {
-        return Err(Fail::new(format_args!("{handled:?}")));
+// Makes a change, and returns how many ranges the table has then.
+fn apply(alloc: Global, world: &mut World, model: &Model, change: Change) -> Result<usize, Fail> {
+    if !is_done(world, &payload_of(alloc, message_of(change))?) {
+        return Err(Fail::new("a change is not made"));
     }
-    if !world.host.shape().has_table(world.table) {
+    if !world.host.shape().has_table(world.table.table) {
         return Err(Fail::new("the host has no such table"));
     }
-    Ok(world.host.table(world.table).num_ranges())
+    let table = world.host.table(world.table.table);
+    for page in 0..SPACE {
+        expect_page(table, model, page)?;
+    }
+    Ok(table.num_ranges())
 }
 
 // Applies messages to a table of so many ranges.
@@ -187,14 +160,11 @@ fn run(alloc: Global, limit: usize) -> Result<usize, Fail> {
     for _ in 0..MESSAGES {
         let change = next_change(&mut state);
         change_model(&mut model, limit, change);
-        let count = apply(alloc, &mut world, message_of(change))?;
+        let count = apply(alloc, &mut world, &model, change)?;
         if count != range_count(&model) || count > limit {
             return Err(Fail::new(format_args!("{count} ranges")));
         }
         most = most.max(count);
-        for page in 0..SPACE {
-            expect_page(alloc, &mut world, &model, page)?;
-        }
     }
     Ok(most)
 }
