@@ -52,6 +52,7 @@ pub mod ToldLemmas
 pub mod TurnLemmas
 pub mod TurnOverLemmas
 pub mod UnderWayLemmas
+pub mod UseLemmas
 pub mod WaitLemmas
 pub mod WantLemmas
 pub mod WholeLemmas

@@ -94,9 +94,9 @@ with_behind m is = record m { is_behind = is }
 abbrev pub memory_of : MemoryState → Memory
 memory_of m = record { regions = map mmap_region m.layout; iommu = None }
 
--- that of rings: the same behind an IOMMU, if regions were joined. It is on if rings lie at I/O addresses
+-- that of rings: the same behind an IOMMU, if regions were joined and rings lie at I/O addresses
 abbrev pub ring_memory_of : MemoryState → Memory
-ring_memory_of m = if m.is_joined then io_memory_in m.layout m.is_behind else memory_of m
+ring_memory_of m = if m.is_joined && m.is_behind then io_memory_in m.layout true else memory_of m
 
 abbrev pub ring_table_of : MemoryState → Option TlbId
 ring_table_of m = if m.is_joined && m.is_behind then Some (record { 0 = 0 }) else None

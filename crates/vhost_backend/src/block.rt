@@ -47,6 +47,7 @@ pub fn block_parts(request: Request) -> u32
 }
 
 /// The part of a request that is served when so many are left, itself among them.
+#[inline(always)]
 pub fn block_step(request: Request, left: u32) -> BlockStep
     requires short { Short request }
     requires some { 0 < left }

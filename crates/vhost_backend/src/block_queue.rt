@@ -280,6 +280,7 @@ impl BlockQueue {
     }
 
     // A request is under way from now on.
+    #[inline(always)]
     fn put_asked(&mut self, id: u16, asked: Asked)
         requires { Short asked.request }
         ensures { self.new ≡ with_asked self.old id (Some asked) }
@@ -291,6 +292,7 @@ impl BlockQueue {
     }
 
     // Reads where the queue returns its next chain, if that was not read.
+    #[inline(always)]
     fn read_place<H, D: RingMemory<H>>(&mut self, mem: &D, host: &mut H) -> Result<(), QueueError>
         requires { D.held mem.now host.old }
         ensures reads { Reads (D.steps mem.now) self.old host.old result self.new host.new }
@@ -503,6 +505,7 @@ impl BlockQueue {
     }
 
     // Forgets the request with an id.
+    #[inline(always)]
     fn forget(&mut self, id: u16)
         ensures { self.new ≡ with_asked self.old id None }
     {

@@ -155,6 +155,7 @@ impl BlockQueues {
     }
 
     /// The part of the request with an id that is served when so many are left, if it is under way and has it.
+    #[inline(always)]
     pub fn part(&self, ring: usize, id: u16, left: u32) -> Option<BlockStep>
         ensures { result ≡ part_of id left (slice_get self.now ring) }
     {

@@ -1,7 +1,7 @@
 //! The guest memory of a connection: regions over blocks at places of the program's.
-ghost use Rattle.std.specs.Prelude.{◌≡◌, ◌<◌, ◌≤◌, ◌^◌, if◌then◌else◌, List, [], length, slice_get};
-ghost use Rattle.std.specs.Prelude.{Some, None, is_some, IfOk, IfSome};
-ghost use Rattle.std.specs.Prelude.{MatchBool, true};
+ghost use Rattle.std.specs.Prelude.{◌≡◌, ◌<◌, ◌≤◌, ◌^◌, ◌&&◌, List, [], length, slice_get};
+ghost use Rattle.std.specs.Prelude.{Some, is_some, IfOk, IfSome};
+ghost use Rattle.std.specs.Prelude.{MatchBool, MatchOption, false, true};
 ghost use Rattle.vm_memory_guest.specs.Host.{Holds, Name, shape_of};
 ghost use Rattle.vm_memory_guest.specs.Memory.{memory_names};
 ghost use Rattle.vm_memory_guest.specs.BlockBytes.{bytes_of};
@@ -14,7 +14,6 @@ ghost use Rattle.vhost_backend.specs.ConnectionMemory.{with_behind, with_first_t
 ghost use Rattle.vhost_backend.specs.BlockTable.{ChangesTable};
 ghost use Rattle.vhost_backend.specs.ConnectionMemory.{emptied, first_emptied, way_of};
 ghost use Rattle.vhost_backend.specs.PageList.{TakesPages};
-ghost use Rattle.vhost_backend.specs.Sight.{sight_of};
 ghost use Rattle.vhost_backend.specs.TableCounts.{evicted_by};
 
 use crate::block_backend::BlockBackend;
@@ -129,22 +128,12 @@ fn io_memory(
     }
 }
 
-// The table that the addresses of rings go through, if they lie at I/O addresses.
-fn table_if(is_behind: bool) -> Option<TlbId>
-    ensures { result ≡ if is_behind then Some (record { 0 = 0 }) else None }
+// Guest memory at I/O addresses, if rings lie there.
+fn io_memory_if(memory: &Option<IoMemory>, is_behind: bool) -> Option<&IoMemory>
+    ensures { MatchOption result ((is_some memory.now && is_behind) ≡ false)
+        (λ ring. (memory.now ≡ Some ring.now) × (is_behind ≡ true)) }
 {
-    if is_behind { Some(RING_TABLE) } else { None }
-}
-
-// What translates the addresses of rings, if they lie at I/O addresses.
-fn way_if(is_behind: bool, table: &Iotlb, can_ask: bool) -> Option<Way<'_>>
-    ensures { sight_of result ≡ if is_behind then Some (record { table = table.now; can_ask = can_ask }) else None }
-{
-    if is_behind {
-        Some(Way { table, can_ask })
-    } else {
-        None
-    }
+    if is_behind { memory.as_ref() } else { None }
 }
 
 // Has the first table of a host say nothing, if there is one.
@@ -337,13 +326,13 @@ impl ConnectionMemory {
         ensures steps { Steps (memory_step self.old) backend.old self.old.logged result backend.new self.new.logged }
         ensures others { self.new ≡ record self.old { logged = self.new.logged } }
     {
-        let (guest, logged) = (&self.layout, &mut self.logged);
-        let Some(ring) = &self.behind else {
+        let (guest, kept, logged) = (&self.layout, &self.behind, &mut self.logged);
+        let Some(ring) = io_memory_if(kept, self.is_behind) else {
             let (ring, table) = (guest, None);
-            return backend.step(&Lent { ring, guest, table }, logged);
+            return backend.step(&Lent { ring, guest, table, kept }, logged);
         };
-        let table = table_if(self.is_behind);
-        backend.step(&Lent { ring, guest, table }, logged)
+        let table = Some(RING_TABLE);
+        backend.step(&Lent { ring, guest, table, kept }, logged)
     }
 
     /// Has a back end look at a ring on this memory.
@@ -352,14 +341,17 @@ impl ConnectionMemory {
             backend.new self.new.logged }
         ensures others { self.new ≡ record self.old { logged = self.new.logged } }
     {
-        let (guest, logged) = (&self.layout, &mut self.logged);
-        let Some(ring) = &self.behind else {
+        let (guest, kept, logged) = (&self.layout, &self.behind, &mut self.logged);
+        let Some(ring) = io_memory_if(kept, self.is_behind) else {
             let (ring, table) = (guest, None);
-            return backend.look(&Lent { ring, guest, table }, logged, None);
+            return backend.look(&Lent { ring, guest, table, kept }, logged, None);
         };
-        let table = table_if(self.is_behind);
-        let way = way_if(self.is_behind, &self.table, backend.can_ask());
-        backend.look(&Lent { ring, guest, table }, logged, way)
+        let way = Way {
+            table: &self.table,
+            can_ask: backend.can_ask(),
+        };
+        let table = Some(RING_TABLE);
+        backend.look(&Lent { ring, guest, table, kept }, logged, Some(way))
     }
 
     /// Changes what is said of I/O addresses as a message has it, and what rings have of that. Returns how many ranges
@@ -370,12 +362,12 @@ impl ConnectionMemory {
         ensures evicts { IfSome result (λ n. n ≡ evicted_by backend.old.change self.old.table) }
         ensures others { self.new ≡ record self.old { logged = self.new.logged; table = self.new.table } }
     {
-        let (guest, logged) = (&self.layout, &mut self.logged);
-        let Some(ring) = &self.behind else {
+        let (guest, kept, logged) = (&self.layout, &self.behind, &mut self.logged);
+        let Some(ring) = io_memory_if(kept, self.is_behind) else {
             let (ring, table) = (guest, None);
-            return backend.change_table(&Lent { ring, guest, table }, logged, &mut self.table);
+            return backend.change_table(&Lent { ring, guest, table, kept }, logged, &mut self.table);
         };
-        let table = table_if(self.is_behind);
-        backend.change_table(&Lent { ring, guest, table }, logged, &mut self.table)
+        let table = Some(RING_TABLE);
+        backend.change_table(&Lent { ring, guest, table, kept }, logged, &mut self.table)
     }
 }

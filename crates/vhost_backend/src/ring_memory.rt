@@ -1,7 +1,7 @@
 //! Guest memory as the calls of a ring find it, which a guest may write at any moment.
-ghost use Rattle.std.specs.Prelude.{◌≡◌, ◌<◌, ℕ, IfOk, Some, fold, length};
+ghost use Rattle.std.specs.Prelude.{◌≡◌, ◌<◌, ℕ, IfOk, MatchOption, Some, fold, length};
 ghost use Rattle.vm_memory_base.specs.Table.{Set, Invalidate, says};
-ghost use Rattle.vm_memory_guest.specs.Host.{shape_of};
+ghost use Rattle.vm_memory_guest.specs.Host.{Holds, shape_of};
 ghost use Rattle.virtio_queue.specs.Any.{after_asked, after_pop, after_used};
 ghost use Rattle.virtio_blk.specs.Steps.{FitsOn};
 ghost use Rattle.vhost_iotlb.specs.Kept.{IsReal};
@@ -221,21 +221,26 @@ fn forget_in<B>(host: &mut HostMemory<B>, table: TlbId, k: Kept) -> Result<(), A
 /// Guest memory that is lent for a call, of which a contract says what it holds all the while: the memory that a ring's
 /// addresses are of, and the one that those of its chains are.
 #[derive(Drop)]
-pub struct Lent<'a, M: GuestMemory, P: GuestMemory> {
+pub struct Lent<'a, M: GuestMemory, P: GuestMemory, K: GuestMemory> {
     /// The memory of the ring.
     pub ring: &'a M,
     /// Guest memory.
     pub guest: &'a P,
     /// The host's table that translates the ring's addresses, which are guest addresses if there is none.
     pub table: Option<TlbId>,
+    /// Memory that is not used by the call, and is there after it.
+    pub kept: &'a Option<K>,
 }
 
-impl<M: GuestMemory, P: GuestMemory, B: Bitmap> RingMemory<Logged<B>> for Lent<'_, M, P> {
+impl<M: GuestMemory, P: GuestMemory, K: GuestMemory, B: Bitmap> RingMemory<Logged<B>>
+    for Lent<'_, M, P, K>
+{
     ghost steps = { λ s old x r new.
         Logs B.marks (M.memory s.ring.now) (P.memory s.guest.now) s.table old x r new };
 
     ghost held = { λ s logged.
-        HoldsAll (shape_of logged.host) (M.names s.ring.now) (P.names s.guest.now) s.table };
+        HoldsAll (shape_of logged.host) (M.names s.ring.now) (P.names s.guest.now) s.table
+        × MatchOption s.kept.now (Unit {0}) (λ memory. Holds (shape_of logged.host) (K.names memory)) };
 
     #[inline(always)]
     fn pop(

@@ -79,6 +79,7 @@ fn breaks_limits(limits: DeviceLimits, segments: &[Segment]) -> bool
 /// its translation fails to allocate. A device whose mappings come later makes the call again then.
 ///
 /// Leaves open: `Memory` each time behind an IOMMU that is on, if there is a header to read. Then nothing changed.
+#[inline(always)]
 pub fn begin<M: GuestMemory, B: Bitmap>(
     limits: DeviceLimits,
     mem: &M,
@@ -95,6 +96,7 @@ pub fn begin<M: GuestMemory, B: Bitmap>(
 }
 
 /// As `begin`, from memory that a driver may write meanwhile.
+#[inline(always)]
 pub fn begin_from<F: Fetches>(
     limits: DeviceLimits,
     guest: &mut F,
@@ -136,6 +138,7 @@ pub fn begin_from<F: Fetches>(
 /// call again then.
 ///
 /// Leaves open: `Memory` each time behind an IOMMU that is on, if there is a status to write. Then nothing changed.
+#[inline(always)]
 pub fn finish<M: GuestMemory, B: Bitmap>(
     mem: &M,
     host: &mut HostMemory<B>,
@@ -153,6 +156,7 @@ pub fn finish<M: GuestMemory, B: Bitmap>(
 }
 
 /// As `finish`, to memory that a driver may write meanwhile.
+#[inline(always)]
 pub fn finish_from<P: Puts>(
     guest: &mut P,
     chain: &Chain,

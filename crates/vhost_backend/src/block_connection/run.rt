@@ -407,6 +407,7 @@ impl BlockConnection {
     // ---- runs
 
     // Gives what comes next, or else takes the next event. `Nothing` if there is none.
+    #[inline(always)]
     fn go_on(
         &mut self,
         ends: &[EndRow],

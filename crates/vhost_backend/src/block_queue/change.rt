@@ -31,9 +31,10 @@ fn any_uses(change: &Change, all: &[Option<Asked>]) -> bool
 
 impl BlockQueue {
     ghost use Rattle.std.specs.Prelude.{length};
-    ghost use Rattle.vhost_backend.specs.Behind.{uses, with_reach};
+    ghost use Rattle.vhost_backend.specs.Behind.{with_reach};
     ghost use Rattle.vhost_backend.specs.Reach.{Changes, ResumesFetch, waited_for};
     ghost use Rattle.vhost_backend.specs.Reach as reach;
+    ghost use Rattle.vhost_backend.specs.TableUse.{is_used};
 
     /// Takes note of a change of what the front end says, as `Reach::change`. A chain of which something was dropped is
     /// the next one again.
@@ -52,13 +53,14 @@ impl BlockQueue {
         self.reach.change(mem, host, change)
     }
 
-    /// Whether something uses what may lead elsewhere after a change, or nowhere: a request that is under way, or
-    /// the areas of a ring that is busy.
-    pub fn uses(&self, change: &Change, busy: bool) -> bool
+    /// Whether a change concerns what is under way of the ring: the bytes of a request, or the areas by which that is
+    /// returned.
+    pub fn is_used(&self, change: &Change) -> bool
         requires { Fits change.now }
-        ensures { result ≡ uses change.now busy self.now }
+        ensures { result ≡ is_used change.now self.now }
     {
-        any_uses(change, &self.asked) || busy && self.reach.uses_areas(change)
+        // Most messages find no request.
+        self.is_busy() && (any_uses(change, &self.asked) || self.reach.uses_areas(change))
     }
 
     /// The I/O address without a mapping that the ring waits for, and for what.

@@ -27,9 +27,7 @@ impl BlockQueues {
     pub fn in_use(&self, change: &TableChange) -> bool
         ensures { result ≡ in_use change.now self.now }
     {
-        self.queues
-            .iter()
-            .any(|queue| queue.uses(change.get(), queue.is_busy()))
+        self.queues.iter().any(|queue| queue.is_used(change.get()))
     }
 
     /// The address that a ring waits for, and for which access.
