@@ -221,7 +221,7 @@ module _ {H : Type 0} (step : H → (s : MemoryStep) → Returned s → H → Ty
       gone_sound w.queues qs w.backend.rings.rings t.ring reached.Fine old r new
       (Gives step t.chain t.len old new) with (chains_of (Some t) w.todo.ring w.todo.actions)
       (chains_of None w.todo.ring w.todo.actions) t.chain (first_given t w.todo.ring w.todo.actions)
-      (other_given t w.todo.ring w.todo.actions) (λ q q' p. p.1.1) sound))
+      (other_given t w.todo.ring w.todo.actions) (λ q q' p. ap (λ n. n.asked) p.1.1) sound))
 
   -- ---- the end of a request
 

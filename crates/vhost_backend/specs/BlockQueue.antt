@@ -218,7 +218,7 @@ module _ {H : Type 0} (step : H → (s : MemoryStep) → Returned s → H → Ty
 
   abbrev pub GivesBack : BlockQueueState → Chain → ℕ → H → GiveBack → BlockQueueState → H → Type 0
   GivesBack q chain len old a q' new = Publishes q.queue (buffer_by chain) len old a q'.queue new
-      × (q'.asked ≡ slice_set q.asked chain.id None)
+      × (q' ≡ with_asked (with_queue q q'.queue) chain.id None)
 
 -- ---- beside the state machine
 
