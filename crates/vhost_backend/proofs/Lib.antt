@@ -23,7 +23,9 @@ pub mod LineLemmas
 pub mod MappingLemmas
 pub mod MarkLemmas
 pub mod MessageLemmas
+pub mod MissLemmas
 pub mod MoveLemmas
+pub mod NearLemmas
 pub mod OnceLemmas
 pub mod OverLemmas
 pub mod OwnWayLemmas
@@ -40,6 +42,7 @@ pub mod RightLemmas
 pub mod RingMarkLemmas
 pub mod RingUseLemmas
 pub mod RunLemmas
+pub mod ServeLemmas
 pub mod SoundLemmas
 pub mod SoundRunLemmas
 pub mod SoundStepLemmas
@@ -48,6 +51,12 @@ pub mod StageLemmas
 pub mod StepLemmas
 pub mod StopLemmas
 pub mod TableLemmas
+pub mod TendAskLemmas
+pub mod TendLemmas
+pub mod TendRunLemmas
+pub mod TendStepLemmas
+pub mod TendTableLemmas
+pub mod TendTurnLemmas
 pub mod ToldLemmas
 pub mod TurnLemmas
 pub mod TurnOverLemmas

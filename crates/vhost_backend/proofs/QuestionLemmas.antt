@@ -13,7 +13,7 @@ use Rattle.vhost_backend.proofs.LineLemmas.{line-push, line-without, not_in_with
 
 -- ---- which rings have one
 
-stands_sent : (i : ℕ) (sent : List SentMiss)
+pub stands_sent : (i : ℕ) (sent : List SentMiss)
     → stands_in i (map (λ one. one.ring) sent) ≡ list_any (λ one. one.ring == i) sent
 stands_sent i [] = refl
 stands_sent i (x ∷ sent) = ap (λ b. (x.ring == i) || b) (stands_sent i sent)
@@ -53,7 +53,7 @@ due_room n sent due i is below out =
 
 -- ---- one less
 
-rings_staled : (sent : List SentMiss) (i : ℕ) → map (λ one. one.ring) (staled sent i) ≡ map (λ one. one.ring) sent
+pub rings_staled : (sent : List SentMiss) (i : ℕ) → map (λ one. one.ring) (staled sent i) ≡ map (λ one. one.ring) sent
 rings_staled sent i = go (place_of sent i) refl
   where
     go : (o : Option ℕ) → place_of sent i ≡ o

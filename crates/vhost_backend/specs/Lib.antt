@@ -13,6 +13,7 @@ pub mod ConnectionMemory
 pub mod Examples
 pub mod Fetch
 pub mod Given
+pub mod GoesOn
 pub mod KeptRanges
 pub mod Kicks
 pub mod Line

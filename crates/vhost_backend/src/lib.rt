@@ -15,6 +15,7 @@ pub mod examples;
 mod fetch;
 pub mod fetch_laws;
 mod given;
+pub mod goes_on_laws;
 mod kept_ranges;
 mod kicks;
 pub mod laws;
