@@ -1,6 +1,6 @@
 //! What makes a request go on that waits for a mapping: each function here is a theorem, and does nothing.
-ghost use Rattle.std.specs.Prelude.{◌≡◌, ◌⊎◌, ◌+◌, ◌^◌, ◌<◌, ◌≤◌, ◌∷◌, ◌++◌, [], ℕ, List, Bool, Option, Some, None, false, true};
-ghost use Rattle.std.specs.Prelude.{length, slice_get, slice_set, Ok, Result};
+ghost use Rattle.std.specs.Prelude.{◌≡◌, ◌⊎◌, ◌+◌, ◌^◌, ◌<◌, ◌≤◌, ◌∷◌, ◌++◌, [], ℕ, List, Bool, Option, Some, None};
+ghost use Rattle.std.specs.Prelude.{false, true, length, slice_get, slice_set, Ok, Result};
 ghost use Rattle.std.specs.declared.alloc.Global.{Global};
 ghost use Rattle.vm_memory_base.specs.Address.{is_within};
 ghost use Rattle.vm_memory_base.specs.Permissions.{allow};
@@ -55,9 +55,10 @@ use crate::ring_memory::RingMemory;
 use vm_memory_base::laws::table::tables_keep_to_their_limits;
 
 /// An UPDATE serves a request that waits for it in the same change of the table, before anything can evict it: of what
-/// the ring fetches, more is found by the table as it is then, unless as many ranges are kept as may be or an allocation
-/// failed. A ring that waits no more is looked at. The mapping that the message sets serves each address that it has,
-/// for an access that it permits, however small the table's limit. What the change drops is fetched anew instead.
+/// the ring fetches, more is found by the table as it is then, unless as many ranges are kept as may be or an
+/// allocation failed. A ring that waits no more is looked at. The mapping that the message sets serves each address
+/// that it has, for an access that it permits, however small the table's limit. A ring of which the change drops
+/// something fetches nothing then, and is looked at.
 pub fn an_update_serves_before_it_evicts<H, D: RingMemory<H>>()
     ensures leads { (mem : D) (w new_w : BlockBackend) (t new_t : Table) (old new : H) (c : Change) (ring : ℕ)
         (q : BlockQueueState) (g : FetchState) (iova to : ℕ) (access : Permissions)
@@ -72,14 +73,18 @@ pub fn an_update_serves_before_it_evicts<H, D: RingMemory<H>>()
         → slice_get w.queues ring ≡ Some q → q.reach.fetch ≡ Some g → g.state ≡ Waits iova access
         → drops (Map base to len permissions) q.reach ≡ false → length w.kicks ≡ length w.queues
         → IsServed (says new_t) (most_for q.reach (length q.asked) g.goal) g new_w ring }
+    ensures dropped { (mem : D) (w new_w : BlockBackend) (t new_t : Table) (old new : H) (c : Change) (ring : ℕ)
+        (q : BlockQueueState) (g : FetchState) → ChangesTable (D.steps mem) w t old true new_w new_t new
+        → w.change ≡ Some c → slice_get w.queues ring ≡ Some q → q.reach.fetch ≡ Some g → drops c q.reach ≡ true
+        → length w.kicks ≡ length w.queues → (fetch_at new_w ring ≡ None) × IsKicked new_w.kicks (Some ring) }
 {
     tables_keep_to_their_limits();
 }
 
-/// A MISS that the front end refuses fails the request that waits for it, and no other: what its ring fetches stops. After
-/// each reply the ring is looked at, and neither the queue nor a kick of another ring changes. If the channel is lost, no queue
-/// changes, and exactly the rings that wait are looked at. Without a channel a turn leaves no ring that waits, and what
-/// stopped fails in the next turn of its ring.
+/// A MISS that the front end refuses fails the request that waits for it, and no other: what its ring fetches stops.
+/// After each reply the ring is looked at, and neither the queue nor a kick of another ring changes. If the channel is
+/// lost, no queue changes, and exactly the rings that wait are looked at. Without a channel a turn leaves no ring that
+/// waits, and what stopped fails in the next turn of its ring.
 pub fn a_refusal_fails_what_waits_for_it<H, D: RingMemory<H>>()
     ensures stops { (w : BlockBackend) (r : BackendReply) (questions : QuestionsState) (one : SentMiss) (g : FetchState)
         (iova : ℕ) (access : Permissions) → r.request ≡ 1 → after_reply w.questions ≡ (questions, Some one)
@@ -108,9 +113,9 @@ pub fn a_refusal_fails_what_waits_for_it<H, D: RingMemory<H>>()
 {}
 
 /// Each range that is found brings a fetch nearer to its end: of the bytes that are wanted, those that are left never
-/// become more, and become fewer with it. So a fetch of which `n` bytes are left, and by which more is found each time, is whole
-/// after `n` times at most. One that is whole is popped in the next turn of its ring, unless an allocation fails or its
-/// header cannot be read. Nothing is looked up for that: what happens then is the same whatever the table says.
+/// become more, and become fewer with it. So a fetch of which `n` bytes are left is whole once it found more `n` times.
+/// The chain of one that is whole is popped in the next turn of its ring, unless an allocation fails or its header
+/// cannot be read. Nothing is looked up for that: what happens then is the same whatever the table says.
 pub fn each_mapping_brings_it_nearer<H, D: RingMemory<H>>()
     ensures nearer { (f : Says) (most : ℕ) (old new : FetchState) → Covers new.wants 0 new.kept → GoesOn f most old new
         → length new.kept + bytes_left new ≤ length old.kept + bytes_left old }
@@ -122,14 +127,15 @@ pub fn each_mapping_brings_it_nearer<H, D: RingMemory<H>>()
         (g : FetchState) (found : Found) (old new : H) (e : Option RingEvent) → q.reach.fetch ≡ Some g
         → g.state ≡ Whole → (g.goal ≡ Chain found) ⊎ (g.goal ≡ Status found)
         → HappensBehind (D.steps mem) f can_ask terms q old e new_q new → PopsOrNothing found.buffer e }
-    ensures looks_up { (mem : D) (f g : Says) (can_ask may_ask : Bool) (terms : DeviceLimits) (q new_q : BlockQueueState)
-        (fetch : FetchState) (old new : H) (e : Option RingEvent) → q.reach.fetch ≡ Some fetch → fetch.state ≡ Whole
+    ensures looks_up { (mem : D) (f g : Says) (can_ask may_ask : Bool) (terms : DeviceLimits)
+        (q new_q : BlockQueueState) (fetch : FetchState) (old new : H) (e : Option RingEvent)
+        → q.reach.fetch ≡ Some fetch → fetch.state ≡ Whole
         → HappensBehind (D.steps mem) f can_ask terms q old e new_q new
         → HappensBehind (D.steps mem) g may_ask terms q old e new_q new }
 {}
 
-/// Each ring that waits for a mapping is asked for or looked at. A MISS of it is to be sent, or is without a reply; or the
-/// ring was kicked; or it has its turn as soon as it runs. A reply, whatever it says, has the ring looked at
+/// Each ring that waits for a mapping is asked for or looked at. A MISS of it is to be sent, or is without a reply; or
+/// the ring was kicked; or it has its turn as soon as it runs. A reply, whatever it says, has the ring looked at
 /// ([`a_refusal_fails_what_waits_for_it`]), and if it still waits after its turn, it asks for what it waits for then
 /// ([`a_turn_asks_for_what_its_ring_waits_for`]). A new back end is so, and so it stays by each step, look and call,
 /// whatever a guest writes.
@@ -160,8 +166,8 @@ pub fn what_waits_is_asked_or_looked_at<H, D: RingMemory<H>>()
         → Tends (record w { reply = reply; unread = unread; finished = finished }) }
 {}
 
-/// A ring that waits for a mapping after its turn asks for that very address and access, unless a MISS of it is to be sent
-/// or without a reply: then it asks in the turn that follows the reply. What is to be sent is sent in order.
+/// A ring that waits for a mapping after its turn asks for that very address and access, unless a MISS of it is to be
+/// sent or without a reply. What is to be sent is sent in order.
 pub fn a_turn_asks_for_what_its_ring_waits_for<H, D: RingMemory<H>>()
     ensures asks { (mem : D) (way : Option Sight) (w new_w : BlockBackend) (old new : H) (iova : ℕ)
         (access : Permissions) → TakesTurn (D.steps mem) way w old true new_w new
