@@ -18,7 +18,7 @@ use Rattle.vhost_iotlb.specs.declared.taking.Want.{Want}
 use Rattle.vhost_backend.specs.Behind.{AfterLookUp, BeginsFetched, Fetches, FetchesNext, HappensBehind, LooksUp, TakesFetched, Uses, begun_behind, open_terms, or_empty, origin_of, past_found, with_fetch}
 use Rattle.vhost_backend.specs.Block.{block_parts, len_of}
 use Rattle.vhost_backend.specs.BlockQueue.{BlockQueueState, event_of, has_place, popped, shortened}
-use Rattle.vhost_backend.specs.Fetch.{FetchState, GoesOn, guest_chain, has_gap, state_by}
+use Rattle.vhost_backend.specs.Fetch.{FetchState, GoesOn, IsFound, guest_chain, has_gap, state_by}
 use Rattle.vhost_backend.specs.GoesOn.{FindsByEach, PopsOrNothing, bytes_from, bytes_left, bytes_of}
 use Rattle.vhost_backend.specs.Reach.{most_for}
 use Rattle.vhost_backend.specs.RingMemory.{MemoryStep, Returned, begins}
@@ -166,6 +166,22 @@ whole_at_last most fs old new real covers by some few =
     let none : bytes_left new ≡ 0 = omega (arith, each_nearer most fs old new covers by, few) in
     let empty = none_left new.wants 0 new.kept real (inside_first new.wants real) covers none in
     stands ∙ ap state_by (all_found f most (length new.kept) (left new.wants 0 new.kept) p empty stops)
+
+-- a fetch that is whole has all that is wanted
+none_wanted : (f : Says) (most count : ℕ) (rest : List Want × ℕ) (p : Progress) → StopsAt f most count rest p
+    → state_by p ≡ state.Whole → rest.0 ≡ []
+none_wanted f most count ([], from) p stops is = refl
+none_wanted f most count (w ∷ ws, from) progress.Whole stops is = absurd stops
+none_wanted f most count (w ∷ ws, from) (progress.Misses iova access) stops is = absurd (cc)
+none_wanted f most count (w ∷ ws, from) (progress.Bars iova access) stops is = absurd (cc)
+none_wanted f most count (w ∷ ws, from) progress.TooMany stops is = absurd (cc)
+none_wanted f most count (w ∷ ws, from) progress.NoMemory stops is = absurd (cc)
+
+pub whole_is_found : (f : Says) (most : ℕ) (old new : FetchState) → Covers new.wants 0 new.kept → GoesOn f most old new
+    → new.state ≡ state.Whole → IsFound new.wants new.kept
+whole_is_found f most old new covers on is =
+    let (p, stops, stands) = on.stops in
+    (covers, none_wanted f most (length new.kept) (left new.wants 0 new.kept) p stops (sym stands ∙ is))
 
 -- ---- a fetch that is whole
 

@@ -21,7 +21,7 @@ ghost use Rattle.vhost_backend.specs.BlockBackend.{TakesTurn, asked_next, mapped
 ghost use Rattle.vhost_backend.specs.BlockBackend.{resized, told};
 ghost use Rattle.vhost_backend.specs.BlockQueue.{BlockQueueState};
 ghost use Rattle.vhost_backend.specs.BlockTable.{ChangesTable, memory_lost};
-ghost use Rattle.vhost_backend.specs.Fetch.{FetchState, GoesOn};
+ghost use Rattle.vhost_backend.specs.Fetch.{FetchState, GoesOn, IsFound};
 ghost use Rattle.vhost_backend.specs.GoesOn.{FindsByEach, IsServed, PopsOrNothing, Tends, bytes_left};
 ghost use Rattle.vhost_backend.specs.GoesOn.{drops, fetch_at};
 ghost use Rattle.vhost_backend.specs.Kicks.{IsKicked};
@@ -114,8 +114,8 @@ pub fn a_refusal_fails_what_waits_for_it<H, D: RingMemory<H>>()
 
 /// Each range that is found brings a fetch nearer to its end: of the bytes that are wanted, those that are left never
 /// become more, and become fewer with it. So a fetch of which `n` bytes are left is whole once it found more `n` times.
-/// The chain of one that is whole is popped in the next turn of its ring, unless an allocation fails or its header
-/// cannot be read. Nothing is looked up for that: what happens then is the same whatever the table says.
+/// One that is whole has all of them, and its chain is popped in the next turn of its ring, unless an allocation fails
+/// or its header cannot be read. Nothing is looked up for that: what happens then is the same whatever the table says.
 pub fn each_mapping_brings_it_nearer<H, D: RingMemory<H>>()
     ensures nearer { (f : Says) (most : ℕ) (old new : FetchState) → Covers new.wants 0 new.kept → GoesOn f most old new
         → length new.kept + bytes_left new ≤ length old.kept + bytes_left old }
@@ -123,6 +123,8 @@ pub fn each_mapping_brings_it_nearer<H, D: RingMemory<H>>()
         → FindsByEach most fs old new → length fs + bytes_left new ≤ bytes_left old }
     ensures whole { (most : ℕ) (fs : List Says) (old new : FetchState) → AreReal new.wants → Covers new.wants 0 new.kept
         → FindsByEach most fs old new → 0 < length fs → bytes_left old ≤ length fs → new.state ≡ Whole }
+    ensures found { (f : Says) (most : ℕ) (old new : FetchState) → Covers new.wants 0 new.kept → GoesOn f most old new
+        → new.state ≡ Whole → IsFound new.wants new.kept }
     ensures pops { (mem : D) (f : Says) (can_ask : Bool) (terms : DeviceLimits) (q new_q : BlockQueueState)
         (g : FetchState) (found : Found) (old new : H) (e : Option RingEvent) → q.reach.fetch ≡ Some g
         → g.state ≡ Whole → (g.goal ≡ Chain found) ⊎ (g.goal ≡ Status found)
