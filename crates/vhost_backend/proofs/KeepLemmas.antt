@@ -110,7 +110,7 @@ module _ {H : Type 0} (step : H → (s : MemoryStep) → Returned s → H → Ty
       → queues.Gives step chain len old new q r q' → K old new
   gives_keep chain len old new q r q' (a, ((e, stored, first, rest, made, after), asked), is) =
       then old stored new (each old (adds_used q.queue (buffer_by chain) len) e stored first)
-      (ring_keeps (return_marks q.queue) stored new rest)
+      (ring_keeps (return_marks q.queue q.reach.log) stored new rest)
 
   back_keeps : (w : BlockBackend) (t : Returning) (old : H) (w' : BlockBackend) (new : H)
       → GivesBackAt step w t old w' new → K old new
@@ -176,13 +176,13 @@ module _ {H : Type 0} (step : H → (s : MemoryStep) → Returned s → H → Ty
       go (Ok None) is = same mid new is.2
       go (Err e) is = same mid new is.2
 
-  asks_keep : (u : AnyQueue) (old : H) (r : Result Bool QueueError) (new : H) → Asks step u old r new → K old new
-  asks_keep u old r new (asked, first, rest) = then old asked new (each old (enables u) r asked first)
-      (ring_keeps (asking_marks u) asked new rest)
+  asks_keep : (q : BlockQueueState) (old : H) (r : Result Bool QueueError) (new : H) → Asks step q old r new → K old new
+  asks_keep q old r new (asked, first, rest) = then old asked new (each old (enables q.queue) r asked first)
+      (ring_keeps (asking_marks q.queue q.reach.log) asked new rest)
 
   waits_keep : (terms : DeviceLimits) (q : BlockQueueState) (old : H) (a : Option RingEvent) (q' : BlockQueueState)
       (new : H) → Waits step terms q old a q' new → K old new
-  waits_keep terms q old a q' new (r, mid, asks, after) = then old mid new (asks_keep q.queue old r mid asks) (go r after)
+  waits_keep terms q old a q' new (r, mid, asks, after) = then old mid new (asks_keep q old r mid asks) (go r after)
     where
       go : (r : Result Bool QueueError) → AfterAsk step terms q r mid a q' new → K mid new
       go (Ok true) (found, is, what) = pops_keep terms q mid found q' new is
@@ -317,7 +317,7 @@ module _ {H : Type 0} (step : H → (s : MemoryStep) → Returned s → H → Ty
 
     wait_behind_keeps : (q : BlockQueueState) (old : H) (a : Option RingEvent) (q' : BlockQueueState) (new : H)
         → WaitsBehind step terms q old a q' new → K old new
-    wait_behind_keeps q old a q' new (r, mid, asks, after) = then old mid new (asks_keep q.queue old r mid asks) (go r after)
+    wait_behind_keeps q old a q' new (r, mid, asks, after) = then old mid new (asks_keep q old r mid asks) (go r after)
       where
         go : (r : Result Bool QueueError) → AfterAskBehind step terms q r mid a q' new → K mid new
         go (Ok true) (r, found, finds, after) =

@@ -1,5 +1,5 @@
 -- What is marked for a ring: no page is lost.
-use Rattle.std.proofs.Common.{◌≡◌, ◌∙◌, ℕ, ◌+◌, ◌-◌, ◌/◌, ◌%◌, ◌^◌, ◌<◌, ◌≤◌, ◌==◌, ◌||◌, min, nat_le, nat_lt, Bool, true, false, List, [], ◌∷◌, ◌++◌, length, map, Option, Some, None, IsSomeAnd, if◌then◌else◌, refl, ap, sym, subst, inl, inr, arith, rules}
+use Rattle.std.proofs.Common.{◌≡◌, ◌∙◌, ℕ, zero, suc, ◌+◌, ◌-◌, ◌/◌, ◌%◌, ◌^◌, ◌<◌, ◌≤◌, ◌==◌, ◌||◌, min, nat_le, nat_lt, Bool, true, false, List, [], ◌∷◌, ◌++◌, length, map, Option, Some, None, IsSomeAnd, if◌then◌else◌, refl, ap, sym, subst, inl, inr, arith, rules}
 use Rattle.std.proofs.Math.Nat.{mod-eq-sub-mod, mod-eq_of_lt, mod-le, mod-lt}
 use Rattle.std.proofs.Math.Pow.{shr_mono}
 use Rattle.std.proofs.lemmas.Bool.{cases_Bool, eqb-true, leb-true, ltb-false, ltb-true}
@@ -13,14 +13,17 @@ use Rattle.vm_memory_base.specs.Runs.{AddressRun, runs, value_at}
 use Rattle.vm_memory_base.specs.Table.{Mapping, Range, Says, Table, is_allowed, piece_of, pieces, same_mapping, target}
 use Rattle.vm_memory_base.specs.declared.iotlb.Permissions.TheVariants.{Write}
 use Rattle.vm_memory_base.specs.declared.iotlb.lookup.MappedRange.{MappedRange}
+use Rattle.vm_memory_guest.specs.Host.{Host}
 use Rattle.vm_memory_guest.specs.Memory.{Memory, says_of}
 use Rattle.vm_memory_guest.specs.declared.host.TlbId.{TlbId}
 use Rattle.vhost_iotlb.specs.Leads.{LeadsTo}
 use Rattle.vhost_backend.specs.PageList.{IsToMark, Pages, added_if, added_to, capped, hull, marked, pages_from, pages_of, touch}
+use Rattle.vhost_backend.specs.Marks.{MarksRing}
 use Rattle.vhost_backend.specs.RingMarks.{marked_through, range_marked, ring_marked}
 use Rattle.vhost_backend.specs.RingMemory.{Logs, marks_ring}
 use Rattle.vhost_backend.specs.declared.page_list.PageRange.{PageRange}
 use Rattle.vhost_backend.specs.declared.page_list.TheConstants.{RANGES}
+use Rattle.vhost_backend.specs.declared.pieces.Piece.{Piece}
 use Rattle.vhost_backend.specs.declared.ring_memory.Logged.{Logged}
 use Rattle.vhost_backend.proofs.PageLemmas.{added_is_to_mark, still_to_mark}
 
@@ -180,7 +183,7 @@ byte_marked f l a n x to allowed from below leads has = rw allowed (go (f x) ref
         subst (λ y. IsToMark (y / 4096) (fold range_marked l (pieces f a n))) there
         (run_marked (runs same_mapping f a n) l x m value (subst (λ y. y / 4096 < l.pages) (sym there) has))
 
-pub ring_byte_marked : {B : Type 0} (marks_of : B → ℕ → ℕ → B → Type 0) (ring guest : Memory) (t : TlbId)
+ring_byte_marked : {B : Type 0} (marks_of : B → ℕ → ℕ → B → Type 0) (ring guest : Memory) (t : TlbId)
     (old new : Logged B) (base offset n x to : ℕ)
     → Logs marks_of ring guest (Some t) old (marks_ring base offset n) tt new
     → is_allowed (says_of (slice_get old.host.tables t.0)) (base + offset) n Write ≡ true → base + offset ≤ x
@@ -189,3 +192,46 @@ pub ring_byte_marked : {B : Type 0} (marks_of : B → ℕ → ℕ → B → Type
 ring_byte_marked marks_of ring guest t old new base offset n x to logs allowed from below leads has =
     subst (IsToMark (to / 4096)) (sym logs.1)
     (byte_marked (says_of (slice_get old.host.tables t.0)) old.pages (base + offset) n x to allowed from below leads has)
+
+-- ---- marks of a ring, one after another
+
+ranges_pages : (rs : List Range) (l : Pages) → (fold range_marked l rs).pages ≡ l.pages
+ranges_pages [] l = refl
+ranges_pages (r ∷ rs) l = ranges_pages rs (range_marked l r) ∙ range_pages l r
+
+through_pages : (f : Says) (l : Pages) (a n : ℕ) → (marked_through f l a n).pages ≡ l.pages
+through_pages f l a n = go (is_allowed f a n Write)
+  where
+    go : (v : Bool) → (if v then fold range_marked l (pieces f a n) else l).pages ≡ l.pages
+    go true = ranges_pages (pieces f a n) l
+    go false = refl
+
+module _ {B : Type 0} (marks_of : B → ℕ → ℕ → B → Type 0) (ring guest : Memory) (t : TlbId) where
+  marks_still : (ms : List Piece) (old new : Logged B) (page : ℕ)
+      → MarksRing (Logs marks_of ring guest (Some t)) ms old new → IsToMark page old.pages → IsToMark page new.pages
+  marks_still [] old new page is there = subst (λ (l : Logged B). IsToMark page l.pages) (sym is) there
+  marks_still (m ∷ ms) old new page (mid, first, rest) there = marks_still ms mid new page rest
+      (subst (IsToMark page) (sym first.1)
+      (ring_still (Some t) old.host.tables old.pages m.base m.offset m.len page there))
+
+  pub ring_bytes_marked : (ms : List Piece) (i : ℕ) (m : Piece) (old new : Logged B) (x to : ℕ)
+      → MarksRing (Logs marks_of ring guest (Some t)) ms old new → slice_get ms i ≡ Some m
+      → is_allowed (says_of (slice_get old.host.tables t.0)) (m.base + m.offset) m.len Write ≡ true
+      → m.base + m.offset ≤ x → x < m.base + m.offset + m.len
+      → LeadsTo (says_of (slice_get old.host.tables t.0)) x to Write → to / 4096 < old.pages.pages
+      → IsToMark (to / 4096) new.pages
+  ring_bytes_marked [] i m old new x to made at allowed from below leads has = absurd (cc)
+  ring_bytes_marked (n ∷ ms) zero m old new x to (mid, first, rest) at allowed from below leads has =
+      let same : n ≡ m = cc in
+      let step = subst (λ (p : Piece). Logs marks_of ring guest (Some t) old (marks_ring p.base p.offset p.len) tt mid)
+      same first in
+      marks_still ms mid new (to / 4096) rest
+      (ring_byte_marked marks_of ring guest t old mid m.base m.offset m.len x to step allowed from below leads has)
+  ring_bytes_marked (n ∷ ms) (suc i) m old new x to (mid, first, rest) at allowed from below leads has =
+      let back : old.host ≡ mid.host = sym first.0 in
+      let pages : mid.pages.pages ≡ old.pages.pages = ap (λ (l : Pages). l.pages) first.1
+      ∙ through_pages (says_of (slice_get old.host.tables t.0)) old.pages (n.base + n.offset) n.len in
+      ring_bytes_marked ms i m mid new x to rest at (subst (λ (h : Host B).
+      is_allowed (says_of (slice_get h.tables t.0)) (m.base + m.offset) m.len Write ≡ true) back allowed) from below
+      (subst (λ (h : Host B). LeadsTo (says_of (slice_get h.tables t.0)) x to Write) back leads)
+      (subst (λ k. to / 4096 < k) (sym pages) has)

@@ -23,7 +23,7 @@ use Rattle.vhost_backend.specs.PageList.{capped}
 use Rattle.vhost_backend.specs.Questions.{stale}
 use Rattle.vhost_backend.specs.Ring.{RingState}
 use Rattle.vhost_backend.specs.RingMemory.{MemoryStep, Returned, finishes}
-use Rattle.vhost_backend.specs.SetUp.{fresh_queue, is_set_up, moved_queue}
+use Rattle.vhost_backend.specs.SetUp.{fresh_queue, is_set_up, log_of, moved_queue}
 use Rattle.vhost_backend.specs.Sound.{IsClear, Sound, SoundAt, ended_chain, pending}
 use Rattle.vhost_backend.specs.Story.{chain_of, of_id, returned}
 use Rattle.vhost_backend.specs.Wanted.{wanted_at}
@@ -171,13 +171,17 @@ went_on_asked q (Err e) log = refl
 
 set_up_asked : (q : BlockQueueState) (max_size : ℕ) (vring : RunningVring) (features : ℕ) (fresh : Bool)
     → (set_up q max_size vring features fresh).0.asked ≡ q.asked
-set_up_asked q max_size vring features true = began_asked q (fresh_queue max_size vring features) vring.log
-set_up_asked q max_size vring features false = go (not (is_set_up q.queue) || stays_at q vring)
+set_up_asked q max_size vring features true =
+    began_asked q (fresh_queue max_size vring features) (log_of vring features)
+set_up_asked q max_size vring features false = go (not (is_set_up q.queue) || stays_at q vring log)
   where
+    log : Option ℕ
+    log = log_of vring features
+
     go : (v : Bool) → (let t : BlockQueueState × Reached = if v then (q, reached.Fine)
-        else went_on q (moved_queue q.queue vring) vring.log in t.0.asked ≡ q.asked)
+        else went_on q (moved_queue q.queue vring) log in t.0.asked ≡ q.asked)
     go true = refl
-    go false = went_on_asked q (moved_queue q.queue vring) vring.log
+    go false = went_on_asked q (moved_queue q.queue vring) log
 
 set_up_sound : (qs : List BlockQueueState) (rs : List RingState) (chains : ℕ → List Chain) (ring max_size : ℕ)
     (vring : RunningVring) (features : ℕ) (fresh : Bool) → SoundOf qs rs chains

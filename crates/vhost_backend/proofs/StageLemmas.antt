@@ -42,7 +42,7 @@ IsQuiet _ = ⊥
 module _ {H : Type 0} (step : H → (s : MemoryStep) → Returned s → H → Type 0) where
   abbrev Ends : BlockQueueState → Option RingEvent → BlockQueueState → H → Type 0
   Ends q e q' new = (e ≡ Some Emptied) × (q'.asked ≡ q.asked) × (q'.queue ≡ q.queue)
-      × (FoundNone step q'.queue new ⊎ IsWaiting q')
+      × (FoundNone step q' new ⊎ IsWaiting q')
 
   abbrev Takes : BlockQueueState → Option RingEvent → BlockQueueState → Type 0
   Takes q e q' = (buffer : PackedBuffer) × (request : Request) × (a : Asked) × (has_place q buffer.id ≡ true)
@@ -193,12 +193,12 @@ module _ {H : Type 0} (step : H → (s : MemoryStep) → Returned s → H → Ty
         go (Some range) (r, made, becomes) = begins_fetch q r e q' new becomes
 
     emptied_stage : (q : BlockQueueState) (e : Option RingEvent) (q' : BlockQueueState) (new : H)
-        → FoundNone step q.queue new → e ≡ Some Emptied → q' ≡ q → Stage q e q' new
+        → FoundNone step q new → e ≡ Some Emptied → q' ≡ q → Stage q e q' new
     emptied_stage q e q' new found is becomes = inr (inl (
       is,
       ap (λ n. n.asked) becomes,
       ap (λ n. n.queue) becomes,
-      inl (subst (λ n. FoundNone step n.queue new) (sym becomes) found),
+      inl (subst (λ n. FoundNone step n new) (sym becomes) found),
     ))
 
     -- nothing was found by a look
@@ -261,7 +261,7 @@ module _ {H : Type 0} (step : H → (s : MemoryStep) → Returned s → H → Ty
 
   -- a turn ends for want of a chain or of a mapping
   pub behind_ends : (q q' : BlockQueueState) (new : H) → Stage q (Some Emptied) q' new
-      → (q'.queue ≡ q.queue) × (FoundNone step q'.queue new ⊎ IsWaiting q')
+      → (q'.queue ≡ q.queue) × (FoundNone step q' new ⊎ IsWaiting q')
   behind_ends q q' new (inl (quiet, kept)) = absurd quiet
   behind_ends q q' new (inr (inl (is, kept, queue, ends))) = (queue, ends)
   behind_ends q q' new (inr (inr (inl (buffer, request, a, place, set, is)))) = absurd (cc)

@@ -78,9 +78,9 @@ module _ {H : Type 0} (step : H → (s : MemoryStep) → Returned s → H → Ty
   module _ (q q' : BlockQueueState) (new : H) where
     -- the driver of a queue was asked, and a look found none. The queue is as it was
     abbrev Ends : Type 0
-    Ends = FoundNone step q.queue new × (q' ≡ q)
+    Ends = FoundNone step q new × (q' ≡ q)
 
-    after_ask : (before : H) (r : Result Bool QueueError) (asked : H) → Asks step q.queue before r asked
+    after_ask : (before : H) (r : Result Bool QueueError) (asked : H) → Asks step q before r asked
         → AfterAsk step terms q r asked (Some Emptied) q' new → Ends
     after_ask before (Ok false) asked asks (is, same, still) = ((before, Ok false, asked, asks, inl (refl, still)), same)
     after_ask before (Ok true) asked asks (found, popped, is) =
@@ -115,11 +115,11 @@ module _ {H : Type 0} (step : H → (s : MemoryStep) → Returned s → H → Ty
   was_read q false u old r q' new p is = p.1
 
   pub found_none : (q : BlockQueueState) (old : H) (q' : BlockQueueState) (new : H)
-      → HappensNext step terms q old (Some Emptied) q' new → FoundNone step q'.queue new
+      → HappensNext step terms q old (Some Emptied) q' new → FoundNone step q' new
   found_none q old q' new (Err e, mid_q, mid, read, (is, same, still)) = absurd (refused_some e (none_of (refused e) is))
   found_none q old q' new (Ok done, mid_q, mid, read, (found, next_q, next, popped, after)) =
       let (none, same) = after_pop mid_q q' new mid found next_q next popped after in
-      subst (λ n. FoundNone step n.queue new) (sym same) none
+      subst (λ n. FoundNone step n new) (sym same) none
 
   pub emptied_stays : (q : BlockQueueState) (old : H) (q' : BlockQueueState) (new : H)
       → HappensNext step terms q old (Some Emptied) q' new → q.is_unread ≡ false → q' ≡ q

@@ -255,7 +255,7 @@ module _ {H : Type 0} (step : H → (s : MemoryStep) → Returned s → H → Ty
 
     -- if there is none, the driver is asked to notify, and it is looked for again
     abbrev pub WaitsBehind : BlockQueueState → H → Option RingEvent → BlockQueueState → H → Type 0
-    WaitsBehind q old a q' new = (r : Result Bool QueueError) × (mid : H) × Asks step q.queue old r mid
+    WaitsBehind q old a q' new = (r : Result Bool QueueError) × (mid : H) × Asks step q old r mid
         × AfterAskBehind q r mid a q' new
 
     abbrev pub AfterFind : BlockQueueState → Result (Option Found) QueueError → H → Option RingEvent → BlockQueueState → H

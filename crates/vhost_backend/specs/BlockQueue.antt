@@ -163,13 +163,14 @@ module _ {H : Type 0} (step : H → (s : MemoryStep) → Returned s → H → Ty
       × step old (pops q.queue) r mid × PopsBy terms q r mid a q' new
 
   -- the driver is asked to notify, and the ring looked at again; and then its pages are marked
-  abbrev pub Asks : AnyQueue → H → Result Bool QueueError → H → Type 0
-  Asks q old r new = (mid : H) × step old (enables q) r mid × MarksRing step (asking_marks q) mid new
+  abbrev pub Asks : BlockQueueState → H → Result Bool QueueError → H → Type 0
+  Asks q old r new = (mid : H) × step old (enables q.queue) r mid
+      × MarksRing step (asking_marks q.queue q.reach.log) mid new
 
   -- the driver was asked to notify, and a look after that found no chain
-  abbrev pub FoundNone : AnyQueue → H → Type 0
+  abbrev pub FoundNone : BlockQueueState → H → Type 0
   FoundNone q new = (before : H) × (r : Result Bool QueueError) × (asked : H) × Asks q before r asked
-      × (((r ≡ Ok false) × (new ≡ asked)) ⊎ ((r ≡ Ok true) × step asked (pops q) (Ok None) new))
+      × (((r ≡ Ok false) × (new ≡ asked)) ⊎ ((r ≡ Ok true) × step asked (pops q.queue) (Ok None) new))
 
   -- if there is none, the driver is asked to notify. If there is one by then, it is popped
   abbrev pub AfterAsk : DeviceLimits → BlockQueueState → Result Bool QueueError → H → Option RingEvent → BlockQueueState → H
@@ -179,7 +180,7 @@ module _ {H : Type 0} (step : H → (s : MemoryStep) → Returned s → H → Ty
   AfterAsk terms q (Err e) old a q' new = (a ≡ event_of (refused e)) × (q' ≡ q) × (new ≡ old)
 
   abbrev pub Waits : DeviceLimits → BlockQueueState → H → Option RingEvent → BlockQueueState → H → Type 0
-  Waits terms q old a q' new = (r : Result Bool QueueError) × (mid : H) × Asks q.queue old r mid
+  Waits terms q old a q' new = (r : Result Bool QueueError) × (mid : H) × Asks q old r mid
       × AfterAsk terms q r mid a q' new
 
   abbrev pub AfterPop : DeviceLimits → Pop → BlockQueueState → H → Option RingEvent → BlockQueueState → H → Type 0
@@ -211,13 +212,13 @@ module _ {H : Type 0} (step : H → (s : MemoryStep) → Returned s → H → Ty
       (λ e. (r ≡ finished.Forgotten) × (q' ≡ with_asked q chain.id None) × (new ≡ mid)))
 
   -- a chain is returned, and then the pages of its ring are marked
-  abbrev pub Publishes : AnyQueue → PackedBuffer → ℕ → H → GiveBack → AnyQueue → H → Type 0
-  Publishes q buffer len old a q' new = (r : Result (Unit {0}) QueueError) × (stored : H)
+  abbrev pub Publishes : AnyQueue → Option ℕ → PackedBuffer → ℕ → H → GiveBack → AnyQueue → H → Type 0
+  Publishes q log buffer len old a q' new = (r : Result (Unit {0}) QueueError) × (stored : H)
       × step old (adds_used q buffer len) r stored
-      × MarksRing step (return_marks q) stored new × (a ≡ gave r) × (q' ≡ after_used q buffer r)
+      × MarksRing step (return_marks q log) stored new × (a ≡ gave r) × (q' ≡ after_used q buffer r)
 
   abbrev pub GivesBack : BlockQueueState → Chain → ℕ → H → GiveBack → BlockQueueState → H → Type 0
-  GivesBack q chain len old a q' new = Publishes q.queue (buffer_by chain) len old a q'.queue new
+  GivesBack q chain len old a q' new = Publishes q.queue q.reach.log (buffer_by chain) len old a q'.queue new
       × (q' ≡ with_asked (with_queue q q'.queue) chain.id None)
 
 -- ---- beside the state machine

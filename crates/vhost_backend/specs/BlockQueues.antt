@@ -15,7 +15,7 @@ use Rattle.vhost_backend.specs.BlockQueue.{BlockQueueState, FinishesRequest, Giv
 use Rattle.vhost_backend.specs.BlockTurn.{TakesStep}
 use Rattle.vhost_backend.specs.RingMemory.{MemoryStep, Returned, needs}
 use Rattle.vhost_backend.specs.Reach.{same_log}
-use Rattle.vhost_backend.specs.SetUp.{base_of, fresh_queue, is_set_up, lies_at, moved_queue}
+use Rattle.vhost_backend.specs.SetUp.{base_of, fresh_queue, is_set_up, lies_at, log_of, moved_queue}
 use Rattle.vhost_backend.specs.declared.backend.Finish.{Finish}
 use Rattle.vhost_backend.specs.declared.backend.Finish.TheVariants.{Done, At}
 use Rattle.vhost_backend.specs.declared.backend.Todo.{Todo}
@@ -72,14 +72,14 @@ went_on q (Ok made) log = (moved q made log, Fine)
 went_on q (Err e) log = (q, Broken)
 
 -- it lies where it did, and is logged there
-abbrev pub stays_at : BlockQueueState → RunningVring → Bool
-stays_at q vring = lies_at q.queue vring && same_log q.reach.log vring.log
+abbrev pub stays_at : BlockQueueState → RunningVring → Option ℕ → Bool
+stays_at q vring log = lies_at q.queue vring && same_log q.reach.log log
 
 -- a ring that was started begins at its base, and another one goes on where it is, if it was set up
 abbrev pub set_up : BlockQueueState → ℕ → RunningVring → ℕ → Bool → BlockQueueState × Reached
-set_up q max_size vring features true = began q (fresh_queue max_size vring features) vring.log
-set_up q max_size vring features false = if not (is_set_up q.queue) || stays_at q vring then (q, Fine)
-    else went_on q (moved_queue q.queue vring) vring.log
+set_up q max_size vring features true = began q (fresh_queue max_size vring features) (log_of vring features)
+set_up q max_size vring features false = let log = log_of vring features in
+    if not (is_set_up q.queue) || stays_at q vring log then (q, Fine) else went_on q (moved_queue q.queue vring) log
 
 abbrev pub set_up_at : List BlockQueueState → ℕ → ℕ → RunningVring → ℕ → Bool → Option BlockQueueState
     → List BlockQueueState × Reached

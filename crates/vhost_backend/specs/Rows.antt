@@ -1,5 +1,5 @@
 -- What crosses to C: what is to be done, as a row of numbers.
-use Rattle.std.specs.Prelude.{ℕ, ◌+◌, ◌-◌, min, Bool, true, false, if◌then◌else◌, Option, Some, None}
+use Rattle.std.specs.Prelude.{ℕ, ◌+◌, ◌-◌, min, Bool, if◌then◌else◌, Option, Some, None}
 use Rattle.vhost_calls.specs.Codes.{code_of_refusal}
 use Rattle.vhost_message.specs.declared.regions.MemoryRegion.{MemoryRegion}
 use Rattle.vm_memory_base.specs.declared.iotlb.Permissions.{Permissions}

@@ -1,6 +1,6 @@
 -- Queues of rings, as the protocol's state has them.
 use Rattle.std.specs.Prelude.{◌≡◌, ℕ, ◌%◌, ◌/◌, ◌==◌, ◌&&◌, nat_lt, Bool, true, false, if◌then◌else◌, Option, Some, None, Result, Ok, Err}
-use Rattle.vhost_user.specs.Features.{event_idx, has, ring_packed}
+use Rattle.vhost_user.specs.Features.{access_platform, event_idx, has, ring_packed}
 use Rattle.vhost_user.specs.declared.vring.RunningVring.{RunningVring}
 use Rattle.virtio_queue.specs.Packed.{is_packed_size, of_bits}
 use Rattle.virtio_queue.specs.Packed as packed
@@ -107,3 +107,7 @@ lies_at (Split q) vring = let s = q.state in
     s.desc_table == vring.descriptor && s.avail_ring == vring.available && s.used_ring == vring.used
 lies_at (Packed q) vring = let s = q.state in
     s.desc_ring == vring.descriptor && s.driver_area == vring.available && s.device_area == vring.used
+
+-- where writes to its used ring are logged, if a table translates its addresses. If not, they are where they are made
+abbrev pub log_of : RunningVring → ℕ → Option ℕ
+log_of vring features = if has features access_platform then vring.log else None

@@ -9,19 +9,24 @@ ghost use Rattle.vm_memory_guest.specs.declared.host.TlbId.{TlbId};
 ghost use Rattle.vm_memory_device.specs.Chain.{Entry, text, writable};
 ghost use Rattle.vm_memory_device.specs.declared.chain.Segment.{Segment};
 ghost use Rattle.virtio_queue.specs.Any.{enabling, returning};
+ghost use Rattle.virtio_queue.specs.State.{Virtqueue};
 ghost use Rattle.virtio_queue.specs.declared.any.AnyQueue.{AnyQueue};
+ghost use Rattle.virtio_queue.specs.declared.any.AnyQueue.TheVariants.{Split};
 ghost use Rattle.virtio_queue.specs.declared.packed.state.PackedBuffer.{PackedBuffer};
 ghost use Rattle.virtio_blk.specs.declared.request.DeviceLimits.{DeviceLimits};
 ghost use Rattle.vhost_iotlb.specs.Leads.{LeadsTo};
 ghost use Rattle.vhost_backend.specs.Behind.{HappensBy, IsWaiting};
 ghost use Rattle.vhost_backend.specs.BlockQueue.{Agrees, BlockQueueState, FindsAll, FoundNone};
-ghost use Rattle.vhost_backend.specs.Marks.{Covered, Stores, asking_marks, chain_marks, return_marks};
+ghost use Rattle.vhost_backend.specs.Fetch.{used_of};
+ghost use Rattle.vhost_backend.specs.Marks.{Covered, CoveredFrom, MarksRing, Stores, asking_marks, chain_marks};
+ghost use Rattle.vhost_backend.specs.Marks.{return_marks};
 ghost use Rattle.vhost_backend.specs.PageList.{IsToMark};
 ghost use Rattle.vhost_backend.specs.Pieces.{piece_from, side};
 ghost use Rattle.vhost_backend.specs.Ring.{RingState, may_run};
-ghost use Rattle.vhost_backend.specs.RingMemory.{Logs, marks_ring};
+ghost use Rattle.vhost_backend.specs.RingMemory.{Logs};
 ghost use Rattle.vhost_backend.specs.Story.{RingStep, On, stepped, taken};
 ghost use Rattle.vhost_backend.specs.Sight.{Sight};
+ghost use Rattle.vhost_backend.specs.declared.pieces.Piece.{Piece};
 ghost use Rattle.vhost_backend.specs.declared.ring.RingEvent.{RingEvent};
 ghost use Rattle.vhost_backend.specs.declared.ring.RingEvent.TheVariants.{Emptied};
 ghost use Rattle.vhost_backend.specs.declared.ring_memory.Logged.{Logged};
@@ -39,20 +44,32 @@ pub fn no_page_is_lost()
     ensures pieces { (segments : List Segment) (offset n k : ℕ)
         → IfSome (piece_from (side true segments) offset n) (λ p. k < p.len
         → Covered (chain_marks segments) (p.base + p.offset + k) 1) }
-    ensures returns { (q : AnyQueue) (buffer : PackedBuffer) (len : ℕ)
-        → Stores (Covered (return_marks q)) (returning q buffer len) }
-    ensures waits { (q : AnyQueue) → Stores (Covered (asking_marks q)) (enabling q) }
+    ensures returns { (q : AnyQueue) (log : Option ℕ) (buffer : PackedBuffer) (len : ℕ)
+        → Stores (Covered (return_marks q log)) (returning q buffer len) }
+    ensures waits { (q : AnyQueue) (log : Option ℕ) → Stores (Covered (asking_marks q log)) (enabling q) }
+{}
+
+/// If writes to a used ring are logged at an address, each byte that is stored so far after the start of the used ring
+/// lies as far after that address in a mark that is made after it. Returns of a split ring store nowhere else, nor do
+/// waits. Those of a packed ring, whose used ring is its device area, store nothing there.
+pub fn log_addresses_are_marked()
+    ensures returns { (q : Virtqueue) (log : ℕ) (buffer : PackedBuffer) (len : ℕ)
+        → Stores (CoveredFrom (used_of (Split q)).iova log (return_marks (Split q) (Some log)))
+        (returning (Split q) buffer len) }
+    ensures waits { (q : AnyQueue) (log : ℕ)
+        → Stores (CoveredFrom (used_of q).iova log (asking_marks q (Some log))) (enabling q) }
 {}
 
 /// If a ring's addresses go through a table, a mark of a range that the table lets be written is of guest pages: each
-/// byte of the range lies, where the table leads, on a page that is to be marked then, if that page has a bit in the
-/// log. A range that it does not let be written was not stored to.
+/// byte of the range lies, where the table leads, on a page that is to be marked after all marks of a call, if that page
+/// has a bit in the log. A range that it does not let be written was not stored to.
 pub fn ring_marks_are_of_guest_pages<B: Bitmap>()
-    ensures { (ring guest : Memory) (t : TlbId) (old new : Logged B) (base offset n x to : ℕ)
-        → Logs B.marks ring guest (Some t) old (marks_ring base offset n) tt new
-        → is_allowed (says_of (slice_get old.host.tables t.0)) (base + offset) n Write ≡ true → base + offset ≤ x
-        → x < base + offset + n → LeadsTo (says_of (slice_get old.host.tables t.0)) x to Write
-        → to / 4096 < old.pages.pages → IsToMark (to / 4096) new.pages }
+    ensures { (ring guest : Memory) (t : TlbId) (marks : List Piece) (i : ℕ) (m : Piece) (old new : Logged B) (x to : ℕ)
+        → MarksRing (Logs B.marks ring guest (Some t)) marks old new → slice_get marks i ≡ Some m
+        → is_allowed (says_of (slice_get old.host.tables t.0)) (m.base + m.offset) m.len Write ≡ true
+        → m.base + m.offset ≤ x → x < m.base + m.offset + m.len
+        → LeadsTo (says_of (slice_get old.host.tables t.0)) x to Write → to / 4096 < old.pages.pages
+        → IsToMark (to / 4096) new.pages }
 {}
 
 /// A turn is over only if the driver was asked to notify and a look after that found no chain, or a mapping is waited
@@ -60,7 +77,7 @@ pub fn ring_marks_are_of_guest_pages<B: Bitmap>()
 pub fn turns_end_after_a_look<H, D: RingMemory<H>>()
     ensures looks { (mem : D) (way : Option Sight) (terms : DeviceLimits) (q new_q : BlockQueueState) (old new : H)
         → HappensBy (D.steps mem) way terms q old (Some Emptied) new_q new
-        → FoundNone (D.steps mem) new_q.queue new ⊎ IsWaiting new_q }
+        → FoundNone (D.steps mem) new_q new ⊎ IsWaiting new_q }
     ensures stays { (mem : D) (way : Option Sight) (terms : DeviceLimits) (q new_q : BlockQueueState) (old new : H)
         → HappensBy (D.steps mem) way terms q old (Some Emptied) new_q new → q.is_unread ≡ false
         → new_q.queue ≡ q.queue }

@@ -383,11 +383,11 @@ impl BlockQueue {
     // Asks the driver to notify, and looks at the ring again.
     fn ask<H, D: RingMemory<H>>(&self, mem: &D, host: &mut H) -> Result<bool, QueueError>
         requires { D.held mem.now host.old }
-        ensures asks { Asks (D.steps mem.now) self.now.queue host.old result host.new }
+        ensures asks { Asks (D.steps mem.now) self.now host.old result host.new }
         ensures held { D.held mem.now host.new }
     {
         let more = mem.enable_notification(host, &self.queue);
-        mark_asking(mem, host, &self.queue);
+        mark_asking(mem, host, &self.queue, self.reach.log());
         more
     }
 
@@ -528,7 +528,8 @@ impl BlockQueue {
         ensures returns { GivesBack (D.steps mem.now) self.old chain len host.old result self.new host.new }
         ensures held { D.held mem.now host.new }
     {
-        let given = publish(&mut self.queue, mem, host, buffer_of(chain), len);
+        let log = self.reach.log();
+        let given = publish(&mut self.queue, log, mem, host, buffer_of(chain), len);
         self.forget(chain.id);
         given
     }

@@ -17,7 +17,7 @@ use crate::block::{BlockStep, block_parts, block_step};
 use crate::block_queue::{BlockQueue, Finished, GiveBack, Way};
 use crate::request::Chain;
 use crate::ring_memory::RingMemory;
-use crate::set_up::{base_of, fresh_queue, is_set_up, lies_at, moved_queue, unset_queue};
+use crate::set_up::{base_of, fresh_queue, is_set_up, lies_at, log_of, moved_queue, unset_queue};
 use crate::turn::take_step;
 use std::alloc::Global;
 use std::marker::Model;
@@ -86,10 +86,10 @@ fn go_on(queue: &mut BlockQueue, made: Result<AnyQueue, QueueError>, log: Option
 }
 
 // Whether a ring lies where its queue does, and is logged where it was.
-fn stays_at(queue: &BlockQueue, vring: &RunningVring) -> bool
-    ensures { result ≡ stays_at queue.now vring.now }
+fn stays_at(queue: &BlockQueue, vring: &RunningVring, log: Option<u64>) -> bool
+    ensures { result ≡ stays_at queue.now vring.now log }
 {
-    lies_at(queue.queue(), vring) && queue.is_logged_at(vring.log)
+    lies_at(queue.queue(), vring) && queue.is_logged_at(log)
 }
 
 // Tells a queue where its ring lies.
@@ -102,14 +102,15 @@ fn set_up(
 ) -> Reached
     ensures { (queue.new, result) ≡ set_up queue.old max_size vring.now features fresh }
 {
+    let log = log_of(vring, features);
     if fresh {
-        return begin(queue, fresh_queue(max_size, vring, features), vring.log);
+        return begin(queue, fresh_queue(max_size, vring, features), log);
     }
-    if !is_set_up(queue.queue()) || stays_at(queue, vring) {
+    if !is_set_up(queue.queue()) || stays_at(queue, vring, log) {
         return Reached::Fine;
     }
     let made = moved_queue(queue.queue(), vring);
-    go_on(queue, made, vring.log)
+    go_on(queue, made, log)
 }
 
 // Queues that nobody has set up.

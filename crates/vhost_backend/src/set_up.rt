@@ -1,9 +1,11 @@
 //! Queues of rings, as the protocol's state has them.
 ghost use Rattle.std.specs.Prelude.{◌≡◌};
-ghost use Rattle.vhost_backend.specs.SetUp.{lies_at, any_split, base_of, fresh_queue, is_set_up, is_split, moved_queue};
-ghost use Rattle.vhost_backend.specs.SetUp.{packed_queue, split_queue, unset_queue};
+ghost use Rattle.vhost_backend.specs.SetUp.{any_split, base_of, fresh_queue, is_set_up, is_split, lies_at, log_of};
+ghost use Rattle.vhost_backend.specs.SetUp.{moved_queue, packed_queue, split_queue, unset_queue};
 
-use vhost_user::{RunningVring, VIRTIO_F_RING_EVENT_IDX, VIRTIO_F_RING_PACKED};
+use vhost_user::{
+    RunningVring, VIRTIO_F_ACCESS_PLATFORM, VIRTIO_F_RING_EVENT_IDX, VIRTIO_F_RING_PACKED,
+};
 use virtio_queue::{
     AnyQueue, PackedQueue, PackedState, Queue, QueueError, QueueState, RingPosition,
 };
@@ -161,5 +163,16 @@ pub(crate) fn lies_at(queue: &AnyQueue, vring: &RunningVring) -> bool
                 && state.driver_area == vring.available
                 && state.device_area == vring.used
         }
+    }
+}
+
+// Where writes to its used ring are logged, if a table translates its addresses. If not, they are where they are made.
+pub(crate) fn log_of(vring: &RunningVring, features: u64) -> Option<u64>
+    ensures { result ≡ log_of vring.now features }
+{
+    if features & VIRTIO_F_ACCESS_PLATFORM != 0 {
+        vring.log
+    } else {
+        None
     }
 }

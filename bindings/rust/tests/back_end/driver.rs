@@ -100,6 +100,8 @@ pub struct Driver {
     free_slots: u16,
     /// A buffer lies among rings.
     pub has_scribbled: bool,
+    /// A page among those of rings in which none lies.
+    pub spare: (usize, u64),
 }
 
 fn row(addr: u64, len: u32, words: [u16; 2]) -> Vec<u8> {
@@ -128,6 +130,7 @@ impl Driver {
             out: Vec::new(),
             free_slots: size,
             has_scribbled: false,
+            spare: (file, base),
         }
     }
 

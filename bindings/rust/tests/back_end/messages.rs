@@ -61,14 +61,19 @@ pub fn any_table(numbers: &mut Numbers) -> (Vec<u8>, usize) {
     (table(&rows), count)
 }
 
-/// Where a ring lies, for a SET_VRING_ADDR. Behind an IOMMU its writes are logged where they are made.
-pub fn ring_addresses(index: u32, driver: &Driver, space: &Space, is_logged: bool) -> Vec<u8> {
+/// Where a ring lies, for a SET_VRING_ADDR. Behind an IOMMU its writes are mostly logged where they are made.
+pub fn ring_addresses(numbers: &mut Numbers, index: u32, driver: &Driver, space: &Space, is_logged: bool) -> Vec<u8> {
     let place = |part| match space.is_on {
         true => space.iova(driver.file, driver.base + part),
         false => user_address(driver.file, driver.base + part),
     };
     let [desc, avail, used] = PARTS.map(place);
-    let log = if space.is_on { used } else { 0 };
+    let (file, offset) = driver.spare;
+    let log = match space.is_on {
+        true if numbers.one_in(6) => space.iova(file, offset + PAGE / 2 * u64::from(index) + numbers.below(0x300)),
+        true => used,
+        false => 0,
+    };
     addresses(index, is_logged.into(), [desc, used, avail, log])
 }
 
@@ -102,7 +107,7 @@ pub fn any_message(numbers: &mut Numbers, drivers: &[Driver; 2], space: &Space, 
         150..=152 => of(SET_VRING_KICK, &without, 0),
         153..=159 => {
             let is_logged = numbers.one_in(2);
-            let addresses = ring_addresses(index as u32, &drivers[index as usize], space, is_logged);
+            let addresses = ring_addresses(numbers, index as u32, &drivers[index as usize], space, is_logged);
             of(SET_VRING_ADDR, &addresses, 0)
         }
         160..=163 => of(GET_CONFIG, &config(numbers.below(200) as u32, 0, &[0; 8]), 0),
@@ -167,7 +172,7 @@ pub fn start(numbers: &mut Numbers, index: u32, driver: &Driver, space: &Space, 
     let first = numbers
         .one_in(4)
         .then(|| of(SET_FEATURES, &u64::to_le_bytes(features), 0));
-    let addresses = ring_addresses(index, driver, space, true);
+    let addresses = ring_addresses(numbers, index, driver, space, true);
     let others = [
         of(SET_VRING_NUM, &two(driver.size.into()), 0),
         of(SET_VRING_BASE, &two(base), 0),

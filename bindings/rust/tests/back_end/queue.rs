@@ -2,6 +2,7 @@
 //! over an image of guest memory.
 
 use crate::slow::{self, descriptor, fault, indirect_len, Image, Refusal, Segment, Setup};
+use std::ops::Range;
 
 /// A chain that was popped: what it is returned by, and its segments.
 #[derive(Clone, Debug)]
@@ -159,6 +160,13 @@ impl DeviceQueue {
     pub fn pops_as(&mut self, other: &DeviceQueue) {
         self.next[0] = other.next[0];
         self.slots[0] = other.slots[0];
+    }
+
+    /// What a front end calls the used ring: of a packed one, where the device says when it wants to be notified.
+    pub fn used(&self) -> Range<u64> {
+        let (used, event) = (self.parts[2], if self.event_idx { 2 } else { 0 });
+        let len = if self.is_packed { 4 } else { 4 + 8 * u64::from(self.size) + event };
+        used..used + len
     }
 
     // Whether the slot that is popped next was made available.

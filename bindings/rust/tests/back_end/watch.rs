@@ -2,7 +2,8 @@
 //! what was asked for, and what lies in guest memory, and nothing of what the model does.
 //!
 //! A page that a chain's request may change is marked after the last write to it and in a run before the one in which
-//! the chain shows up as returned. Other bytes that a run changes are marked by that run.
+//! the chain shows up as returned. Other bytes that a run changes are marked by that run, those of a used ring also where
+//! its writes are logged.
 
 use super::acts::{add_piece, Served};
 use super::driver::{word_at, Driver, Published, PAGE, PARTS};
@@ -56,6 +57,8 @@ pub struct Seen {
     pub pages: u64,
     pub lost: u64,
     pub led: u64,
+    /// Bytes of used rings whose writes are logged elsewhere.
+    pub elsewhere: u64,
 }
 
 impl Seen {
@@ -65,6 +68,7 @@ impl Seen {
         self.pages += other.pages;
         self.lost += other.lost;
         self.led += other.led;
+        self.elsewhere += other.elsewhere;
     }
 }
 
@@ -79,6 +83,9 @@ pub struct Watch {
     bits: Option<u64>,
     before: Vec<Vec<u8>>,
     said: Vec<Table>,
+    // Where writes to used rings are logged, if that is elsewhere, and whether that holds by now.
+    logs: [Option<u64>; 2],
+    has_logs: bool,
     pub seen: Seen,
 }
 
@@ -273,6 +280,17 @@ impl Watch {
         self.said = said;
     }
 
+    /// Writes to a used ring are to be logged at an I/O address.
+    pub fn log(&mut self, index: usize, log: Option<u64>) {
+        self.logs[index] = log;
+        self.has_logs = false;
+    }
+
+    /// No message is under way.
+    pub fn settled(&mut self) {
+        self.has_logs = true;
+    }
+
     /// The end of a part goes into the next run: its bytes were written.
     pub fn ended(&mut self, ring: u32, id: u32) {
         let run = self.run + 1;
@@ -310,6 +328,9 @@ impl Watch {
             }
         }
         self.expect_changes(eyes.0, bits, marks);
+        if let Some(bits) = bits.filter(|_| self.has_logs) {
+            (0..2).for_each(|index| self.expect_logged(index, eyes, bits, marks));
+        }
         for page in marks {
             self.marks.entry(*page).or_default().push(self.run);
         }
@@ -353,6 +374,28 @@ impl Watch {
                     "page {page:#x} was changed, and nothing leads there"
                 );
             }
+        }
+    }
+
+    // What was changed of a used ring was marked where its writes are logged.
+    fn expect_logged(&mut self, index: usize, (guests, space): Eyes<'_>, bits: u64, marks: &BTreeSet<u64>) {
+        let it = &self.rings[index];
+        let is_known = it.size > 0 && !it.is_lost && !it.is_unsure;
+        let Some(log) = self.logs[index].filter(|_| is_known) else {
+            return;
+        };
+        let len = if it.is_packed { 4 } else { 6 + 8 * u64::from(it.size) };
+        let places = space.places(it.file, it.base + PARTS[2], len).into_iter();
+        let all = places.flat_map(|(file, at, count)| (at..at + count).map(move |at| (file, at as usize)));
+        for (iova, (file, at)) in (log..).zip(all) {
+            if guests[file].read(at, 1)[0] == self.before[file][at] {
+                continue;
+            }
+            self.seen.elsewhere += 1;
+            let pages = self.said.iter().filter_map(|said| Some(said.at(iova)?.to / PAGE));
+            let pages: Vec<u64> = pages.collect();
+            let is_marked = pages.iter().any(|page| *page >= bits || marks.contains(page));
+            assert!(is_marked, "ring {index} is logged at {iova:#x}: none of {pages:x?} was marked");
         }
     }
 

@@ -6,7 +6,7 @@ mod calm;
 mod front;
 
 use super::acts::{Act, Served};
-use super::driver::{Bytes, Driver, FILE, PAGE, SECTORS};
+use super::driver::{Bytes, Driver, FILE, PAGE, RINGS, SECTORS};
 use super::messages::{self, any_message, Sent, FEATURES, OF_PROTOCOL};
 use super::model::{Model, Ran};
 use super::space::Space;
@@ -132,7 +132,7 @@ impl<'a> World<'a> {
             due: messages::begin(numbers, features).into(),
             back_end: BackEnd::new(&offer, &config, &disk).unwrap(),
             model: Model::new(&offer, &config, &disk, files),
-            drivers: [0, 1].map(|index| any_driver(numbers, index, shift, features)),
+            drivers: any_drivers(numbers, shift, features),
             numbers,
             all,
             counts,
@@ -385,6 +385,11 @@ impl<'a> World<'a> {
             self.counts.logs += u64::from((self.features ^ features) & LOG_ALL != 0);
             self.features = features;
         }
+        if request == SET_VRING_ADDR && self.space.is_on {
+            let [index, flags] = [12, 16].map(|at| u32::from_le_bytes(message[at..at + 4].try_into().unwrap()));
+            let [used, log] = [28, 44].map(|at| u64::from_le_bytes(message[at..at + 8].try_into().unwrap()));
+            self.watch.log(index as usize, Some(log).filter(|log| flags == 1 && *log != used));
+        }
         self.hear(&message);
         // None is taken while one is under way.
         if !self.model.can_take() && self.numbers.one_in(10) {
@@ -434,6 +439,9 @@ impl<'a> World<'a> {
         }
         let bits = self.bits();
         self.watch.after((&self.all.guests, &self.space), bits, &marks);
+        if self.model.can_take() {
+            self.watch.settled();
+        }
         self.marked.extend(marks);
         let ran = Ran {
             acts,
@@ -478,6 +486,19 @@ impl<'a> World<'a> {
         self.watch.forget();
         self.model.has_many = false;
     }
+}
+
+// The drivers of both rings.
+fn any_drivers(numbers: &mut Numbers, shift: u64, features: u64) -> [Driver; 2] {
+    let mut drivers = [0, 1].map(|index| any_driver(numbers, index, shift, features));
+    let is_free = |(file, page): &(usize, u64)| {
+        let is_apart = |it: &Driver| it.file != *file || page + PAGE <= it.base || it.base + PAGE <= *page;
+        drivers.iter().all(is_apart)
+    };
+    let mut pages = (0..2).flat_map(|file| (0..RINGS / PAGE).map(move |page| (file, PAGE * page)));
+    let spare = pages.find(is_free).expect("there are more pages than two rings have");
+    drivers.iter_mut().for_each(|it| it.spare = spare);
+    drivers
 }
 
 // The driver of a ring, which lies anywhere.

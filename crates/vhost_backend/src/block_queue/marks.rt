@@ -1,7 +1,8 @@
 //! What is marked of a ring and of its chains.
-ghost use Rattle.std.specs.Prelude.{◌≡◌, [], ◌∷◌};
+ghost use Rattle.std.specs.Prelude.{◌≡◌, [], ◌∷◌, flat_map};
 ghost use Rattle.vhost_backend.specs.BlockQueue.{Publishes};
-ghost use Rattle.vhost_backend.specs.Marks.{Marks, MarksRing, asking_marks, chain_marks, return_marks, segment_marks};
+ghost use Rattle.vhost_backend.specs.Marks.{Marks, MarksRing, asking_marks, chain_marks, logged_at, return_marks};
+ghost use Rattle.vhost_backend.specs.Marks.{segment_marks};
 
 use super::{GiveBack, gave};
 use crate::pieces::Piece;
@@ -32,29 +33,50 @@ pub(super) fn mark_chain<H, D: RingMemory<H>>(mem: &D, host: &mut H, chain: &Des
     }
 }
 
-// Marks two ranges of a ring.
-fn mark_both<H, D: RingMemory<H>>(mem: &D, host: &mut H, first: Piece, second: Piece)
+// Marks a range of a used ring, also where its writes are logged.
+fn mark_logged<H, D: RingMemory<H>>(mem: &D, host: &mut H, log: Option<u64>, piece: Piece)
     requires { D.held mem.now host.old }
-    ensures marks { MarksRing (D.steps mem.now) (first ∷ second ∷ []) host.old host.new }
+    ensures marks { MarksRing (D.steps mem.now) (logged_at log piece) host.old host.new }
     ensures held { D.held mem.now host.new }
 {
-    mem.mark_ring(host, first.base, first.offset, first.len);
-    mem.mark_ring(host, second.base, second.offset, second.len);
+    mem.mark_ring(host, piece.base, piece.offset, piece.len);
+    if let Some(log) = log {
+        if log != piece.base {
+            mem.mark_ring(host, log, piece.offset, piece.len);
+        }
+    }
 }
 
-// The entry of a queue's next return, and what publishes it.
-fn return_marks(queue: &AnyQueue) -> (Piece, Piece)
-    ensures { result.0 ∷ result.1 ∷ [] ≡ return_marks queue.now }
+// Marks two ranges of a used ring.
+fn mark_both<H, D: RingMemory<H>>(
+    mem: &D,
+    host: &mut H,
+    log: Option<u64>,
+    first: Piece,
+    second: Piece,
+)
+    requires { D.held mem.now host.old }
+    ensures marks { MarksRing (D.steps mem.now) (flat_map (logged_at log) (first ∷ second ∷ [])) host.old host.new }
+    ensures held { D.held mem.now host.new }
 {
-    let (base, entry, len, last) = match queue {
+    mark_logged(mem, host, log, first);
+    mark_logged(mem, host, log, second);
+}
+
+// The entry of a queue's next return, what publishes it, and where they are logged: a packed ring returns chains among
+// its descriptors.
+fn return_marks(queue: &AnyQueue, log: Option<u64>) -> (Piece, Piece, Option<u64>)
+    ensures { flat_map (logged_at result.2) (result.0 ∷ result.1 ∷ []) ≡ return_marks queue.now log }
+{
+    let (base, entry, len, last, log) = match queue {
         AnyQueue::Split(queue) => {
             let slot = queue.next_used() % queue.size();
-            (queue.state().used_ring, 4 + 8 * u64::from(slot), 8, 2)
+            (queue.state().used_ring, 4 + 8 * u64::from(slot), 8, 2, log)
         }
         AnyQueue::Packed(queue) => {
             let state = queue.state();
             let slot = 16 * u64::from(state.next_used.slot);
-            (state.desc_ring, slot + 8, 6, slot + 14)
+            (state.desc_ring, slot + 8, 6, slot + 14, None)
         }
     };
     let first = Piece {
@@ -62,18 +84,28 @@ fn return_marks(queue: &AnyQueue) -> (Piece, Piece)
         offset: entry,
         len,
     };
-    let second = Piece {
+    (first, two_bytes(base, last), log)
+}
+
+fn two_bytes(base: u64, offset: u64) -> Piece
+    ensures { result ≡ record { base = base; offset = offset; len = 2 } }
+{
+    Piece {
         base,
-        offset: last,
+        offset,
         len: 2,
-    };
-    (first, second)
+    }
 }
 
 // Marks the pages of what asks the driver to notify.
-pub(super) fn mark_asking<H, D: RingMemory<H>>(mem: &D, host: &mut H, queue: &AnyQueue)
+pub(super) fn mark_asking<H, D: RingMemory<H>>(
+    mem: &D,
+    host: &mut H,
+    queue: &AnyQueue,
+    log: Option<u64>,
+)
     requires { D.held mem.now host.old }
-    ensures marks { MarksRing (D.steps mem.now) (asking_marks queue.now) host.old host.new }
+    ensures marks { MarksRing (D.steps mem.now) (asking_marks queue.now log) host.old host.new }
     ensures held { D.held mem.now host.new }
 {
     match queue {
@@ -84,12 +116,11 @@ pub(super) fn mark_asking<H, D: RingMemory<H>>(mem: &D, host: &mut H, queue: &An
             } else {
                 0
             };
-            mem.mark_ring(host, state.used_ring, offset, 2);
+            mark_logged(mem, host, log, two_bytes(state.used_ring, offset));
         }
         AnyQueue::Packed(queue) => {
             let area = queue.state().device_area;
-            mem.mark_ring(host, area, 0, 2);
-            mem.mark_ring(host, area, 2, 2);
+            mark_both(mem, host, log, two_bytes(area, 0), two_bytes(area, 2));
         }
     }
 }
@@ -97,17 +128,18 @@ pub(super) fn mark_asking<H, D: RingMemory<H>>(mem: &D, host: &mut H, queue: &An
 // Returns a chain, and then marks the pages of the ring.
 pub(super) fn publish<H, D: RingMemory<H>>(
     queue: &mut AnyQueue,
+    log: Option<u64>,
     mem: &D,
     host: &mut H,
     buffer: PackedBuffer,
     len: u32,
 ) -> GiveBack
     requires { D.held mem.now host.old }
-    ensures publishes { Publishes (D.steps mem.now) queue.old buffer len host.old result queue.new host.new }
+    ensures publishes { Publishes (D.steps mem.now) queue.old log buffer len host.old result queue.new host.new }
     ensures held { D.held mem.now host.new }
 {
-    let (first, second) = return_marks(queue);
+    let (first, second, log) = return_marks(queue, log);
     let returned = mem.add_used(host, queue, buffer, len);
-    mark_both(mem, host, first, second);
+    mark_both(mem, host, log, first, second);
     gave(returned)
 }

@@ -38,16 +38,17 @@ impl Model {
         Some(found)
     }
 
-    /// Marks what was stored to a ring.
+    /// Marks what was stored to a ring: where it lies, and what lies in the used ring also as far after where writes to
+    /// that are logged.
     pub fn mark_ring(&mut self, index: usize, places: &[(u64, u64)]) {
         let Some(behind) = &self.behind else {
             return self.mark(places);
         };
         let queue = self.rings.rings[index].queue.as_ref().expect("it stored");
-        let (used, log, own) = (queue.parts[2], self.rings.rings[index].log, behind.own());
-        let logged = log.filter(|it| *it != used && !queue.is_packed);
+        let (used, log, own) = (queue.used(), self.rings.rings[index].log, behind.own());
         let of = |&(iova, len): &(u64, u64)| {
-            let other = logged.map(|log| (log.wrapping_add(iova.wrapping_sub(used)), len));
+            let log = log.filter(|log| *log != used.start && used.contains(&iova));
+            let other = log.map(|log| (log.wrapping_add(iova - used.start), len));
             let found = [Some((iova, len)), other].into_iter().flatten();
             found.flat_map(|it| Behind::places(&own, it)).collect::<Vec<_>>()
         };

@@ -167,7 +167,7 @@ pub fn ring_wants(queue: &DeviceQueue, log: Option<u64>) -> Vec<Want> {
     let [desc, avail, used] = queue.parts;
     let (size, event) = (u64::from(queue.size), if queue.event_idx { 2 } else { 0 });
     let want = |iova, len, access| Want { iova, len, access };
-    let used_len = if queue.is_packed { 4 } else { 4 + 8 * size + event };
+    let used_len = queue.used().end - used;
     let log = log.filter(|it| *it != used).map(|log| want(log, used_len, WRITE));
     let mut wants = match queue.is_packed {
         false => vec![want(desc, 16 * size, READ), want(avail, 4 + 2 * size + event, READ)],

@@ -124,10 +124,12 @@ impl Model {
     fn place(&mut self, index: usize, vring: &Vring, is_fresh: bool) {
         let features = self.protocol.features;
         let parts = [vring.descriptor, vring.available, vring.used];
+        // Without an IOMMU its writes are logged where they are made.
+        let log = vring.log.filter(|_| features & ACCESS_PLATFORM != 0);
         let ring = &mut self.rings.rings[index];
         let placed = match (&ring.queue, is_fresh) {
             (None, false) => return,
-            (Some(queue), false) if queue.parts == parts && ring.log == vring.log => return,
+            (Some(queue), false) if queue.parts == parts && ring.log == log => return,
             (Some(queue), false) => queue.moved(parts),
             _ => {
                 let (is_packed, event_idx) = (features & RING_PACKED != 0, features & EVENT_IDX != 0);
@@ -137,7 +139,7 @@ impl Model {
         };
         match placed {
             Some(queue) => {
-                (ring.queue, ring.log) = (Some(queue), vring.log);
+                (ring.queue, ring.log) = (Some(queue), log);
                 self.lies_elsewhere(index);
             }
             None => self.is_broken = true,

@@ -4,5 +4,5 @@ pub returns-clause-asks : goal.returns-clause-asks
 returns-clause-asks g c = rw (← c.self.view_is) (
   c.enable_notification-more.new.host,
   c.enable_notification-more.ensures.step,
-  c.mark_asking.ensures.marks,
+  rw c.log.ensures at c.mark_asking.ensures.marks,
 )
