@@ -329,10 +329,26 @@ impl ConnectionMemory {
         let (guest, kept, logged) = (&self.layout, &self.behind, &mut self.logged);
         let Some(ring) = io_memory_if(kept, self.is_behind) else {
             let (ring, table) = (guest, None);
-            return backend.step(&Lent { ring, guest, table, kept }, logged);
+            return backend.step(
+                &Lent {
+                    ring,
+                    guest,
+                    table,
+                    kept,
+                },
+                logged,
+            );
         };
         let table = Some(RING_TABLE);
-        backend.step(&Lent { ring, guest, table, kept }, logged)
+        backend.step(
+            &Lent {
+                ring,
+                guest,
+                table,
+                kept,
+            },
+            logged,
+        )
     }
 
     /// Has a back end look at a ring on this memory.
@@ -344,14 +360,32 @@ impl ConnectionMemory {
         let (guest, kept, logged) = (&self.layout, &self.behind, &mut self.logged);
         let Some(ring) = io_memory_if(kept, self.is_behind) else {
             let (ring, table) = (guest, None);
-            return backend.look(&Lent { ring, guest, table, kept }, logged, None);
+            return backend.look(
+                &Lent {
+                    ring,
+                    guest,
+                    table,
+                    kept,
+                },
+                logged,
+                None,
+            );
         };
         let way = Way {
             table: &self.table,
             can_ask: backend.can_ask(),
         };
         let table = Some(RING_TABLE);
-        backend.look(&Lent { ring, guest, table, kept }, logged, Some(way))
+        backend.look(
+            &Lent {
+                ring,
+                guest,
+                table,
+                kept,
+            },
+            logged,
+            Some(way),
+        )
     }
 
     /// Changes what is said of I/O addresses as a message has it, and what rings have of that. Returns how many ranges
@@ -365,9 +399,27 @@ impl ConnectionMemory {
         let (guest, kept, logged) = (&self.layout, &self.behind, &mut self.logged);
         let Some(ring) = io_memory_if(kept, self.is_behind) else {
             let (ring, table) = (guest, None);
-            return backend.change_table(&Lent { ring, guest, table, kept }, logged, &mut self.table);
+            return backend.change_table(
+                &Lent {
+                    ring,
+                    guest,
+                    table,
+                    kept,
+                },
+                logged,
+                &mut self.table,
+            );
         };
         let table = Some(RING_TABLE);
-        backend.change_table(&Lent { ring, guest, table, kept }, logged, &mut self.table)
+        backend.change_table(
+            &Lent {
+                ring,
+                guest,
+                table,
+                kept,
+            },
+            logged,
+            &mut self.table,
+        )
     }
 }

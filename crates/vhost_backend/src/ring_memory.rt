@@ -233,8 +233,7 @@ pub struct Lent<'a, M: GuestMemory, P: GuestMemory, K: GuestMemory> {
 }
 
 impl<M: GuestMemory, P: GuestMemory, K: GuestMemory, B: Bitmap> RingMemory<Logged<B>>
-    for Lent<'_, M, P, K>
-{
+    for Lent<'_, M, P, K> {
     ghost steps = { λ s old x r new.
         Logs B.marks (M.memory s.ring.now) (P.memory s.guest.now) s.table old x r new };
 

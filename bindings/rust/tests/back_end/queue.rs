@@ -165,7 +165,11 @@ impl DeviceQueue {
     /// What a front end calls the used ring: of a packed one, where the device says when it wants to be notified.
     pub fn used(&self) -> Range<u64> {
         let (used, event) = (self.parts[2], if self.event_idx { 2 } else { 0 });
-        let len = if self.is_packed { 4 } else { 4 + 8 * u64::from(self.size) + event };
+        let len = if self.is_packed {
+            4
+        } else {
+            4 + 8 * u64::from(self.size) + event
+        };
         used..used + len
     }
 

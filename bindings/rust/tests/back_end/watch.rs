@@ -395,7 +395,10 @@ impl Watch {
             let pages = self.said.iter().filter_map(|said| Some(said.at(iova)?.to / PAGE));
             let pages: Vec<u64> = pages.collect();
             let is_marked = pages.iter().any(|page| *page >= bits || marks.contains(page));
-            assert!(is_marked, "ring {index} is logged at {iova:#x}: none of {pages:x?} was marked");
+            assert!(
+                is_marked,
+                "ring {index} is logged at {iova:#x}: none of {pages:x?} was marked"
+            );
         }
     }
 

@@ -388,7 +388,8 @@ impl<'a> World<'a> {
         if request == SET_VRING_ADDR && self.space.is_on {
             let [index, flags] = [12, 16].map(|at| u32::from_le_bytes(message[at..at + 4].try_into().unwrap()));
             let [used, log] = [28, 44].map(|at| u64::from_le_bytes(message[at..at + 8].try_into().unwrap()));
-            self.watch.log(index as usize, Some(log).filter(|log| flags == 1 && *log != used));
+            self.watch
+                .log(index as usize, Some(log).filter(|log| flags == 1 && *log != used));
         }
         self.hear(&message);
         // None is taken while one is under way.
