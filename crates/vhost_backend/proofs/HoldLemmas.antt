@@ -272,7 +272,7 @@ module _ (r : RingState) (idle : is_idle r ≡ true) where
   step_calm t i Emptied none may = (refl, idle)
   step_calm t i (Ended id end) none may = end_calm id (request_at r id) end (idle_at r id idle)
 
-all_idle_at : (rings : List RingState) (i : ℕ) (r : RingState) → all_idle rings ≡ true → slice_get rings i ≡ Some r
+pub all_idle_at : (rings : List RingState) (i : ℕ) (r : RingState) → all_idle rings ≡ true → slice_get rings i ≡ Some r
     → is_idle r ≡ true
 all_idle_at [] i r all there = absurd (cc)
 all_idle_at (q ∷ rings) zero r all there = let same : q ≡ r = cc in

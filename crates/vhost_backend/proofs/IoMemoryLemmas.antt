@@ -5,7 +5,7 @@ use Rattle.vm_memory_guest.specs.Mmap.{PlacedBlock, mmap_region}
 use Rattle.vm_memory_guest.specs.Region.{region_names}
 use Rattle.vm_memory_device.specs.Iommu.{Behind, behind}
 use Rattle.vhost_backend.specs.BlockTable.{can_ask}
-use Rattle.vhost_backend.specs.ConnectionMemory.{IsHeldBy, IsIoMemory, MemoryState, marks_nothing, memory_of, memory_step, way_of}
+use Rattle.vhost_backend.specs.ConnectionMemory.{IsHeldBy, IsIoMemory, MemoryState, marks_nothing, memory_of, memory_step, table_step, way_of}
 use Rattle.vhost_backend.specs.RingMemory.{HoldsAll, Logs, MemoryStep, Returned}
 use Rattle.vhost_backend.specs.declared.block_backend.BlockBackend.{BlockBackend}
 use Rattle.vhost_backend.specs.declared.ring_memory.Logged.{Logged}
@@ -46,6 +46,19 @@ module _ (P : (Logged (Unit {0}) → (s : MemoryStep) → Returned s → Logged 
       subst (IsIoMemory m.layout m.logged.host m.is_behind) is io in
       let yes : m.is_joined ≡ true = joined ∙ ap is_some is in
       rw (yes, on) (rw (there.0, on) at p)
+
+  -- also if no ring lies behind it by now
+  pub joined_steps : (b : Behind (List PlacedBlock) ℕ) → IsIoMemory m.layout m.logged.host m.is_behind o → o ≡ Some b
+      → P (Logs marks_nothing (behind (map mmap_region b.backend) b.iommu b.space b.on) (memory_of m)
+      (Some (record { 0 = 0 }))) → P (table_step m)
+  joined_steps b io is p =
+      let there : IsIoMemory m.layout m.logged.host m.is_behind (Some b) =
+      subst (IsIoMemory m.layout m.logged.host m.is_behind) is io in
+      let yes : m.is_joined ≡ true = joined ∙ ap is_some is in
+      rw yes (rw there.0 at p)
+
+  pub unjoined_steps : o ≡ None → P (Logs marks_nothing (memory_of m) (memory_of m) None) → P (table_step m)
+  unjoined_steps is p = let no : m.is_joined ≡ false = joined ∙ ap is_some is in rw no p
 
   pub plain_steps : (is_some o && m.is_behind) ≡ false → P (Logs marks_nothing (memory_of m) (memory_of m) None)
       → P (memory_step m)

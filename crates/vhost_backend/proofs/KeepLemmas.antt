@@ -57,21 +57,27 @@ use Rattle.vhost_backend.specs.declared.ring.RingEvent.TheVariants.{Emptied}
 use Rattle.vhost_backend.specs.declared.ring.actions.RingAction.{RingAction}
 use Rattle.vhost_backend.specs.declared.ring.actions.RingAction.TheVariants as action
 
+-- it changes no table
+abbrev pub IsPlain : MemoryStep → Type 0
+IsPlain (keeps k) = ⊥
+IsPlain (forgets k) = ⊥
+IsPlain _ = Unit {0}
+
 module _ {H : Type 0} (step : H → (s : MemoryStep) → Returned s → H → Type 0) (K : H → H → Type 0)
     (stays : (h : H) → K h h) (then : (a b c : H) → K a b → K b c → K a c)
-    (each : (old : H) (s : MemoryStep) (r : Returned s) (new : H) → step old s r new → K old new) where
+    (plain : (old : H) (s : MemoryStep) (r : Returned s) (new : H) → IsPlain s → step old s r new → K old new) where
   same : (old new : H) → new ≡ old → K old new
   same old new is = subst (K old) (sym is) (stays old)
 
   marks_keep : (ms : List Piece) (old new : H) → Marks step ms old new → K old new
   marks_keep [] old new is = same old new is
   marks_keep (m ∷ ms) old new (mid, first, rest) =
-      then old mid new (each old (marks m.base m.offset m.len) tt mid first) (marks_keep ms mid new rest)
+      then old mid new (plain old (marks m.base m.offset m.len) tt mid tt first) (marks_keep ms mid new rest)
 
   ring_keeps : (ms : List Piece) (old new : H) → MarksRing step ms old new → K old new
   ring_keeps [] old new is = same old new is
   ring_keeps (m ∷ ms) old new (mid, first, rest) =
-      then old mid new (each old (marks_ring m.base m.offset m.len) tt mid first) (ring_keeps ms mid new rest)
+      then old mid new (plain old (marks_ring m.base m.offset m.len) tt mid tt first) (ring_keeps ms mid new rest)
 
   -- ---- one of the queues
 
@@ -103,13 +109,13 @@ module _ {H : Type 0} (step : H → (s : MemoryStep) → Returned s → H → Ty
           (λ len. (r ≡ finished.Done (len_left asked len)) × (q' ≡ q) × Marks step (chain_marks asked.chain) mid new)
           (λ e. (r ≡ finished.Forgotten) × (q' ≡ with_asked q chain.id None) × (new ≡ mid))) → K old new
       go None p = same old new p.2
-      go (Some asked) (w, mid, first, rest) = then old mid new (each old (finishes asked.chain
-          (status_of asked.request failed) (written_of asked.request moved)) w mid first) (after asked mid w rest)
+      go (Some asked) (w, mid, first, rest) = then old mid new (plain old (finishes asked.chain
+          (status_of asked.request failed) (written_of asked.request moved)) w mid tt first) (after asked mid w rest)
 
   gives_keep : (chain : Chain) (len : ℕ) (old new : H) (q : BlockQueueState) (r : Reached) (q' : BlockQueueState)
       → queues.Gives step chain len old new q r q' → K old new
   gives_keep chain len old new q r q' (a, ((e, stored, first, rest, made, after), asked), is) =
-      then old stored new (each old (adds_used q.queue (buffer_by chain) len) e stored first)
+      then old stored new (plain old (adds_used q.queue (buffer_by chain) len) e stored tt first)
       (ring_keeps (return_marks q.queue q.reach.log) stored new rest)
 
   back_keeps : (w : BlockBackend) (t : Returning) (old : H) (w' : BlockBackend) (new : H)
@@ -129,7 +135,7 @@ module _ {H : Type 0} (step : H → (s : MemoryStep) → Returned s → H → Ty
       (λ q q' p. request_keeps chain moved failed old new q r q' p) ends
   acts_keep w ring action.Notify old m w' new (r, qs, asks, is, made) =
       queue_keeps w.queues ring (Ok false) old r qs new (queues.Asks step old new)
-      (λ q q' p. each old (needs q.queue) r new p.0) asks
+      (λ q q' p. plain old (needs q.queue) r new tt p.0) asks
   acts_keep w ring action.Broke old m w' new p = same old new p.2
   acts_keep w ring action.Stopped old m w' new p = same old new p.2
 
@@ -163,13 +169,13 @@ module _ {H : Type 0} (step : H → (s : MemoryStep) → Returned s → H → Ty
       go : (v : Bool) → MatchBool v ((r : Result Request GuestMemoryError) × step old (begins terms chain) r new
           × ((a, q') ≡ begun back q buffer chain r)) ((a ≡ popped buffer (Refused 1)) × (q' ≡ q) × (new ≡ old))
           → K old new
-      go true (r, first, is) = each old (begins terms chain) r new first
+      go true (r, first, is) = plain old (begins terms chain) r new tt first
       go false p = same old new p.2
 
   pops_keep : (terms : DeviceLimits) (q : BlockQueueState) (old : H) (a : Pop) (q' : BlockQueueState) (new : H)
       → Pops step terms q old a q' new → K old new
   pops_keep terms q old a q' new (r, mid, first, rest) =
-      then old mid new (each old (pops q.queue) r mid first) (go r rest)
+      then old mid new (plain old (pops q.queue) r mid tt first) (go r rest)
     where
       go : (r : Result (Option (PackedBuffer × List Segment)) QueueError) → PopsBy step terms q r mid a q' new → K mid new
       go (Ok (Some p)) is = begins_keep terms q.queue (with_queue q (past q.queue p.0)) p.0 p.1 mid a q' new is
@@ -177,7 +183,7 @@ module _ {H : Type 0} (step : H → (s : MemoryStep) → Returned s → H → Ty
       go (Err e) is = same mid new is.2
 
   asks_keep : (q : BlockQueueState) (old : H) (r : Result Bool QueueError) (new : H) → Asks step q old r new → K old new
-  asks_keep q old r new (asked, first, rest) = then old asked new (each old (enables q.queue) r asked first)
+  asks_keep q old r new (asked, first, rest) = then old asked new (plain old (enables q.queue) r asked tt first)
       (ring_keeps (asking_marks q.queue q.reach.log) asked new rest)
 
   waits_keep : (terms : DeviceLimits) (q : BlockQueueState) (old : H) (a : Option RingEvent) (q' : BlockQueueState)
@@ -202,11 +208,11 @@ module _ {H : Type 0} (step : H → (s : MemoryStep) → Returned s → H → Ty
 
   reads_keep : (q : BlockQueueState) (v : Bool) (u : AnyQueue) (old : H) (r : Result (Unit {0}) QueueError)
       (q' : BlockQueueState) (new : H) → ReadsBy step q v u old r q' new → K old new
-  reads_keep q true (Split u) old r q' new (next, first, is) = each old (reads_used u) next new first
+  reads_keep q true (Split u) old r q' new (next, first, is) = plain old (reads_used u) next new tt first
   reads_keep q true (Packed u) old r q' new p = same old new p.2
   reads_keep q false u old r q' new p = same old new p.2
 
-  next_keeps : (terms : DeviceLimits) (q : BlockQueueState) (old : H) (a : Option RingEvent) (q' : BlockQueueState)
+  pub next_keeps : (terms : DeviceLimits) (q : BlockQueueState) (old : H) (a : Option RingEvent) (q' : BlockQueueState)
       (new : H) → HappensNext step terms q old a q' new → K old new
   next_keeps terms q old a q' new (read, mid_q, mid, first, rest) =
       then old mid new (reads_keep q q.is_unread q.queue old read mid_q mid first) (go read rest)
@@ -217,241 +223,244 @@ module _ {H : Type 0} (step : H → (s : MemoryStep) → Returned s → H → Ty
 
   -- ---- turns of a ring whose addresses a table translates
 
-  all_kept : (ks : List Kept) (old : H) (r : Result (Unit {0}) AllocError) (new : H) → KeepsAll step ks old r new → K old new
-  all_kept [] old r new p = same old new p.1
-  all_kept (k ∷ ks) old r new (one, mid, first, rest) = then old mid new (each old (keeps k) one mid first)
-      (go one (λ p. all_kept ks mid r new p) rest)
+  module _ (kept : (old : H) (k : Kept) (r : Result (Unit {0}) AllocError) (new : H) → step old (keeps k) r new → K old new)
+      (forgot : (old : H) (k : Kept) (r : Result (Unit {0}) AllocError) (new : H) → step old (forgets k) r new → K old new)
     where
-      go : (o : Result (Unit {0}) AllocError) → (KeepsAll step ks mid r new → K mid new)
-          → MatchResult o (λ done. KeepsAll step ks mid r new) (λ e. (r ≡ Err e) × (new ≡ mid)) → K mid new
-      go (Ok done) on p = on p
-      go (Err e) on p = same mid new p.1
-
-  all_forgotten : (ks : List Kept) (old : H) (r : Result (Unit {0}) AllocError) (new : H) → ForgetsAll step ks old r new
-      → K old new
-  all_forgotten [] old r new p = same old new p.1
-  all_forgotten (k ∷ ks) old r new (one, mid, first, rest) =
-      then old mid new (each old (forgets k) one mid first) (go one (λ p. all_forgotten ks mid r new p) rest)
-    where
-      go : (o : Result (Unit {0}) AllocError) → (ForgetsAll step ks mid r new → K mid new)
-          → MatchResult o (λ done. ForgetsAll step ks mid r new) (λ e. (r ≡ Err e) × (new ≡ mid)) → K mid new
-      go (Ok done) on p = on p
-      go (Err e) on p = same mid new p.1
-
-  both_forgotten : (l : ReachState) (old : H) (r : Result (Unit {0}) AllocError) (new : H) → ForgetsBoth step l old r new
-      → K old new
-  both_forgotten l old r new (one, mid, first, rest) =
-      then old mid new (all_forgotten l.pages old one mid first) (go one rest)
-    where
-      go : (o : Result (Unit {0}) AllocError)
-          → MatchResult o (λ done. ForgetsAll step l.rows mid r new) (λ e. (r ≡ Err e) × (new ≡ mid)) → K mid new
-      go (Ok done) p = all_forgotten l.rows mid r new p
-      go (Err e) p = same mid new p.1
-
-  rows_keep : (q : BlockQueueState) (kept : List Kept) (old : H) (a : Option RingEvent) (q' : BlockQueueState) (new : H)
-      → KeepsRows step q kept old a q' new → K old new
-  rows_keep q kept old a q' new (Ok done, becomes, (r, them, is)) = all_kept kept old r new them
-  rows_keep q kept old a q' new (Err e, becomes, p) = same old new p.1
-
-  fetched_begins : (terms : DeviceLimits) (q : BlockQueueState) (o : Origin) (chain : List Segment) (kept : List Kept)
-      (old : H) (a : Option RingEvent) (q' : BlockQueueState) (new : H)
-      → BeginsFetched step terms q o chain kept old a q' new → K old new
-  fetched_begins terms q o chain kept old a q' new = go (has_place q o.buffer.id)
-    where
-      go : (v : Bool) → MatchBool v
-          ((r : Result Request GuestMemoryError) × step old (begins (open_terms terms) chain) r new
-          × ((a, q') ≡ begun_behind q o chain kept r))
-          ((a ≡ event_of (popped o.buffer (Refused 1))) × (q' ≡ past_found q o) × (new ≡ old)) → K old new
-      go true (r, first, is) = each old (begins (open_terms terms) chain) r new first
-      go false p = same old new p.2
-
-  fetched_keeps : (terms : DeviceLimits) (q : BlockQueueState) (o : Origin) (kept : List Kept) (old : H)
-      (a : Option RingEvent) (q' : BlockQueueState) (new : H) → TakesFetched step terms q o kept old a q' new → K old new
-  fetched_keeps terms q o kept old a q' new (Ok done, p) =
-      fetched_begins terms q o (or_empty (guest_chain kept)) kept old a q' new p
-  fetched_keeps terms q o kept old a q' new (Err e, p) = same old new p.2
-
-  uses_keep : (terms : DeviceLimits) (q : BlockQueueState) (g : Goal) (kept : List Kept) (old : H) (a : Option RingEvent)
-      (q' : BlockQueueState) (new : H) → Uses step terms q g kept old a q' new → K old new
-  uses_keep terms q goal.Ring kept old a q' new (r, them, is, becomes) = all_kept kept old r new them
-  uses_keep terms q goal.Rows kept old a q' new p = rows_keep q kept old a q' new p
-  uses_keep terms q (goal.Chain found) kept old a q' new p =
-      fetched_keeps terms q (origin_of found false) kept old a q' new p
-  uses_keep terms q (goal.Status found) kept old a q' new p =
-      fetched_keeps terms q (origin_of found (has_gap found.chain)) kept old a q' new p
-
-  gives_up_keeps : (terms : DeviceLimits) (q : BlockQueueState) (g : Goal) (old : H) (a : Option RingEvent)
-      (q' : BlockQueueState) (new : H) → GivesUp step terms q g old a q' new → K old new
-  gives_up_keeps terms q goal.Ring old a q' new p = same old new p.2
-  gives_up_keeps terms q goal.Rows old a q' new p = same old new p.2
-  gives_up_keeps terms q (goal.Chain found) old a q' new (r, is, becomes, still) = same old new still
-  gives_up_keeps terms q (goal.Status found) old a q' new p =
-      fetched_keeps terms q (origin_of found false) [] old a q' new p
-
-  module _ (f : Says) (can_ask : Bool) (terms : DeviceLimits) where
-    looked_keeps : (q : BlockQueueState) (g : FetchState) (s : State) (old : H) (a : Option RingEvent)
-        (q' : BlockQueueState) (new : H) → AfterLookUp step can_ask terms q g s old a q' new → K old new
-    looked_keeps q g state.Begun old a q' new p = same old new p.2
-    looked_keeps q g (state.Waits iova access) old a q' new p = go can_ask p
-      where
-        go : (v : Bool) → MatchBool v ((a ≡ Some Emptied) × (q' ≡ with_fetch q (Some g)) × (new ≡ old))
-            (GivesUp step terms q g.goal old a q' new) → K old new
-        go true p = same old new p.2
-        go false p = gives_up_keeps terms q g.goal old a q' new p
-    looked_keeps q g state.Stops old a q' new p = gives_up_keeps terms q g.goal old a q' new p
-    looked_keeps q g state.Whole old a q' new p = uses_keep terms q g.goal g.kept old a q' new p
-
-    chain_keeps : (q : BlockQueueState) (found : Found) (old : H) (a : Option RingEvent) (q' : BlockQueueState) (new : H)
-        → FetchesChain step terms q found old a q' new → K old new
-    chain_keeps q found old a q' new (one, them, rest) = all_forgotten q.reach.rows old one new them
-
-    look_keeps : (q : BlockQueueState) (r : Result (Option Found) QueueError) (old : H) (a : Option RingEvent)
-        (q' : BlockQueueState) (new : H) → AfterLook step terms q r old a q' new → K old new
-    look_keeps q (Ok (Some found)) old a q' new p = chain_keeps q found old a q' new p
-    look_keeps q (Ok None) old a q' new p = same old new p.2
-    look_keeps q (Err e) old a q' new p = same old new p.1
-
-    find_keeps : (u : AnyQueue) (old : H) (r : Result (Option Found) QueueError) (new : H) → Finds step u old r new
-        → K old new
-    find_keeps u old r new (p, first, is) = each old (pops u) p new first
-
-    wait_behind_keeps : (q : BlockQueueState) (old : H) (a : Option RingEvent) (q' : BlockQueueState) (new : H)
-        → WaitsBehind step terms q old a q' new → K old new
-    wait_behind_keeps q old a q' new (r, mid, asks, after) = then old mid new (asks_keep q old r mid asks) (go r after)
-      where
-        go : (r : Result Bool QueueError) → AfterAskBehind step terms q r mid a q' new → K mid new
-        go (Ok true) (r, found, finds, after) =
-            then mid found new (find_keeps q.queue mid r found finds) (look_keeps q r found a q' new after)
-        go (Ok false) p = same mid new p.2
-        go (Err e) p = same mid new p.2
-
-    finds_keep : (q : BlockQueueState) (old : H) (a : Option RingEvent) (q' : BlockQueueState) (new : H)
-        → FindsNext step terms q old a q' new → K old new
-    finds_keep q old a q' new (r, mid, finds, after) =
-        then old mid new (find_keeps q.queue old r mid finds) (go r after)
-      where
-        go : (r : Result (Option Found) QueueError) → AfterFind step terms q r mid a q' new → K mid new
-        go (Ok (Some found)) p = chain_keeps q found mid a q' new p
-        go (Ok None) p = wait_behind_keeps q mid a q' new p
-        go (Err e) p = same mid new p.1
-
-    fetches_next_keep : (q : BlockQueueState) (old : H) (a : Option RingEvent) (q' : BlockQueueState) (new : H)
-        → FetchesNext step terms q old a q' new → K old new
-    fetches_next_keep q old a q' new = go q.reach.is_reached
-      where
-        reads : (v : Bool) → MatchBool v (ReadsBehind step q old a q' new)
-            (FindsNext step terms q old a q' new) → K old new
-        reads true (r, done, is) = reads_keep q q.is_unread q.queue old r q' new done
-        reads false p = finds_keep q old a q' new p
-
-        go : (v : Bool) → MatchBool v (MatchBool q.is_unread (ReadsBehind step q old a q' new)
-            (FindsNext step terms q old a q' new)) (ReachesRing step q old a q' new) → K old new
-        go true p = reads q.is_unread p
-        go false (one, them, rest) = both_forgotten q.reach old one new them
-
-    behind_keeps : (q : BlockQueueState) (old : H) (a : Option RingEvent) (q' : BlockQueueState) (new : H)
-        → HappensBehind step f can_ask terms q old a q' new → K old new
-    behind_keeps q old a q' new = go q.reach.fetch
-      where
-        go : (o : Option FetchState) → MatchOption o (FetchesNext step terms q old a q' new)
-            (λ g. Fetches step f can_ask terms (with_fetch q None) g old a q' new) → K old new
-        go None p = fetches_next_keep q old a q' new p
-        go (Some g) (g', looks, after) = looked_keeps (with_fetch q None) g' g'.state old a q' new after
-
-  -- ---- changes of the table
-
-  reach_changes_keep : (c : Change) (l : ReachState) (old : H) (done : Result Bool AllocError) (l' : ReachState) (new : H)
-      → Changes step c l old done l' new → K old new
-  reach_changes_keep c l old done l' new = go (list_any (differs c) l.pages)
-    where
-      others : (v : Bool) → MatchBool v
-          ((one : Result (Unit {0}) AllocError) × ForgetsAll step l.rows old one new
-          × (done ≡ changed_by (is_some l.fetch) one) × (l' ≡ rows_forgotten (record l { fetch = None }) one))
-          ((done ≡ Ok (is_dropped c l.fetch)) × (l' ≡ record l { fetch = after_drop c l.fetch }) × (new ≡ old)) → K old new
-      others true (one, them, is, becomes) = all_forgotten l.rows old one new them
-      others false p = same old new p.2
-
-      go : (v : Bool) → MatchBool v
-          ((one : Result (Unit {0}) AllocError) × ForgetsBoth step l old one new
-          × (done ≡ changed_by (is_some l.fetch) one) × (l' ≡ forgotten (dropped l) one))
-          (ChangesOthers step c l old done l' new) → K old new
-      go true (one, them, is, becomes) = both_forgotten l old one new them
-      go false p = others (list_any (differs c) l.rows) p
-
-  changes_at_keep : (c : Change) (n : ℕ) (qs : List BlockQueueState) (ks : List Bool) (old : H)
-      (done : Result (Unit {0}) AllocError) (qs' : List BlockQueueState) (ks' : List Bool) (new : H)
-      → ChangesAt step c n qs ks old done qs' ks' new → K old new
-  changes_at_keep c n qs ks old (Ok done) qs' ks' new = go (slice_get qs n)
-    where
-      go : (o : Option BlockQueueState) → MatchOption o ((qs' ≡ qs) × (ks' ≡ ks) × (new ≡ old))
-          (λ q. (had : Bool) × (r : ReachState) × Changes step c q.reach old (Ok had) r new
-          × (qs' ≡ slice_set qs n (with_reach q r)) × (ks' ≡ kicked_if had ks n)) → K old new
-      go None p = same old new p.2
-      go (Some q) (had, r, changes, is, becomes) = reach_changes_keep c q.reach old (Ok had) r new changes
-  changes_at_keep c n qs ks old (Err e) qs' ks' new = go (slice_get qs n)
-    where
-      go : (o : Option BlockQueueState) → IsSomeAnd o (λ q. (r : ReachState)
-          × Changes step c q.reach old (Err e) r new × (qs' ≡ slice_set qs n (with_reach q r)) × (ks' ≡ ks)) → K old new
-      go None p = absurd p
-      go (Some q) (r, changes, is, becomes) = reach_changes_keep c q.reach old (Err e) r new changes
-
-  changes_to_keep : (c : Change) (n : ℕ) (qs : List BlockQueueState) (ks : List Bool) (old : H)
-      (qs' : List BlockQueueState) (ks' : List Bool) (new : H) → ChangesTo step c n qs ks old qs' ks' new → K old new
-  changes_to_keep c zero qs ks old qs' ks' new p = same old new p.2
-  changes_to_keep c (suc n) qs ks old qs' ks' new (mid, mid_kicks, between, first, rest) =
-      then old between new (changes_to_keep c n qs ks old mid mid_kicks between first)
-      (changes_at_keep c n mid mid_kicks between (Ok tt) qs' ks' new rest)
-
-  changes_all_keep : (c : Change) (qs : List BlockQueueState) (ks : List Bool) (old : H)
-      (done : Result (Unit {0}) AllocError) (qs' : List BlockQueueState) (ks' : List Bool) (new : H)
-      → ChangesAll step c qs ks old done qs' ks' new → K old new
-  changes_all_keep c qs ks old (Ok done) qs' ks' new p = changes_to_keep c (length qs) qs ks old qs' ks' new p
-  changes_all_keep c qs ks old (Err e) qs' ks' new (n, mid, mid_kicks, between, first, rest) =
-      then old between new (changes_to_keep c n qs ks old mid mid_kicks between first)
-      (changes_at_keep c n mid mid_kicks between (Err e) qs' ks' new rest)
-
-  pub changes_table_keep : (w : BlockBackend) (t : Table) (old : H) (is : Bool) (w' : BlockBackend) (t' : Table) (new : H)
-      → ChangesTable step w t old is w' t' new → K old new
-  changes_table_keep w t old is w' t' new = by w.change
-    where
-      by : (o : Option Change) → ChangesBy step o w t old is w' t' new → K old new
-      by None p = same old new p.3
-      by (Some c) p = go (in_use c w.queues) p
+      all_kept : (ks : List Kept) (old : H) (r : Result (Unit {0}) AllocError) (new : H) → KeepsAll step ks old r new → K old new
+      all_kept [] old r new p = same old new p.1
+      all_kept (k ∷ ks) old r new (one, mid, first, rest) = then old mid new (kept old k one mid first)
+          (go one (λ p. all_kept ks mid r new p) rest)
         where
-          go : (v : Bool) → MatchBool v ((is ≡ false) × (w' ≡ w) × (t' ≡ t) × (new ≡ old))
-              ((done : Result (Unit {0}) AllocError) × (qs : List BlockQueueState) × (ks : List Bool)
-              × ChangesAll step c w.queues w.kicks old done qs ks new
-              × MatchResult done (λ it. AfterChange c (record w { queues = qs; kicks = ks }) t is w' t')
-              (λ e. (is ≡ false) × (w' ≡ record w { queues = qs; kicks = ks }) × (t' ≡ t))) → K old new
-          go true p = same old new p.3
-          go false (done, qs, ks, all, rest) = changes_all_keep c w.queues w.kicks old done qs ks new all
+          go : (o : Result (Unit {0}) AllocError) → (KeepsAll step ks mid r new → K mid new)
+              → MatchResult o (λ done. KeepsAll step ks mid r new) (λ e. (r ≡ Err e) × (new ≡ mid)) → K mid new
+          go (Ok done) on p = on p
+          go (Err e) on p = same mid new p.1
 
-  -- ---- turns, by what translates the addresses of rings
+      all_forgotten : (ks : List Kept) (old : H) (r : Result (Unit {0}) AllocError) (new : H) → ForgetsAll step ks old r new
+          → K old new
+      all_forgotten [] old r new p = same old new p.1
+      all_forgotten (k ∷ ks) old r new (one, mid, first, rest) =
+          then old mid new (forgot old k one mid first) (go one (λ p. all_forgotten ks mid r new p) rest)
+        where
+          go : (o : Result (Unit {0}) AllocError) → (ForgetsAll step ks mid r new → K mid new)
+              → MatchResult o (λ done. ForgetsAll step ks mid r new) (λ e. (r ≡ Err e) × (new ≡ mid)) → K mid new
+          go (Ok done) on p = on p
+          go (Err e) on p = same mid new p.1
 
-  by_keeps : (way : Option Sight) (terms : DeviceLimits) (q : BlockQueueState) (old : H) (a : Option RingEvent)
-      (q' : BlockQueueState) (new : H) → HappensBy step way terms q old a q' new → K old new
-  by_keeps None terms q old a q' new p = next_keeps terms q old a q' new p
-  by_keeps (Some way) terms q old a q' new p = behind_keeps (says way.table) way.can_ask terms q old a q' new p
+      both_forgotten : (l : ReachState) (old : H) (r : Result (Unit {0}) AllocError) (new : H) → ForgetsBoth step l old r new
+          → K old new
+      both_forgotten l old r new (one, mid, first, rest) =
+          then old mid new (all_forgotten l.pages old one mid first) (go one rest)
+        where
+          go : (o : Result (Unit {0}) AllocError)
+              → MatchResult o (λ done. ForgetsAll step l.rows mid r new) (λ e. (r ≡ Err e) × (new ≡ mid)) → K mid new
+          go (Ok done) p = all_forgotten l.rows mid r new p
+          go (Err e) p = same mid new p.1
 
-  turn_keeps : (way : Option Sight) (w : BlockBackend) (b : BackendState) (old new : H) (q : BlockQueueState) (r : Option Todo)
-      (q' : BlockQueueState) → queues.Turns step way (terms_of w) w.turn w.backend b old new q r q' → K old new
-  turn_keeps way w b old new q r q' = go (may_pop w.backend.rings w.turn)
-    where
-      go : (v : Bool) → MatchBool v
-          ((e : Option RingEvent) × HappensBy step way (terms_of w) q old e q' new × ((b, r) ≡ turn.told w.backend w.turn e))
-          ((r ≡ None) × (b ≡ w.backend) × (q' ≡ q) × (new ≡ old)) → K old new
-      go true (e, next, is) = by_keeps way (terms_of w) q old e q' new next
-      go false p = same old new p.3
+      rows_keep : (q : BlockQueueState) (kept : List Kept) (old : H) (a : Option RingEvent) (q' : BlockQueueState) (new : H)
+          → KeepsRows step q kept old a q' new → K old new
+      rows_keep q kept old a q' new (Ok done, becomes, (r, them, is)) = all_kept kept old r new them
+      rows_keep q kept old a q' new (Err e, becomes, p) = same old new p.1
 
-  takes_keep : (way : Option Sight) (w : BlockBackend) (old : H) (is : Bool) (w' : BlockBackend) (new : H)
-      → TakesTurn step way w old is w' new
-      → K old new
-  takes_keep way w old is w' new (r, b, qs, with, none, was, becomes) =
-      queue_keeps w.queues w.turn None old r qs new (queues.Turns step way (terms_of w) w.turn w.backend b old new)
-      (λ q q' p. turn_keeps way w b old new q r q' p) with
+      fetched_begins : (terms : DeviceLimits) (q : BlockQueueState) (o : Origin) (chain : List Segment) (kept : List Kept)
+          (old : H) (a : Option RingEvent) (q' : BlockQueueState) (new : H)
+          → BeginsFetched step terms q o chain kept old a q' new → K old new
+      fetched_begins terms q o chain kept old a q' new = go (has_place q o.buffer.id)
+        where
+          go : (v : Bool) → MatchBool v
+              ((r : Result Request GuestMemoryError) × step old (begins (open_terms terms) chain) r new
+              × ((a, q') ≡ begun_behind q o chain kept r))
+              ((a ≡ event_of (popped o.buffer (Refused 1))) × (q' ≡ past_found q o) × (new ≡ old)) → K old new
+          go true (r, first, is) = plain old (begins (open_terms terms) chain) r new tt first
+          go false p = same old new p.2
 
-  pub looks_keep : (way : Option Sight) (w : BlockBackend) (old : H) (is : Bool) (w' : BlockBackend) (new : H)
-      → Looks step way w old is w' new
-      → K old new
-  looks_keep way w old is w' new (None, kicks, takes, turns) = takes_keep way (record w { kicks = kicks }) old is w' new turns
-  looks_keep way w old is w' new (Some ring, kicks, takes, (was, becomes, is_same)) = same old new is_same
+      fetched_keeps : (terms : DeviceLimits) (q : BlockQueueState) (o : Origin) (kept : List Kept) (old : H)
+          (a : Option RingEvent) (q' : BlockQueueState) (new : H) → TakesFetched step terms q o kept old a q' new → K old new
+      fetched_keeps terms q o kept old a q' new (Ok done, p) =
+          fetched_begins terms q o (or_empty (guest_chain kept)) kept old a q' new p
+      fetched_keeps terms q o kept old a q' new (Err e, p) = same old new p.2
+
+      uses_keep : (terms : DeviceLimits) (q : BlockQueueState) (g : Goal) (kept : List Kept) (old : H) (a : Option RingEvent)
+          (q' : BlockQueueState) (new : H) → Uses step terms q g kept old a q' new → K old new
+      uses_keep terms q goal.Ring kept old a q' new (r, them, is, becomes) = all_kept kept old r new them
+      uses_keep terms q goal.Rows kept old a q' new p = rows_keep q kept old a q' new p
+      uses_keep terms q (goal.Chain found) kept old a q' new p =
+          fetched_keeps terms q (origin_of found false) kept old a q' new p
+      uses_keep terms q (goal.Status found) kept old a q' new p =
+          fetched_keeps terms q (origin_of found (has_gap found.chain)) kept old a q' new p
+
+      gives_up_keeps : (terms : DeviceLimits) (q : BlockQueueState) (g : Goal) (old : H) (a : Option RingEvent)
+          (q' : BlockQueueState) (new : H) → GivesUp step terms q g old a q' new → K old new
+      gives_up_keeps terms q goal.Ring old a q' new p = same old new p.2
+      gives_up_keeps terms q goal.Rows old a q' new p = same old new p.2
+      gives_up_keeps terms q (goal.Chain found) old a q' new (r, is, becomes, still) = same old new still
+      gives_up_keeps terms q (goal.Status found) old a q' new p =
+          fetched_keeps terms q (origin_of found false) [] old a q' new p
+
+      module _ (f : Says) (can_ask : Bool) (terms : DeviceLimits) where
+        looked_keeps : (q : BlockQueueState) (g : FetchState) (s : State) (old : H) (a : Option RingEvent)
+            (q' : BlockQueueState) (new : H) → AfterLookUp step can_ask terms q g s old a q' new → K old new
+        looked_keeps q g state.Begun old a q' new p = same old new p.2
+        looked_keeps q g (state.Waits iova access) old a q' new p = go can_ask p
+          where
+            go : (v : Bool) → MatchBool v ((a ≡ Some Emptied) × (q' ≡ with_fetch q (Some g)) × (new ≡ old))
+                (GivesUp step terms q g.goal old a q' new) → K old new
+            go true p = same old new p.2
+            go false p = gives_up_keeps terms q g.goal old a q' new p
+        looked_keeps q g state.Stops old a q' new p = gives_up_keeps terms q g.goal old a q' new p
+        looked_keeps q g state.Whole old a q' new p = uses_keep terms q g.goal g.kept old a q' new p
+
+        chain_keeps : (q : BlockQueueState) (found : Found) (old : H) (a : Option RingEvent) (q' : BlockQueueState) (new : H)
+            → FetchesChain step terms q found old a q' new → K old new
+        chain_keeps q found old a q' new (one, them, rest) = all_forgotten q.reach.rows old one new them
+
+        look_keeps : (q : BlockQueueState) (r : Result (Option Found) QueueError) (old : H) (a : Option RingEvent)
+            (q' : BlockQueueState) (new : H) → AfterLook step terms q r old a q' new → K old new
+        look_keeps q (Ok (Some found)) old a q' new p = chain_keeps q found old a q' new p
+        look_keeps q (Ok None) old a q' new p = same old new p.2
+        look_keeps q (Err e) old a q' new p = same old new p.1
+
+        find_keeps : (u : AnyQueue) (old : H) (r : Result (Option Found) QueueError) (new : H) → Finds step u old r new
+            → K old new
+        find_keeps u old r new (p, first, is) = plain old (pops u) p new tt first
+
+        wait_behind_keeps : (q : BlockQueueState) (old : H) (a : Option RingEvent) (q' : BlockQueueState) (new : H)
+            → WaitsBehind step terms q old a q' new → K old new
+        wait_behind_keeps q old a q' new (r, mid, asks, after) = then old mid new (asks_keep q old r mid asks) (go r after)
+          where
+            go : (r : Result Bool QueueError) → AfterAskBehind step terms q r mid a q' new → K mid new
+            go (Ok true) (r, found, finds, after) =
+                then mid found new (find_keeps q.queue mid r found finds) (look_keeps q r found a q' new after)
+            go (Ok false) p = same mid new p.2
+            go (Err e) p = same mid new p.2
+
+        finds_keep : (q : BlockQueueState) (old : H) (a : Option RingEvent) (q' : BlockQueueState) (new : H)
+            → FindsNext step terms q old a q' new → K old new
+        finds_keep q old a q' new (r, mid, finds, after) =
+            then old mid new (find_keeps q.queue old r mid finds) (go r after)
+          where
+            go : (r : Result (Option Found) QueueError) → AfterFind step terms q r mid a q' new → K mid new
+            go (Ok (Some found)) p = chain_keeps q found mid a q' new p
+            go (Ok None) p = wait_behind_keeps q mid a q' new p
+            go (Err e) p = same mid new p.1
+
+        fetches_next_keep : (q : BlockQueueState) (old : H) (a : Option RingEvent) (q' : BlockQueueState) (new : H)
+            → FetchesNext step terms q old a q' new → K old new
+        fetches_next_keep q old a q' new = go q.reach.is_reached
+          where
+            reads : (v : Bool) → MatchBool v (ReadsBehind step q old a q' new)
+                (FindsNext step terms q old a q' new) → K old new
+            reads true (r, done, is) = reads_keep q q.is_unread q.queue old r q' new done
+            reads false p = finds_keep q old a q' new p
+
+            go : (v : Bool) → MatchBool v (MatchBool q.is_unread (ReadsBehind step q old a q' new)
+                (FindsNext step terms q old a q' new)) (ReachesRing step q old a q' new) → K old new
+            go true p = reads q.is_unread p
+            go false (one, them, rest) = both_forgotten q.reach old one new them
+
+        behind_keeps : (q : BlockQueueState) (old : H) (a : Option RingEvent) (q' : BlockQueueState) (new : H)
+            → HappensBehind step f can_ask terms q old a q' new → K old new
+        behind_keeps q old a q' new = go q.reach.fetch
+          where
+            go : (o : Option FetchState) → MatchOption o (FetchesNext step terms q old a q' new)
+                (λ g. Fetches step f can_ask terms (with_fetch q None) g old a q' new) → K old new
+            go None p = fetches_next_keep q old a q' new p
+            go (Some g) (g', looks, after) = looked_keeps (with_fetch q None) g' g'.state old a q' new after
+
+      -- ---- changes of the table
+
+      reach_changes_keep : (c : Change) (l : ReachState) (old : H) (done : Result Bool AllocError) (l' : ReachState) (new : H)
+          → Changes step c l old done l' new → K old new
+      reach_changes_keep c l old done l' new = go (list_any (differs c) l.pages)
+        where
+          others : (v : Bool) → MatchBool v
+              ((one : Result (Unit {0}) AllocError) × ForgetsAll step l.rows old one new
+              × (done ≡ changed_by (is_some l.fetch) one) × (l' ≡ rows_forgotten (record l { fetch = None }) one))
+              ((done ≡ Ok (is_dropped c l.fetch)) × (l' ≡ record l { fetch = after_drop c l.fetch }) × (new ≡ old)) → K old new
+          others true (one, them, is, becomes) = all_forgotten l.rows old one new them
+          others false p = same old new p.2
+
+          go : (v : Bool) → MatchBool v
+              ((one : Result (Unit {0}) AllocError) × ForgetsBoth step l old one new
+              × (done ≡ changed_by (is_some l.fetch) one) × (l' ≡ forgotten (dropped l) one))
+              (ChangesOthers step c l old done l' new) → K old new
+          go true (one, them, is, becomes) = both_forgotten l old one new them
+          go false p = others (list_any (differs c) l.rows) p
+
+      changes_at_keep : (c : Change) (n : ℕ) (qs : List BlockQueueState) (ks : List Bool) (old : H)
+          (done : Result (Unit {0}) AllocError) (qs' : List BlockQueueState) (ks' : List Bool) (new : H)
+          → ChangesAt step c n qs ks old done qs' ks' new → K old new
+      changes_at_keep c n qs ks old (Ok done) qs' ks' new = go (slice_get qs n)
+        where
+          go : (o : Option BlockQueueState) → MatchOption o ((qs' ≡ qs) × (ks' ≡ ks) × (new ≡ old))
+              (λ q. (had : Bool) × (r : ReachState) × Changes step c q.reach old (Ok had) r new
+              × (qs' ≡ slice_set qs n (with_reach q r)) × (ks' ≡ kicked_if had ks n)) → K old new
+          go None p = same old new p.2
+          go (Some q) (had, r, changes, is, becomes) = reach_changes_keep c q.reach old (Ok had) r new changes
+      changes_at_keep c n qs ks old (Err e) qs' ks' new = go (slice_get qs n)
+        where
+          go : (o : Option BlockQueueState) → IsSomeAnd o (λ q. (r : ReachState)
+              × Changes step c q.reach old (Err e) r new × (qs' ≡ slice_set qs n (with_reach q r)) × (ks' ≡ ks)) → K old new
+          go None p = absurd p
+          go (Some q) (r, changes, is, becomes) = reach_changes_keep c q.reach old (Err e) r new changes
+
+      changes_to_keep : (c : Change) (n : ℕ) (qs : List BlockQueueState) (ks : List Bool) (old : H)
+          (qs' : List BlockQueueState) (ks' : List Bool) (new : H) → ChangesTo step c n qs ks old qs' ks' new → K old new
+      changes_to_keep c zero qs ks old qs' ks' new p = same old new p.2
+      changes_to_keep c (suc n) qs ks old qs' ks' new (mid, mid_kicks, between, first, rest) =
+          then old between new (changes_to_keep c n qs ks old mid mid_kicks between first)
+          (changes_at_keep c n mid mid_kicks between (Ok tt) qs' ks' new rest)
+
+      changes_all_keep : (c : Change) (qs : List BlockQueueState) (ks : List Bool) (old : H)
+          (done : Result (Unit {0}) AllocError) (qs' : List BlockQueueState) (ks' : List Bool) (new : H)
+          → ChangesAll step c qs ks old done qs' ks' new → K old new
+      changes_all_keep c qs ks old (Ok done) qs' ks' new p = changes_to_keep c (length qs) qs ks old qs' ks' new p
+      changes_all_keep c qs ks old (Err e) qs' ks' new (n, mid, mid_kicks, between, first, rest) =
+          then old between new (changes_to_keep c n qs ks old mid mid_kicks between first)
+          (changes_at_keep c n mid mid_kicks between (Err e) qs' ks' new rest)
+
+      pub changes_table_keep : (w : BlockBackend) (t : Table) (old : H) (is : Bool) (w' : BlockBackend) (t' : Table) (new : H)
+          → ChangesTable step w t old is w' t' new → K old new
+      changes_table_keep w t old is w' t' new = by w.change
+        where
+          by : (o : Option Change) → ChangesBy step o w t old is w' t' new → K old new
+          by None p = same old new p.3
+          by (Some c) p = go (in_use c w.queues) p
+            where
+              go : (v : Bool) → MatchBool v ((is ≡ false) × (w' ≡ w) × (t' ≡ t) × (new ≡ old))
+                  ((done : Result (Unit {0}) AllocError) × (qs : List BlockQueueState) × (ks : List Bool)
+                  × ChangesAll step c w.queues w.kicks old done qs ks new
+                  × MatchResult done (λ it. AfterChange c (record w { queues = qs; kicks = ks }) t is w' t')
+                  (λ e. (is ≡ false) × (w' ≡ record w { queues = qs; kicks = ks }) × (t' ≡ t))) → K old new
+              go true p = same old new p.3
+              go false (done, qs, ks, all, rest) = changes_all_keep c w.queues w.kicks old done qs ks new all
+
+      -- ---- turns, by what translates the addresses of rings
+
+      by_keeps : (way : Option Sight) (terms : DeviceLimits) (q : BlockQueueState) (old : H) (a : Option RingEvent)
+          (q' : BlockQueueState) (new : H) → HappensBy step way terms q old a q' new → K old new
+      by_keeps None terms q old a q' new p = next_keeps terms q old a q' new p
+      by_keeps (Some way) terms q old a q' new p = behind_keeps (says way.table) way.can_ask terms q old a q' new p
+
+      turn_keeps : (way : Option Sight) (w : BlockBackend) (b : BackendState) (old new : H) (q : BlockQueueState) (r : Option Todo)
+          (q' : BlockQueueState) → queues.Turns step way (terms_of w) w.turn w.backend b old new q r q' → K old new
+      turn_keeps way w b old new q r q' = go (may_pop w.backend.rings w.turn)
+        where
+          go : (v : Bool) → MatchBool v
+              ((e : Option RingEvent) × HappensBy step way (terms_of w) q old e q' new × ((b, r) ≡ turn.told w.backend w.turn e))
+              ((r ≡ None) × (b ≡ w.backend) × (q' ≡ q) × (new ≡ old)) → K old new
+          go true (e, next, is) = by_keeps way (terms_of w) q old e q' new next
+          go false p = same old new p.3
+
+      takes_keep : (way : Option Sight) (w : BlockBackend) (old : H) (is : Bool) (w' : BlockBackend) (new : H)
+          → TakesTurn step way w old is w' new
+          → K old new
+      takes_keep way w old is w' new (r, b, qs, with, none, was, becomes) =
+          queue_keeps w.queues w.turn None old r qs new (queues.Turns step way (terms_of w) w.turn w.backend b old new)
+          (λ q q' p. turn_keeps way w b old new q r q' p) with
+
+      pub looks_keep : (way : Option Sight) (w : BlockBackend) (old : H) (is : Bool) (w' : BlockBackend) (new : H)
+          → Looks step way w old is w' new
+          → K old new
+      looks_keep way w old is w' new (None, kicks, takes, turns) = takes_keep way (record w { kicks = kicks }) old is w' new turns
+      looks_keep way w old is w' new (Some ring, kicks, takes, (was, becomes, is_same)) = same old new is_same

@@ -3,7 +3,7 @@ use Rattle.std.proofs.Common.{◌≡◌, ℕ, ◌^◌, nat_lt, Bool, true, false
 use Rattle.vhost_backend.specs.BlockBackend.{gone_on, answered}
 use Rattle.vhost_backend.specs.BlockConnection.{looked_after, with_backend}
 use Rattle.vhost_backend.specs.BlockTable.{memory_lost}
-use Rattle.vhost_backend.specs.ConnectionMemory.{emptied, memory_step, way_of}
+use Rattle.vhost_backend.specs.ConnectionMemory.{emptied, memory_step, table_step, way_of}
 use Rattle.vhost_backend.specs.Rings.{all_stopped}
 use Rattle.vhost_backend.specs.Run.{Applies, Course, EventBy, Fills, Follows, GivesBy, LooksBy, Move, MoveBy, Moves, Output, Rests, StepsTo, Stops, after_sent, after_stop, does, end_of, end_taken, gives_marks, gives_part, goes_on, looked, looks, loses, open_part, part_ended, takes_end, takes_turn}
 use Rattle.vhost_backend.specs.Whole.{Leads}
@@ -53,7 +53,7 @@ stop_leads c = go (all_stopped c.backend.backend.rings)
 apply_leads : (c c' : BlockConnection) → Applies c c' → Becomes c c'
 apply_leads c c' (n, w, t, logged, changes, evicts, is) =
     same c c' _ is (leads_on c.backend.backend w.backend (answered w (is_some n)).backend
-    (changes_lead (memory_step c.memory) c.backend c.memory.table c.memory.logged (is_some n) w t logged changes)
+    (changes_lead (table_step c.memory) c.backend c.memory.table c.memory.logged (is_some n) w t logged changes)
     (answered_leads w (is_some n)))
 
 follow_leads : (c c' : BlockConnection) (d : Deed) → Follows (after_sent d c) d c' → Becomes c c'

@@ -5,6 +5,15 @@ pub mod BackendLemmas
 pub mod BoundLemmas
 pub mod ChannelLemmas
 pub mod ConnectionLemmas
+pub mod CurrentCallLemmas
+pub mod CurrentChangeLemmas
+pub mod CurrentForgetLemmas
+pub mod CurrentGoneLemmas
+pub mod CurrentMemoryLemmas
+pub mod CurrentRunLemmas
+pub mod CurrentStageLemmas
+pub mod CurrentStepLemmas
+pub mod CurrentTurnLemmas
 pub mod EndLemmas
 pub mod FairLemmas
 pub mod FetchLemmas
@@ -47,6 +56,7 @@ pub mod SoundLemmas
 pub mod SoundRunLemmas
 pub mod SoundStepLemmas
 pub mod SoundTurnLemmas
+pub mod StandLemmas
 pub mod StageLemmas
 pub mod StepLemmas
 pub mod StopLemmas

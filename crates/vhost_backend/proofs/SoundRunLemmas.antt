@@ -5,7 +5,7 @@ use Rattle.vhost_user.specs.Log.{log_kept}
 use Rattle.vhost_backend.specs.BlockBackend.{gone_on, hung_up}
 use Rattle.vhost_backend.specs.BlockConnection.{as_negotiated, is_covered, looked_after, pages_in, with_backend}
 use Rattle.vhost_backend.specs.BlockTable.{memory_lost}
-use Rattle.vhost_backend.specs.ConnectionMemory.{emptied, memory_step, with_behind, with_pages, way_of}
+use Rattle.vhost_backend.specs.ConnectionMemory.{emptied, memory_step, table_step, with_behind, with_pages, way_of}
 use Rattle.vhost_backend.specs.Rings.{all_stopped}
 use Rattle.vhost_backend.specs.Run.{Applies, Course, EventBy, Fills, Follows, GivesBy, LooksBy, Move, MoveBy, Moves, Output, Rests, StepsTo, Stops, after_sent, after_stop, does, end_of, end_taken, gives_marks, gives_part, goes_on, looked, looks, loses, open_part, part_ended, takes_end, takes_turn}
 use Rattle.vhost_backend.specs.Sound.{IsClear, Sound}
@@ -87,7 +87,7 @@ stop_sound c sound = go (all_stopped c.backend.backend.rings)
 
 apply_sound : (c c' : BlockConnection) → Applies c c' → IsSound c → IsSound c'
 apply_sound c c' (n, w, t, logged, changes, evicts, is) sound = same c' _ is (answered_sound w (is_some n)
-    (changes_sound (memory_step c.memory) c.backend c.memory.table c.memory.logged (is_some n) w t logged changes
+    (changes_sound (table_step c.memory) c.backend c.memory.table c.memory.logged (is_some n) w t logged changes
     sound))
 
 follow_sound : (c c' : BlockConnection) (d : Deed) → Follows (after_sent d c) d c' → IsSound c → IsSound c'

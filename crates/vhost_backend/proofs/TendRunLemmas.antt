@@ -8,7 +8,7 @@ use Rattle.vhost_backend.proofs.TendTurnLemmas.{looks_tend}
 use Rattle.vhost_backend.specs.BlockBackend.{hung_up}
 use Rattle.vhost_backend.specs.BlockConnection.{as_negotiated, is_covered, looked_after, pages_in, with_backend}
 use Rattle.vhost_backend.specs.BlockTable.{memory_lost}
-use Rattle.vhost_backend.specs.ConnectionMemory.{emptied, memory_step, with_behind, with_pages, way_of}
+use Rattle.vhost_backend.specs.ConnectionMemory.{emptied, memory_step, table_step, with_behind, with_pages, way_of}
 use Rattle.vhost_backend.specs.GoesOn.{Tends}
 use Rattle.vhost_backend.specs.Rings.{all_stopped}
 use Rattle.vhost_backend.specs.Run.{Applies, Course, EventBy, Fills, Follows, GivesBy, LooksBy, Move, MoveBy, Moves, Output, Rests, StepsTo, Stops, after_sent, after_stop, does, end_of, end_taken, gives_marks, gives_part, goes_on, looked, looks, loses, open_part, part_ended, takes_end, takes_turn}
@@ -77,7 +77,7 @@ stop_tends c tend = go (all_stopped c.backend.backend.rings)
 
 apply_tends : (c c' : BlockConnection) → Applies c c' → TendsIn c → TendsIn c'
 apply_tends c c' (n, w, t, logged, changes, evicts, is) tend = same c' _ is (answered_tends w (is_some n)
-    (changes_tend (memory_step c.memory) c.backend c.memory.table c.memory.logged (is_some n) w t logged changes tend))
+    (changes_tend (table_step c.memory) c.backend c.memory.table c.memory.logged (is_some n) w t logged changes tend))
 
 follow_tends : (c c' : BlockConnection) (d : Deed) → Follows (after_sent d c) d c' → TendsIn c → TendsIn c'
 follow_tends c c' deed.Send is tend = same c' _ is tend

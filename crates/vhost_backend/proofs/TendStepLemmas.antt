@@ -33,7 +33,7 @@ use Rattle.vhost_backend.specs.Questions.{QuestionsState, has_miss, lost, stale,
 use Rattle.vhost_backend.specs.Reach.{moved_to, same_log, waited_for}
 use Rattle.vhost_backend.specs.Ring.{RingState, is_on}
 use Rattle.vhost_backend.specs.RingMemory.{MemoryStep, Returned, finishes}
-use Rattle.vhost_backend.specs.SetUp.{fresh_queue, is_set_up, moved_queue}
+use Rattle.vhost_backend.specs.SetUp.{fresh_queue, is_set_up, log_of, moved_queue}
 use Rattle.vhost_backend.specs.TableUse.{awaited}
 use Rattle.vhost_backend.specs.Wanted.{wanted_at, wanted_of}
 use Rattle.vhost_backend.specs.declared.backend.Finish.{Finish}
@@ -319,14 +319,17 @@ set_up_waits : (p : BlockQueueState) (max_size : ℕ) (vring : RunningVring) (fe
     → is_some (waited_for (set_up p max_size vring features fresh).0.reach.fetch) ≡ true
     → is_some (waited_for p.reach.fetch) ≡ true
 set_up_waits p max_size vring features true waits =
-    began_waits p (fresh_queue max_size vring features) vring.log waits
-set_up_waits p max_size vring features false waits = go (not (is_set_up p.queue) || stays_at p vring) waits
+    began_waits p (fresh_queue max_size vring features) (log_of vring features) waits
+set_up_waits p max_size vring features false waits = go (not (is_set_up p.queue) || stays_at p vring log) waits
   where
+    log : Option ℕ
+    log = log_of vring features
+
     go : (v : Bool) → (let t : BlockQueueState × Reached = if v then (p, reached.Fine)
-        else went_on p (moved_queue p.queue vring) vring.log in is_some (waited_for t.0.reach.fetch) ≡ true)
+        else went_on p (moved_queue p.queue vring) log in is_some (waited_for t.0.reach.fetch) ≡ true)
         → is_some (waited_for p.reach.fetch) ≡ true
     go true waits = waits
-    go false waits = went_on_waits p (moved_queue p.queue vring) vring.log waits
+    go false waits = went_on_waits p (moved_queue p.queue vring) log waits
 
 places_tend : (w : BlockBackend) (v : Result RunningVring NotRunning) (fresh : Bool) → Tends w → Tends (placed_by w v fresh)
 places_tend w (Err e) fresh tend = tend

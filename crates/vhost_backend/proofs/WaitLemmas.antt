@@ -10,7 +10,7 @@ use Rattle.vhost_user.specs.Log.{log_kept}
 use Rattle.vhost_backend.specs.BlockBackend.{hung_up, is_done}
 use Rattle.vhost_backend.specs.BlockConnection.{as_negotiated, is_covered, looked_after, pages_in, with_backend}
 use Rattle.vhost_backend.specs.BlockTable.{memory_lost}
-use Rattle.vhost_backend.specs.ConnectionMemory.{Joins, MemoryState, marks_nothing, memory_of, memory_step, ring_memory_of, ring_table_of, way_of, with_behind, with_pages, emptied}
+use Rattle.vhost_backend.specs.ConnectionMemory.{Joins, MemoryState, joined_memory_of, kept_table_of, marks_nothing, memory_of, memory_step, ring_memory_of, ring_table_of, table_step, way_of, with_behind, with_pages, emptied}
 use Rattle.vhost_backend.specs.PageList.{InAny, InRange, IsToMark, NoneToMark, Pages, TakesRange}
 use Rattle.vhost_backend.specs.RingMemory.{Logs, MemoryStep, Returned, adds_used, begins, enables, finishes, forgets, keeps, marks, marks_ring, needs, pops, reads_used}
 use Rattle.vhost_backend.specs.Run.{Applies, Course, EventBy, Follows, GivesBy, LooksBy, MayStep, Move, MoveBy, Moves, StepsTo, after_sent, after_stop, does, end_of, end_taken, ends_of, gives_marks, gives_part, goes_on, looked, looks, loses, open_part, part_ended, takes_end, takes_turn, with_connection}
@@ -79,12 +79,14 @@ keeps_by c c' is page was = subst (IsToMark page) (sym is) was
 step_keeps : (c c' : BlockConnection) (m : Made) → StepsTo c m c' → Keeps c c'
 unfolding Keeps Grows
 step_keeps c c' m (steps, is) = steps_keep (memory_step c.memory) Grows grows_stay grows_then
-    (grows_each (ring_memory_of c.memory) (memory_of c.memory) (ring_table_of c.memory)) c.backend c.memory.logged m c'.backend c'.memory.logged steps
+    (λ old s r new plain p. grows_each (ring_memory_of c.memory) (memory_of c.memory) (ring_table_of c.memory) old s r new p) c.backend c.memory.logged m c'.backend c'.memory.logged steps
 
 look_keeps : (c c' : BlockConnection) (v : Bool) → LooksBy c v c' → Keeps c c'
 unfolding Keeps Grows
 look_keeps c c' v (by, is) = looks_keep (memory_step c.memory) Grows grows_stay grows_then
-    (grows_each (ring_memory_of c.memory) (memory_of c.memory) (ring_table_of c.memory)) (way_of c.memory c.backend)
+    (λ old s r new plain p. grows_each (ring_memory_of c.memory) (memory_of c.memory) (ring_table_of c.memory) old s r new p)
+    (λ old k r new p. grows_each (ring_memory_of c.memory) (memory_of c.memory) (ring_table_of c.memory) old (keeps k) r new p)
+    (λ old k r new p. grows_each (ring_memory_of c.memory) (memory_of c.memory) (ring_table_of c.memory) old (forgets k) r new p) (way_of c.memory c.backend)
     c.backend c.memory.logged v c'.backend c'.memory.logged by
 
 sent_pages : (d : Deed) (c : BlockConnection) → (after_sent d c).memory.logged.pages ≡ c.memory.logged.pages
@@ -125,8 +127,10 @@ apply_keeps : (c c' : BlockConnection) → Applies c c' → Keeps c c'
 unfolding Keeps Grows
 apply_keeps c c' (n, w, t, logged, changes, evicts, is) page was = subst (IsToMark page)
     (sym (ap (λ (d : BlockConnection). d.memory.logged.pages) is))
-    (changes_table_keep (memory_step c.memory) Grows grows_stay grows_then
-    (grows_each (ring_memory_of c.memory) (memory_of c.memory) (ring_table_of c.memory)) c.backend c.memory.table
+    (changes_table_keep (table_step c.memory) Grows grows_stay grows_then
+    (λ old s r new plain p. grows_each (joined_memory_of c.memory) (memory_of c.memory) (kept_table_of c.memory) old s r new p)
+    (λ old k r new p. grows_each (joined_memory_of c.memory) (memory_of c.memory) (kept_table_of c.memory) old (keeps k) r new p)
+    (λ old k r new p. grows_each (joined_memory_of c.memory) (memory_of c.memory) (kept_table_of c.memory) old (forgets k) r new p) c.backend c.memory.table
     c.memory.logged (is_some n) w t logged changes page was)
 
 follow_keeps : (c c' : BlockConnection) (d : Deed) → Follows c d c' → Keeps c c'

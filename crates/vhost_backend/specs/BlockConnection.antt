@@ -17,6 +17,7 @@ use Rattle.vhost_user.specs.declared.backend_req_handler.Offer.{Offer}
 use Rattle.vhost_user.specs.declared.backend_req_handler.OfferError.{OfferError}
 use Rattle.vhost_user.specs.declared.backend_req_handler.OfferError.TheVariants.{Invalid, Memory}
 use Rattle.vhost_backend.specs.BlockBackend.{answered, came, hung_up, mapped, new_block_backend, region_at, replied_to}
+use Rattle.vhost_backend.specs.ConnectionMemory as memory
 use Rattle.vhost_backend.specs.ConnectionMemory.{MemoryState, no_memory, with_behind, with_pages}
 use Rattle.vhost_backend.specs.PageList.{capped}
 use Rattle.vhost_backend.specs.TableCounts.{no_table_counts}
@@ -149,5 +150,5 @@ failed c = with_backend c (answered (mapped c.backend false) false)
 -- the bytes of a region came, if one was asked for
 abbrev pub Maps : BlockConnection → Bool → BlockConnection → Type 0
 Maps c is c' = MatchOption (region_at c.backend c.backend.ask) ((is ≡ false) × (c' ≡ c))
-    (λ region. (m : MemoryState) × (m.layout ≡ c.memory.layout) × (m.logged.pages ≡ c.memory.logged.pages)
+    (λ region. (bytes : List ℕ) × (m : MemoryState) × memory.Maps c.memory bytes is m
     × (c' ≡ record c { memory = m; backend = mapped c.backend is }))

@@ -101,6 +101,14 @@ ring_memory_of m = if m.is_joined && m.is_behind then io_memory_in m.layout true
 abbrev pub ring_table_of : MemoryState → Option TlbId
 ring_table_of m = if m.is_joined && m.is_behind then Some (record { 0 = 0 }) else None
 
+-- guest memory behind an IOMMU, if regions were joined, and the table that has what is kept for rings, whether these lie
+-- at I/O addresses by now or not
+abbrev pub joined_memory_of : MemoryState → Memory
+joined_memory_of m = if m.is_joined then io_memory_in m.layout m.is_behind else memory_of m
+
+abbrev pub kept_table_of : MemoryState → Option TlbId
+kept_table_of m = if m.is_joined then Some (record { 0 = 0 }) else None
+
 -- what translates the addresses of rings, if they lie at I/O addresses: what the front end's messages say
 abbrev pub way_of : MemoryState → BlockBackend → Option Sight
 way_of m w = if m.is_joined && m.is_behind then Some (record { table = m.table; can_ask = can_ask w }) else None
@@ -111,6 +119,10 @@ marks_nothing old offset len new = new ≡ old
 -- a step of a ring on this memory
 abbrev pub memory_step : MemoryState → Logged (Unit {0}) → (s : MemoryStep) → Returned s → Logged (Unit {0}) → Type 0
 memory_step m = Logs marks_nothing (ring_memory_of m) (memory_of m) (ring_table_of m)
+
+-- a step that changes what is kept for rings
+abbrev pub table_step : MemoryState → Logged (Unit {0}) → (s : MemoryStep) → Returned s → Logged (Unit {0}) → Type 0
+table_step m = Logs marks_nothing (joined_memory_of m) (memory_of m) (kept_table_of m)
 
 -- the bytes of the next region come, as the next block, or are not taken
 abbrev pub Maps : MemoryState → List ℕ → Bool → MemoryState → Type 0

@@ -10,7 +10,7 @@ use Rattle.vm_memory_device.specs.Chain.{Entry, chain_fault, readable, text, wri
 use Rattle.vm_memory_device.specs.declared.chain.Segment.{Segment}
 use Rattle.virtio_queue.specs.declared.any.AnyQueue.{AnyQueue}
 use Rattle.virtio_queue.specs.declared.any.AnyQueue.TheVariants.{Split, Packed}
-use Rattle.vhost_iotlb.specs.Kept.{IsCurrent, differs}
+use Rattle.vhost_iotlb.specs.Kept.{IsCurrent, IsReal, differs}
 use Rattle.vhost_iotlb.specs.Leads.{LeadsTo}
 use Rattle.vhost_iotlb.specs.Taking.{Covers, StopsAt, left}
 use Rattle.vhost_iotlb.specs.declared.kept.Change.{Change}
@@ -188,6 +188,7 @@ pub record GoesOn (f : Says) (most : ℕ) (old new : FetchState) : Type 0 where
   pub goal : new.goal ≡ old.goal
   pub wants : new.wants ≡ old.wants
   pub takes : (ks : List Kept) × (new.kept ≡ old.kept ++ ks) × All (IsCurrent f) ks
+  pub real : All IsReal new.kept
   pub stops : (p : Progress) × StopsAt f most (length new.kept) (left new.wants 0 new.kept) p × (new.state ≡ state_by p)
 
 -- if what it waited for leads on by now, it found more, unless it has as many ranges as may be or an allocation failed

@@ -6,7 +6,7 @@ use Rattle.vhost_backend.specs.BlockBackend.{Looks, Steps, answered, gone_on, is
 use Rattle.vhost_backend.specs.BlockConnection.{looked_after, with_backend}
 use Rattle.vhost_backend.specs.BlockTable.{ChangesTable, memory_lost}
 use Rattle.vhost_backend.specs.BlockQueues.{chain_of}
-use Rattle.vhost_backend.specs.ConnectionMemory.{Joins, MemoryState, emptied, forgotten, memory_step, way_of, with_pages}
+use Rattle.vhost_backend.specs.ConnectionMemory.{Joins, MemoryState, emptied, forgotten, memory_step, table_step, way_of, with_pages}
 use Rattle.vhost_backend.specs.Given.{Lays, Lies, Puts, is_left, len_of_part, no_counts, part_action, piece_row, place_from, rest_of}
 use Rattle.vhost_backend.specs.PageList.{NoneToMark, Pages, TakesRange}
 use Rattle.vhost_backend.specs.Rings.{all_stopped, has_next}
@@ -102,7 +102,7 @@ BeginsPart c ring id part left c' = (is : Bool)
 -- the table is changed as the message has it, if that can be done, and that is counted
 abbrev pub Applies : BlockConnection → BlockConnection → Type 0
 Applies c c' = (evicted : Option ℕ) × (w : BlockBackend) × (t : Table) × (logged : Logged (Unit {0}))
-    × ChangesTable (memory_step c.memory) c.backend c.memory.table c.memory.logged (is_some evicted) w t logged
+    × ChangesTable (table_step c.memory) c.backend c.memory.table c.memory.logged (is_some evicted) w t logged
     × IfSome evicted (λ n. n ≡ evicted_by c.backend.change c.memory.table) × (c' ≡ record c {
       memory = record c.memory { logged = logged; table = t };
       backend = answered w (is_some evicted);

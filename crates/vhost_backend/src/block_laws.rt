@@ -61,8 +61,8 @@ pub fn log_addresses_are_marked()
 {}
 
 /// If a ring's addresses go through a table, a mark of a range that the table lets be written is of guest pages: each
-/// byte of the range lies, where the table leads, on a page that is to be marked after all marks of a call, if that page
-/// has a bit in the log. A range that it does not let be written was not stored to.
+/// byte of the range lies, where the table leads, on a page that is to be marked after all marks of a call, if that has
+/// a bit in the log. A range that it does not let be written was not stored to.
 pub fn ring_marks_are_of_guest_pages<B: Bitmap>()
     ensures { (ring guest : Memory) (t : TlbId) (marks : List Piece) (i : ℕ) (m : Piece) (old new : Logged B) (x to : ℕ)
         → MarksRing (Logs B.marks ring guest (Some t)) marks old new → slice_get marks i ≡ Some m

@@ -10,6 +10,7 @@ ghost use Rattle.vm_memory_guest.specs.Mmap.{PlacedBlock, mmap_region};
 ghost use Rattle.vhost_backend.specs.BlockBackend.{Looks, Steps};
 ghost use Rattle.vhost_backend.specs.ConnectionMemory.{IsBlockAt, Joins, LiesOver, Maps, block_of, forgotten};
 ghost use Rattle.vhost_backend.specs.ConnectionMemory.{io_memory_in, io_view, memory_step, no_memory, place_of};
+ghost use Rattle.vhost_backend.specs.ConnectionMemory.{table_step};
 ghost use Rattle.vhost_backend.specs.ConnectionMemory.{with_behind, with_first_table, with_pages};
 ghost use Rattle.vhost_backend.specs.BlockTable.{ChangesTable};
 ghost use Rattle.vhost_backend.specs.ConnectionMemory.{emptied, first_emptied, way_of};
@@ -391,13 +392,13 @@ impl ConnectionMemory {
     /// Changes what is said of I/O addresses as a message has it, and what rings have of that. Returns how many ranges
     /// the table evicted, and `None` if nothing was done.
     pub fn change(&mut self, backend: &mut BlockBackend) -> Option<usize>
-        ensures changes { ChangesTable (memory_step self.old) backend.old self.old.table self.old.logged
+        ensures changes { ChangesTable (table_step self.old) backend.old self.old.table self.old.logged
             (is_some result) backend.new self.new.table self.new.logged }
         ensures evicts { IfSome result (λ n. n ≡ evicted_by backend.old.change self.old.table) }
         ensures others { self.new ≡ record self.old { logged = self.new.logged; table = self.new.table } }
     {
         let (guest, kept, logged) = (&self.layout, &self.behind, &mut self.logged);
-        let Some(ring) = io_memory_if(kept, self.is_behind) else {
+        let Some(ring) = kept else {
             let (ring, table) = (guest, None);
             return backend.change_table(
                 &Lent {

@@ -433,6 +433,7 @@ impl Fetch {
     {
         what_came_is_taken();
         let progress = self.taking.go_on(table, most);
+        let _kept = self.taking.kept();
         self.state = state_by(progress);
         !self.waits()
     }

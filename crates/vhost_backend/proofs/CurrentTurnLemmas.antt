@@ -1,0 +1,190 @@
+-- A step of a ring's turn leaves all that is kept, fetched and under way where the messages say.
+use Rattle.std.proofs.Common.{◌≡◌, ◌∙◌, ◌⊎◌, ℕ, Bool, true, false, List, Contains, Option, Some, None, Result, Ok, Err, MatchBool, MatchOption, refl, ap, sym, subst, inl, inr}
+use Rattle.std.specs.List.{slice_get, slice_set}
+use Rattle.std.specs.declared.alloc.AllocError.{AllocError}
+use Rattle.vm_memory_base.specs.Table.{Says, says}
+use Rattle.vm_memory_base.specs.declared.iotlb.Permissions.{Permissions}
+use Rattle.vm_memory_guest.specs.declared.region.error.GuestMemoryError.{GuestMemoryError}
+use Rattle.vm_memory_device.specs.declared.chain.Segment.{Segment}
+use Rattle.virtio_queue.specs.Any.{past}
+use Rattle.virtio_queue.specs.declared.any.AnyQueue.{AnyQueue}
+use Rattle.virtio_queue.specs.declared.any.AnyQueue.TheVariants.{Split, Packed}
+use Rattle.virtio_queue.specs.declared.error.QueueError.{QueueError}
+use Rattle.virtio_blk.specs.declared.request.DeviceLimits.{DeviceLimits}
+use Rattle.virtio_blk.specs.declared.request.Request.{Request}
+use Rattle.virtio_blk.specs.declared.request.Request.TheVariants.{Refused}
+use Rattle.vhost_iotlb.specs.declared.kept.Kept.{Kept}
+use Rattle.vhost_backend.proofs.CurrentStageLemmas.{LeadsLaw, behind_holds}
+use Rattle.vhost_backend.proofs.KeepLemmas.{IsPlain, next_keeps}
+use Rattle.vhost_backend.proofs.StandLemmas.{HoldsAll, HoldsOne, QueueLess, alike, began_asked, less_as, less_stands, one_holds, queue_itself, queue_then, unasked}
+use Rattle.vhost_backend.specs.Backend.{BackendState}
+use Rattle.vhost_backend.specs.Behind.{HappensBy}
+use Rattle.vhost_backend.specs.BlockBackend.{Looks, TakesTurn, looked, terms_of, told}
+use Rattle.vhost_backend.specs.BlockQueue.{AfterAsk, AfterPop, AfterRead, BlockQueueState, HappensNext, Pops, PopsBy, ReadsBy, begun, has_place, popped, read_by, with_queue}
+use Rattle.vhost_backend.specs.BlockQueues.{Turns}
+use Rattle.vhost_backend.specs.BlockTable.{asked_by, asked_for}
+use Rattle.vhost_backend.specs.BlockTurn as turn
+use Rattle.vhost_backend.specs.Current.{IsKeptBy, QueueStands}
+use Rattle.vhost_backend.specs.RingMemory.{MemoryStep, Returned, begins, forgets, keeps}
+use Rattle.vhost_backend.specs.Rings.{may_pop}
+use Rattle.vhost_backend.specs.Sight.{Sight}
+use Rattle.vhost_backend.specs.TableUse.{awaited}
+use Rattle.vhost_backend.specs.declared.backend.Todo.{Todo}
+use Rattle.vhost_backend.specs.declared.block_backend.BlockBackend.{BlockBackend}
+use Rattle.vhost_backend.specs.declared.block_queue.Pop.{Pop}
+use Rattle.vhost_backend.specs.declared.block_queue.Pop.TheVariants as pop
+use Rattle.vhost_backend.specs.declared.ring.RingEvent.{RingEvent}
+use Rattle.vhost_backend.specs.declared.ring.RingEvent.TheVariants.{Kick}
+use Rattle.vhost_backend.specs.declared.rings.Event.TheVariants as event
+
+-- ---- a ring whose addresses go through no table
+
+module _ {H : Type 0} (step : H → (s : MemoryStep) → Returned s → H → Type 0) (terms : DeviceLimits) where
+  same : (q q' : BlockQueueState) → q' ≡ q → QueueLess q q'
+  same q q' is = less_as q q q' is (queue_itself q)
+
+  pops_less : (q : BlockQueueState) (old : H) (found : Pop) (q' : BlockQueueState) (new : H)
+      → Pops step terms q old found q' new → QueueLess q q'
+  pops_less q old found q' new (Ok None, mid, stepped, (is, kept, still)) = same q q' kept
+  pops_less q old found q' new (Err error, mid, stepped, (is, kept, still)) = same q q' kept
+  pops_less q old found q' new (Ok (Some p), mid, stepped, rest) = go (has_place q p.0.id) rest
+    where
+      next : BlockQueueState
+      next = with_queue q (past q.queue p.0)
+
+      read : (request : Result Request GuestMemoryError) → (found, q') ≡ begun q.queue next p.0 p.1 request
+          → QueueLess q q'
+      read (Ok request) is = less_as q _ q' (ap (λ t. t.1) is)
+          (alike q _ refl (began_asked q.asked p.0.id _ refl))
+      read (Err error) is = less_as q _ q' (ap (λ t. t.1) is) (alike q _ refl (unasked q.asked))
+
+      go : (place : Bool) → MatchBool place
+          ((request : Result Request GuestMemoryError) × step mid (begins terms p.1) request new
+          × ((found, q') ≡ begun q.queue next p.0 p.1 request))
+          ((found ≡ popped p.0 (Refused 1)) × (q' ≡ next) × (new ≡ mid)) → QueueLess q q'
+      go true (request, took, is) = read request is
+      go false (is, kept, still) = less_as q next q' kept (alike q next refl (unasked q.asked))
+
+  asks_less : (q : BlockQueueState) (answer : Result Bool QueueError) (asked : H) (e : Option RingEvent)
+      (q' : BlockQueueState) (new : H) → AfterAsk step terms q answer asked e q' new → QueueLess q q'
+  asks_less q (Ok true) asked e q' new (found, pops, is) = pops_less q asked found q' new pops
+  asks_less q (Ok false) asked e q' new (is, kept, still) = same q q' kept
+  asks_less q (Err error) asked e q' new (is, kept, still) = same q q' kept
+
+  after_less : (q : BlockQueueState) (found : Pop) (mid : H) (e : Option RingEvent) (q' : BlockQueueState) (new : H)
+      → AfterPop step terms found q mid e q' new → QueueLess q q'
+  after_less q pop.None mid e q' new (answer, asked, asks, after) = asks_less q answer asked e q' new after
+  after_less q (pop.Chain chain parts bytes) mid e q' new (is, kept, still) = same q q' kept
+  after_less q (pop.Broken error) mid e q' new (is, kept, still) = same q q' kept
+  after_less q pop.Later mid e q' new (is, kept, still) = same q q' kept
+
+  reads_less : (q : BlockQueueState) (v : Bool) (u : AnyQueue) (old : H) (r : Result (Unit {0}) QueueError)
+      (q' : BlockQueueState) (new : H) → ReadsBy step q v u old r q' new → QueueLess q q'
+  reads_less q true (Split u) old r q' new (next, took, is) = go next is
+    where
+      go : (next : Result ℕ QueueError) → (q', r) ≡ read_by q u next → QueueLess q q'
+      go (Ok next) is = less_as q _ q' (ap (λ t. t.0) is) (alike q _ refl (unasked q.asked))
+      go (Err e) is = same q q' (ap (λ t. t.0) is)
+  reads_less q true (Packed u) old r q' new (done, is, still) =
+      less_as q _ q' is (alike q _ refl (unasked q.asked))
+  reads_less q false u old r q' new (done, is, still) = same q q' is
+
+  next_less : (q : BlockQueueState) (old : H) (e : Option RingEvent) (q' : BlockQueueState) (new : H)
+      → HappensNext step terms q old e q' new → QueueLess q q'
+  next_less q old e q' new (read, mid_q, mid, reads, after) =
+      queue_then q mid_q q' (reads_less q q.is_unread q.queue old read mid_q mid reads) (go read after)
+    where
+      go : (r : Result (Unit {0}) QueueError) → AfterRead step terms r mid_q mid e q' new → QueueLess mid_q q'
+      go (Ok done) (found, next_q, next, pops, after) = queue_then mid_q next_q q'
+          (pops_less mid_q mid found next_q next pops) (after_less next_q found next e q' new after)
+      go (Err error) (is, kept, still) = same mid_q q' kept
+
+-- ---- all rings
+
+-- what is asked for changes no queue
+pub asked_queues : (w : BlockBackend) (ring : ℕ) → (asked_for w ring).queues ≡ w.queues
+asked_queues w ring = go (awaited (slice_get w.queues ring))
+  where
+    go : (o : Option (ℕ × Permissions)) → (asked_by w ring o).queues ≡ w.queues
+    go None = refl
+    go (Some t) = refl
+
+module _ {H : Type 0} (step : H → (s : MemoryStep) → Returned s → H → Type 0) (T : H → (Kept → Type 0) → Type 0)
+    (more : (h : H) (S S' : Kept → Type 0) → ((k : Kept) → S k → S' k) → T h S → T h S')
+    (plain : (old : H) (s : MemoryStep) (r : Returned s) (new : H) (S : Kept → Type 0) → IsPlain s → step old s r new
+    → T old S → T new S) (f : Says) where
+  none_holds : (terms : DeviceLimits) (q : BlockQueueState) (old : H) (e : Option RingEvent) (q' : BlockQueueState)
+      (new : H) → HappensNext step terms q old e q' new → (S : Kept → Type 0) → HoldsOne T f S old q
+      → HoldsOne T f S new q'
+  none_holds terms q old e q' new next S (t, stands) =
+      let less = next_less step terms q old e q' new next in
+      let P : Kept → Type 0 = λ k. S k ⊎ IsKeptBy q.reach k in (
+        subst (λ (rows : List Kept). T new (λ k. S k ⊎ (Contains q'.reach.pages k ⊎ Contains rows k))) (sym less.rows)
+            (subst (λ (pages : List Kept). T new (λ k. S k ⊎ (Contains pages k ⊎ Contains q.reach.rows k))) (sym less.pages)
+            (next_keeps step (λ a b. T a P → T b P) (λ h t. t) (λ a b c first second t. second (first t))
+            (λ old s r new is step t. plain old s r new P is step t) terms q old e q' new next t)),
+        less_stands f q q' less stands,
+      )
+
+  -- a turn, by what is known of a step of one ring
+  turn_holds : (way : Option Sight) (w : BlockBackend) (old : H) (is : Bool) (w' : BlockBackend) (new : H)
+      → ((q : BlockQueueState) (e : Option RingEvent) (q' : BlockQueueState)
+      → HappensBy step way (terms_of w) q old e q' new → (S : Kept → Type 0) → HoldsOne T f S old q
+      → HoldsOne T f S new q')
+      → TakesTurn step way w old is w' new → HoldsAll T f old w.queues → HoldsAll T f new w'.queues
+  turn_holds way w old is w' new each (r, b, qs, with, none, was, becomes) holds =
+      subst (λ (v : BlockBackend). HoldsAll T f new v.queues) (sym becomes)
+      (subst (HoldsAll T f new) (sym (looked_queues r)) (go (slice_get w.queues w.turn) refl with))
+    where
+      looked_queues : (o : Option Todo) → (looked (record w { queues = qs; backend = b }) o).queues ≡ qs
+      looked_queues None = refl
+      looked_queues (Some todo) = asked_queues (record w { queues = qs; backend = b; todo = todo }) w.turn
+
+      runs : (q q' : BlockQueueState) → slice_get w.queues w.turn ≡ Some q → qs ≡ slice_set w.queues w.turn q'
+          → (v : Bool) → MatchBool v
+          ((e : Option RingEvent) × HappensBy step way (terms_of w) q old e q' new × ((b, r) ≡ turn.told w.backend w.turn e))
+          ((r ≡ None) × (b ≡ w.backend) × (q' ≡ q) × (new ≡ old)) → HoldsAll T f new qs
+      runs q q' found set true (e, next, told) = subst (HoldsAll T f new) (sym set)
+          (one_holds T more f w.queues w.turn q q' old new found (each q e q' next) holds)
+      runs q q' found set false (nil, same, kept, quiet) = subst (HoldsAll T f new) (sym set)
+          (one_holds T more f w.queues w.turn q q' old new found (λ S one. subst (λ h. HoldsOne T f S h q') (sym quiet)
+          (subst (HoldsOne T f S old) (sym kept) one)) holds)
+
+      go : (o : Option BlockQueueState) → slice_get w.queues w.turn ≡ o
+          → MatchOption o ((r ≡ None) × (qs ≡ w.queues) × (new ≡ old))
+          (λ q. (q' : BlockQueueState) × Turns step way (terms_of w) w.turn w.backend b old new q r q'
+          × (qs ≡ slice_set w.queues w.turn q')) → HoldsAll T f new qs
+      go None found (nil, same, quiet) =
+          subst (λ h. HoldsAll T f h qs) (sym quiet) (subst (HoldsAll T f old) (sym same) holds)
+      go (Some q) found (q', turns, set) = runs q q' found set (may_pop w.backend.rings w.turn) turns
+
+  looks_by : (way : Option Sight) (w : BlockBackend) (old : H) (is : Bool) (w' : BlockBackend) (new : H)
+      → ((q : BlockQueueState) (e : Option RingEvent) (q' : BlockQueueState)
+      → HappensBy step way (terms_of w) q old e q' new → (S : Kept → Type 0) → HoldsOne T f S old q
+      → HoldsOne T f S new q')
+      → Looks step way w old is w' new → HoldsAll T f old w.queues → HoldsAll T f new w'.queues
+  looks_by way w old is w' new each (None, kicks, takes, turns) holds =
+      turn_holds way (record w { kicks = kicks }) old is w' new each turns holds
+  looks_by way w old is w' new each (Some ring, kicks, takes, (was, becomes, same)) holds =
+      subst (λ (v : BlockBackend). HoldsAll T f new v.queues) (sym becomes)
+      (subst (λ h. HoldsAll T f h w.queues) (sym same) holds)
+
+  -- rings that lie behind no table
+  pub looks_plainly : (w : BlockBackend) (old : H) (is : Bool) (w' : BlockBackend) (new : H)
+      → Looks step None w old is w' new → HoldsAll T f old w.queues → HoldsAll T f new w'.queues
+  looks_plainly w old is w' new looks holds = looks_by None w old is w' new
+      (λ q e q' next S one. none_holds (terms_of w) q old e q' new next S one) looks holds
+
+  module _ (kept : (old : H) (k : Kept) (r : Result (Unit {0}) AllocError) (new : H) (S : Kept → Type 0)
+      → step old (keeps k) r new → T old S → T new (λ j. S j ⊎ (j ≡ k)))
+      (forgot : (old : H) (k : Kept) (done : Unit {0}) (new : H) (S : Kept → Type 0) → step old (forgets k) (Ok done) new
+      → T old S → T new (λ j. S j × (j ≡ k → ⊥)))
+      (failed : (old : H) (k : Kept) (e : AllocError) (new : H) (S : Kept → Type 0) → step old (forgets k) (Err e) new
+      → T old S → T new S) where
+    -- rings behind a table that says nothing but what messages say
+    pub looks_behind : (way : Sight) (w : BlockBackend) (old : H) (is : Bool) (w' : BlockBackend) (new : H)
+        → LeadsLaw (says way.table) f → Looks step (Some way) w old is w' new → HoldsAll T f old w.queues
+        → HoldsAll T f new w'.queues
+    looks_behind way w old is w' new leads looks holds = looks_by (Some way) w old is w' new
+        (λ q e q' next S one. behind_holds step T more plain kept forgot failed f S (says way.table) leads way.can_ask
+        (terms_of w) q old e q' new next one) looks holds
