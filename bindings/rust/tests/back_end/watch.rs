@@ -2,8 +2,8 @@
 //! what was asked for, and what lies in guest memory, and nothing of what the model does.
 //!
 //! A page that a chain's request may change is marked after the last write to it and in a run before the one in which
-//! the chain shows up as returned. Other bytes that a run changes are marked by that run, those of a used ring also where
-//! its writes are logged.
+//! the chain shows up as returned. Other bytes that a run changes are marked by that run, those of a used ring also
+//! where its writes are logged.
 
 use super::acts::{add_piece, Served};
 use super::driver::{word_at, Driver, Published, PAGE, PARTS};
