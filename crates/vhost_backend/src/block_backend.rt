@@ -528,7 +528,7 @@ impl BlockBackend {
         &mut self,
         mem: &D,
         host: &mut H,
-        way: Option<Way<'_>>,
+        way: Option<&Way<'_>>,
     ) -> bool
         requires { D.held mem.now host.old }
         ensures turns { TakesTurn (D.steps mem.now) (sight_of way.entry) self.old host.old result self.new host.new }
@@ -553,7 +553,12 @@ impl BlockBackend {
 
     /// Looks at a ring that was kicked, or else pops the next chain of the ring that has its turn, if nothing is left
     /// to be done. Returns whether it did.
-    pub fn look<H, D: RingMemory<H>>(&mut self, mem: &D, host: &mut H, way: Option<Way<'_>>) -> bool
+    pub fn look<H, D: RingMemory<H>>(
+        &mut self,
+        mem: &D,
+        host: &mut H,
+        way: Option<&Way<'_>>,
+    ) -> bool
         requires { D.held mem.now host.old }
         ensures looks { Looks (D.steps mem.now) (sight_of way.entry) self.old host.old result self.new host.new }
         ensures held { D.held mem.now host.new }

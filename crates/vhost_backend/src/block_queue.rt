@@ -439,7 +439,7 @@ impl BlockQueue {
         mem: &D,
         host: &mut H,
         terms: DeviceLimits,
-        way: Option<Way<'_>>,
+        way: Option<&Way<'_>>,
     ) -> Option<RingEvent>
         requires held { D.held mem.now host.old }
         requires small { terms.sectors < 2 ^ 55 }
@@ -448,7 +448,7 @@ impl BlockQueue {
         ensures held { D.held mem.now host.new }
     {
         match way {
-            Some(way) => self.next_behind(alloc, mem, host, terms, way),
+            Some(way) => self.next_behind(alloc, mem, host, terms, *way),
             None => self.next_in_place(alloc, mem, host, terms),
         }
     }

@@ -280,7 +280,7 @@ impl BlockQueues {
         mem: &D,
         host: &mut H,
         terms: DeviceLimits,
-        way: Option<Way<'_>>,
+        way: Option<&Way<'_>>,
         todo: &mut Todo,
     ) -> bool
         requires held { D.held mem.now host.old }

@@ -385,7 +385,7 @@ impl ConnectionMemory {
                 kept,
             },
             logged,
-            Some(way),
+            Some(&way),
         )
     }
 

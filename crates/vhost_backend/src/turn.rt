@@ -20,7 +20,7 @@ pub fn take_step<H, D: RingMemory<H>>(
     mem: &D,
     host: &mut H,
     terms: DeviceLimits,
-    way: Option<Way<'_>>,
+    way: Option<&Way<'_>>,
     todo: &mut Todo,
 ) -> bool
     requires held { D.held mem.now host.old }
