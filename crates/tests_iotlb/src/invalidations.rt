@@ -146,7 +146,10 @@ fn messages_of_qemu(rt: HostRuntime) -> Result<(), Fail> {
             permissions: *permissions,
             kind: *kind,
         };
-        assert!(rt; is_done(&mut world, &payload_of(alloc, parts)?), "message {case}");
+        assert!(rt;
+            is_done(&mut world, &payload_of(alloc, parts)?),
+            "message {case}"
+        );
         expect_text(case, mapped_bytes(alloc, &world)?.as_str(), wanted)?;
     }
     Ok(())

@@ -101,10 +101,7 @@ fn number_at(bytes: &[u8], at: usize) -> u64 {
 // The address of guest memory that so many bytes of the front end's are, if they were announced.
 fn announced(user: u64, size: u64) -> Option<u64> {
     let end = u128::from(user) + u128::from(size);
-    for (start, guest, len) in [
-        (FIRST, 0u64, 0x8000u64),
-        (SECOND, 0x8000, 0x8000),
-    ] {
+    for (start, guest, len) in [(FIRST, 0u64, 0x8000u64), (SECOND, 0x8000, 0x8000)] {
         if user >= start && end <= u128::from(start) + u128::from(len) {
             return Some(guest.wrapping_add(user.wrapping_sub(start)));
         }
