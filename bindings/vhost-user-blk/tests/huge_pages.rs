@@ -4,8 +4,8 @@
 mod front_end;
 
 use front_end::*;
-use std::fs::{self, File};
-use std::os::fd::{FromRawFd, OwnedFd};
+use std::fs;
+use std::os::fd::{AsRawFd, FromRawFd, OwnedFd};
 
 const LEN: usize = 1 << 20;
 const HUGE: u64 = 2 << 20;
@@ -35,8 +35,10 @@ fn huge_file() -> Option<OwnedFd> {
     }
     // SAFETY: the system has just opened it.
     let fd = unsafe { OwnedFd::from_raw_fd(fd) };
-    File::from(again(&fd)).set_len(2 * HUGE).ok()?;
-    Some(fd)
+    // Another process may take them meanwhile: those of the file are its own from here on.
+    // SAFETY: it takes numbers.
+    let has_both = unsafe { libc::fallocate(fd.as_raw_fd(), 0, 0, 2 * HUGE as i64) } == 0;
+    has_both.then_some(fd)
 }
 
 fn mappings(program: &Program) -> usize {
