@@ -1,0 +1,4 @@
+pub mod Split
+pub mod SplitCrash
+pub mod SplitStart
+pub mod Store

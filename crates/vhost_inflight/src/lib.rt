@@ -1,0 +1,14 @@
+//! What a vhost back end writes down of the requests that it has in flight, in a region that outlives it: the stores of
+//! each call in their order, and where a queue goes on after a crash at any of them. The crate's README.md has the
+//! rules.
+#![tactic(auto)]
+
+mod split;
+mod split_region;
+mod split_start;
+mod store;
+
+pub use split::{SplitInFlight, SplitStore};
+pub use split_region::SplitEntry;
+pub use split_start::StartError;
+pub use store::{Store, Value};
