@@ -1,7 +1,7 @@
 -- Crashes of a back end at any store: what it stores, what the guest sees, and every history of the two.
-use Rattle.std.specs.Prelude.{◌≡◌, ℕ, zero, suc, ◌+◌, ◌%◌, ◌^◌, ◌<◌, ◌≤◌, Bool, true, false, not, ◌&&◌, ◌==◌, nat_lt, if◌then◌else◌, List, [], ◌∷◌, ◌++◌, filter, length, map, take, Option, Some, None}
-use Rattle.vhost_inflight.specs.Split.{SplitRegion, after_pop, after_return, begin_return_stores, end_return_stores, is_in_flight, pop_stores, put}
-use Rattle.vhost_inflight.specs.SplitStart.{entries_fault, Flies, header_fault, is_among, settled, start_stores, started}
+use Rattle.std.specs.Prelude.{◌≡◌, ℕ, zero, suc, ◌+◌, ◌%◌, ◌^◌, ◌<◌, ◌≤◌, Bool, true, false, not, ◌&&◌, ◌==◌, nat_lt, if◌then◌else◌, List, [], ◌∷◌, ◌++◌, All, filter, length, map, take, Option, Some, None}
+use Rattle.vhost_inflight.specs.Split.{SplitRegion, after_pop, after_return, begin_return_stores, end_return_stores, pop_stores, put}
+use Rattle.vhost_inflight.specs.SplitStart.{Flies, fault, is_among, start_stores, started}
 use Rattle.vhost_inflight.specs.declared.split.SplitInFlight.{SplitInFlight}
 use Rattle.vhost_inflight.specs.declared.split.SplitStore.{SplitStore}
 use Rattle.vhost_inflight.specs.declared.split.SplitStore.TheVariants.{Counter, InFlight, Next, LastBatchHead, UsedIdx, DescNum, Version}
@@ -116,4 +116,19 @@ run descriptors size w (e ∷ es) = run descriptors size (happens descriptors si
 pub record IsFresh (descriptors : ℕ) (r : SplitRegion) : Type 0 where
   pub version : r.version ≡ 0
   pub entries : length r.entries ≡ descriptors
-  pub marks : (head : ℕ) → is_in_flight r.entries head ≡ false
+  pub marks : All (λ e. e.in_flight ≡ 0) r.entries
+
+-- a back end that has not run, on a ring with this used index
+abbrev pub at_first : SplitRegion → ℕ → World
+at_first r used = record { region = r; used = used; entry = 0; view = Some []; popped = 0; kept = None }
+
+-- ---- where it goes on
+
+-- a start goes through, and serves again what the guest sees as popped and not returned, and nothing else, in the order
+-- of the pops. The ring began at an index, and so many heads were popped since
+pub record GoesOn (descriptors size began : ℕ) (w : World) : Type 0 where
+  pub heads : List ℕ
+  pub seen : w.view ≡ Some heads
+  pub again : Flies w.region w.used heads
+  pub accepted : fault descriptors size w.region w.used ≡ None
+  pub next : (w.used + length heads) % 2 ^ 16 ≡ (began + w.popped) % 2 ^ 16

@@ -1,5 +1,5 @@
 -- Where a split queue goes on, by what its region and its ring say.
-use Rattle.std.specs.Prelude.{◌≡◌, ℕ, zero, suc, ◌+◌, ◌*◌, ◌-◌, ◌%◌, ◌^◌, ◌<◌, Bool, true, false, not, ◌&&◌, ◌==◌, nat_le, nat_lt, max, if◌then◌else◌, List, [], ◌∷◌, ◌++◌, All, drop, map, fold, Option, Some, None}
+use Rattle.std.specs.Prelude.{◌≡◌, ℕ, zero, suc, ◌+◌, ◌*◌, ◌-◌, ◌%◌, ◌^◌, ◌<◌, Bool, true, false, not, ◌&&◌, ◌==◌, nat_le, nat_lt, max, if◌then◌else◌, List, [], ◌∷◌, ◌++◌, drop, map, fold, Option, Some, None}
 use Rattle.std.specs.List.{list_any}
 use Rattle.vhost_inflight.specs.Split.{SplitRegion, changed, counter_of, entry_of, is_in_flight}
 use Rattle.vhost_inflight.specs.declared.split.SplitInFlight.{SplitInFlight}
@@ -39,13 +39,13 @@ settled r used = cleared r.entries (returned r used)
 abbrev pub rank : List SplitEntry → ℕ → ℕ
 rank entries head = counter_of entries head * 2 ^ 16 + head
 
+abbrev pub is_among : ℕ → List ℕ → Bool
+is_among head heads = list_any (λ x. x == head) heads
+
 -- each stands in front of those after it
 abbrev pub Rises : List SplitEntry → List ℕ → Type 0
 Rises entries [] = Unit {0}
-Rises entries (x ∷ xs) = All (λ y. rank entries x < rank entries y) xs × Rises entries xs
-
-abbrev pub is_among : ℕ → List ℕ → Bool
-is_among head heads = list_any (λ x. x == head) heads
+Rises entries (x ∷ xs) = ((y : ℕ) → is_among y xs ≡ true → rank entries x < rank entries y) × Rises entries xs
 
 -- a list has the heads in flight, in their order
 pub record IsInFlight (entries : List SplitEntry) (heads : List ℕ) : Type 0 where
@@ -81,9 +81,19 @@ header_fault descriptors size r used =
     if nat_lt size (difference used r.used_idx) then Some refused.TooManyReturned else (
     if list_any (λ head. nat_le size head) (returned r used) then Some refused.Head else None))))
 
--- what is wrong with the entries, once what was returned is in flight no longer
-abbrev pub entries_fault : ℕ → List SplitEntry → Option StartError
-entries_fault size entries =
+-- what is wrong with the entries, as they are and once what was returned is in flight no longer
+abbrev pub entries_fault : ℕ → List SplitEntry → List SplitEntry → Option StartError
+entries_fault size entries settled =
     if list_any (λ e. nat_lt 1 e.in_flight) entries then Some refused.Mark else (
-    if list_any (λ e. e.in_flight == 1) (drop size entries) then Some refused.Head else (
-    if list_any (λ e. e.in_flight == 1 && nat_le (2 ^ 63) e.counter) entries then Some refused.Counter else None))
+    if list_any (λ e. e.in_flight == 1) (drop size settled) then Some refused.Head else (
+    if list_any (λ e. e.in_flight == 1 && nat_le (2 ^ 63) e.counter) settled then Some refused.Counter else None))
+
+-- the first fault
+abbrev pub or_else : Option StartError → Option StartError → Option StartError
+or_else None later = later
+or_else (Some e) later = Some e
+
+-- what is wrong with a region: nothing if a start goes through
+abbrev pub fault : ℕ → ℕ → SplitRegion → ℕ → Option StartError
+fault descriptors size r used =
+    or_else (header_fault descriptors size r used) (entries_fault size r.entries (settled r used))

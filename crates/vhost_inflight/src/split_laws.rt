@@ -1,0 +1,22 @@
+//! What holds of the region of a split queue, whenever its back end is cut off: each function here is a theorem, and
+//! does nothing.
+ghost use Rattle.std.specs.Prelude.{◌≡◌, ◌^◌, ◌<◌, ◌≤◌, ℕ, List};
+ghost use Rattle.vhost_inflight.specs.Split.{SplitRegion};
+ghost use Rattle.vhost_inflight.specs.SplitStart.{Flies};
+ghost use Rattle.vhost_inflight.specs.SplitCrash.{Event, GoesOn, IsFresh, at_first, run};
+
+/// After every history from a fresh region on, of calls that are made and of calls that a crash cuts after any of their
+/// stores, starts among them: a start goes through. It serves again the chains that the guest sees as popped and not
+/// returned, each of them, in the order of the pops, and none else; and the next available index is the one behind all
+/// that were popped. No chain was popped twice, or returned without a pop or twice.
+pub fn every_crash_leaves_what_was_popped()
+    ensures { (descriptors size used : ℕ) (r : SplitRegion) (events : List Event) → IsFresh descriptors r
+        → size ≤ descriptors → descriptors < 2 ^ 16 → used < 2 ^ 16
+        → (run descriptors size (at_first r used) events).popped < 2 ^ 63
+        → GoesOn descriptors size used (run descriptors size (at_first r used) events) }
+{}
+
+/// What a start serves again has one order.
+pub fn one_list_is_served_again()
+    ensures { (r : SplitRegion) (used : ℕ) (xs ys : List ℕ) → Flies r used xs → Flies r used ys → xs ≡ ys }
+{}
