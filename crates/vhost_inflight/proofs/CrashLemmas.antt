@@ -511,7 +511,7 @@ start_from_level g w heads s =
     let holds = level-holds g w heads s in
     let bounds = greatest-bounds g w.popped (settled w.region w.used) heads holds in
     let stores : start_stores g.descriptors w.region w.used ≡ [] =
-    rw (s.version, level-difference g w heads s) refl in
+    rw s.version (rw (eq-eqb w.region.used_idx w.used s.index) refl) in
     let P : List SplitStore → Type 0 = λ stores. Each (Sound g) w (map Region stores)
     × Runs g (all_done w (map Region stores)) (started w.region w.used) in
     subst P (sym stores)
@@ -536,8 +536,10 @@ start_from_ahead g w heads s =
     let s1 = ahead-mark g w heads s in
     let v2 : World = done v1 (Region (UsedIdx w.used)) in
     let s2 : Level g v2 heads = level-index g v1 heads s1.1 s1.0 in
+    let apart : w.region.used_idx ≡ w.used → ⊥ =
+    λ same. let one = ahead-difference g w heads s in let small = s.range in omega arith in
     let stores : start_stores g.descriptors w.region w.used ≡ InFlight h false ∷ UsedIdx w.used ∷ [] =
-    rw (s.version, ahead-difference g w heads s) refl in
+    rw s.version (rw (ne_eqb w.region.used_idx w.used apart) (rw (ahead-difference g w heads s) refl)) in
     let P : List SplitStore → Type 0 = λ stores. Each (Sound g) w (map Region stores)
     × Runs g (all_done w (map Region stores)) (started w.region w.used) in
     subst P (sym stores)

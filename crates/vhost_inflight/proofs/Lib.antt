@@ -1,2 +1,3 @@
 pub mod CrashLemmas
 pub mod EntryLemmas
+pub mod StartLemmas

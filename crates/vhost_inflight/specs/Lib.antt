@@ -1,4 +1,5 @@
 pub mod Split
+pub mod SplitBytes
 pub mod SplitCrash
 pub mod SplitStart
 pub mod Store

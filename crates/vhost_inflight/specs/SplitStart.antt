@@ -65,8 +65,7 @@ greatest entries = fold (λ most e. max most (if e.in_flight == 1 then e.counter
 abbrev pub start_stores : ℕ → SplitRegion → ℕ → List SplitStore
 start_stores descriptors r used =
     if r.version == 0 then DescNum descriptors ∷ UsedIdx used ∷ Version 1 ∷ [] else (
-    if difference used r.used_idx == 0 then [] else
-    map (λ head. InFlight head false) (returned r used) ++ UsedIdx used ∷ [])
+    if r.used_idx == used then [] else map (λ head. InFlight head false) (returned r used) ++ UsedIdx used ∷ [])
 
 -- what the back end keeps then
 abbrev pub started : SplitRegion → ℕ → SplitInFlight
