@@ -1,5 +1,5 @@
 -- Steps of a start: the batch that was returned, what is in flight, and its order.
-use Rattle.std.proofs.Common.{◌≡◌, ◌≢◌, ℕ, zero, suc, ◌+◌, ◌*◌, ◌-◌, ◌%◌, ◌^◌, ◌<◌, ◌≤◌, Bool, true, false, not, ◌&&◌, ◌||◌, cond, List, [], ◌∷◌, ◌++◌, length, get_or, set, refl, sym, ap, subst, ◌∙◌, ◌⊎◌, inl, inr, arith, length-append}
+use Rattle.std.proofs.Common.{◌≡◌, ◌≢◌, ℕ, zero, suc, ◌+◌, ◌*◌, ◌-◌, ◌%◌, ◌^◌, ◌<◌, ◌≤◌, Bool, true, false, not, ◌&&◌, ◌||◌, cond, List, [], ◌∷◌, ◌++◌, length, get_or, set, Some, None, refl, sym, ap, subst, ◌∙◌, ◌⊎◌, inl, inr, arith, length-append}
 use Rattle.std.proofs.lemmas.Bool.{and_parts, and_right, cases_Bool, cases_eq, cases_order, eq-eqb, eqb-true, le-leb, leb-false, leb-true, le-ltb, lt-leb, lt-ltb, ltb-true, ltb-false, ne_eqb, or_from, or_left, or_parts, or_right, both_ways}
 use Rattle.std.proofs.lemmas.List.Folds.{list_any-append}
 use Rattle.std.proofs.lemmas.List.Sums.{sum_by-cons, sum_by_push}
@@ -9,8 +9,11 @@ use Rattle.std.specs.List.{count_by, list_any, sum_by}
 use Rattle.std.specs.List.Sorted.{IsPermutation, IsSorted, IsSortedBy}
 use Rattle.std.specs.Ordering.{is_lt, nat_cmp, ordering_then}
 use Rattle.vhost_inflight.specs.Split.{changed, counter_of, entry_of, is_in_flight}
-use Rattle.vhost_inflight.specs.SplitStart.{IsInFlight, Rises, batch, is_among, rank}
+use Rattle.vhost_inflight.specs.SplitBytes.{region_with}
+use Rattle.vhost_inflight.specs.SplitStart.{IsInFlight, Rises, batch, difference, header_fault, is_among, rank, returned}
 use Rattle.vhost_inflight.specs.declared.split_region.SplitEntry.{SplitEntry}
+use Rattle.vhost_inflight.specs.declared.split_region.SplitHeader.{SplitHeader}
+use Rattle.vhost_inflight.specs.declared.split_start.StartError.TheVariants as refused
 
 -- ---- a batch
 
@@ -210,3 +213,31 @@ pairs_in_order es n before after len counts of moved sorted =
     at_most_one : (b : Bool) → one_if b ≤ 1
     at_most_one true = omega arith
     at_most_one false = omega arith
+
+-- ---- what was returned
+
+any_weaker : (size n : ℕ) (xs : List ℕ) → size ≤ n → list_any (λ h. nat_le size h) xs ≡ false
+    → list_any (λ h. nat_le n h) xs ≡ false
+any_weaker size n [] l none = refl
+any_weaker size n (x ∷ xs) l none =
+    let parts = or_parts (nat_le size x) (list_any (λ h. nat_le size h) xs) none in
+    let below = leb-false size x parts.0 in
+    or_from (nat_le n x) (list_any (λ h. nat_le n h) xs) (lt-leb n x (omega arith)) (any_weaker size n xs l parts.1)
+
+pub returned_ok : (h : SplitHeader) (es : List SplitEntry) (n size used : ℕ) (hs : List ℕ) → h.version ≡ 1
+    → h.desc_num ≡ n → difference used h.used_idx ≤ size → size ≤ length es
+    → hs ≡ batch es (difference used h.used_idx) h.last_batch_head → list_any (λ h. nat_le size h) hs ≡ false
+    → (hs ≡ returned (region_with h es) used) × (list_any (λ h. nat_le (length es) h) hs ≡ false)
+    × (header_fault n size (region_with h es) used ≡ None)
+returned_ok h es n size used hs version desc_num few fits is below =
+    let tests : list_any (λ h. nat_le size h) (batch es (difference used h.used_idx) h.last_batch_head) ≡ false =
+    ap (λ (hs : List ℕ). list_any (λ h. nat_le size h) hs) (sym is) ∙ below in
+    (rw version is, any_weaker size (length es) hs fits below,
+    rw version (rw (desc_num, eq-eqb n n refl) (rw (le-ltb size (difference used h.used_idx) few) (rw tests refl))))
+
+pub returned_err : (h : SplitHeader) (es : List SplitEntry) (n size used : ℕ) → h.version ≡ 1 → h.desc_num ≡ n
+    → difference used h.used_idx ≤ size
+    → list_any (λ h. nat_le size h) (batch es (difference used h.used_idx) h.last_batch_head) ≡ true
+    → header_fault n size (region_with h es) used ≡ Some refused.Head
+returned_err h es n size used version desc_num few tests =
+    rw version (rw (desc_num, eq-eqb n n refl) (rw (le-ltb size (difference used h.used_idx) few) (rw tests refl)))

@@ -1,11 +1,13 @@
 -- Where a split queue goes on, by what its region and its ring say.
-use Rattle.std.specs.Prelude.{◌≡◌, ℕ, zero, suc, ◌+◌, ◌*◌, ◌-◌, ◌%◌, ◌^◌, ◌<◌, Bool, true, false, not, ◌&&◌, ◌==◌, nat_le, nat_lt, max, if◌then◌else◌, List, [], ◌∷◌, ◌++◌, drop, map, fold, Option, Some, None}
+use Rattle.std.specs.Prelude.{◌≡◌, ℕ, zero, suc, ◌+◌, ◌*◌, ◌-◌, ◌%◌, ◌^◌, ◌<◌, Bool, true, false, not, ◌&&◌, ◌==◌, nat_le, nat_lt, max, if◌then◌else◌, List, [], ◌∷◌, ◌++◌, drop, length, map, fold, Option, Some, None}
 use Rattle.std.specs.List.{list_any}
-use Rattle.vhost_inflight.specs.Split.{SplitRegion, changed, counter_of, entry_of, is_in_flight}
+use Rattle.vhost_inflight.specs.Split.{SplitRegion, changed, counter_of, entry_of, entry_offset, is_in_flight}
+use Rattle.vhost_inflight.specs.SplitBytes.{region_of}
 use Rattle.vhost_inflight.specs.declared.split.SplitInFlight.{SplitInFlight}
 use Rattle.vhost_inflight.specs.declared.split.SplitStore.{SplitStore}
 use Rattle.vhost_inflight.specs.declared.split.SplitStore.TheVariants.{InFlight, UsedIdx, DescNum, Version}
 use Rattle.vhost_inflight.specs.declared.split_region.SplitEntry.{SplitEntry}
+use Rattle.vhost_inflight.specs.declared.split_start.SplitStart.{SplitStart}
 use Rattle.vhost_inflight.specs.declared.split_start.StartError.{StartError}
 use Rattle.vhost_inflight.specs.declared.split_start.StartError.TheVariants as refused
 
@@ -13,7 +15,7 @@ use Rattle.vhost_inflight.specs.declared.split_start.StartError.TheVariants as r
 
 -- how far the ring's used index is ahead of the region's
 abbrev pub difference : ℕ → ℕ → ℕ
-difference used used_idx = (used + 2 ^ 16 - used_idx) % 2 ^ 16
+difference used used_idx = (used + (2 ^ 16 - used_idx)) % 2 ^ 16
 
 -- as many heads of a batch, the last one first
 abbrev pub batch : List SplitEntry → ℕ → ℕ → List ℕ
@@ -80,12 +82,16 @@ header_fault descriptors size r used =
     if nat_lt size (difference used r.used_idx) then Some refused.TooManyReturned else (
     if list_any (λ head. nat_le size head) (returned r used) then Some refused.Head else None))))
 
--- what is wrong with the entries, as they are and once what was returned is in flight no longer
+-- what is wrong with the entries, once what was returned is in flight no longer
+abbrev pub settled_fault : ℕ → List SplitEntry → Option StartError
+settled_fault size entries =
+    if list_any (λ e. e.in_flight == 1) (drop size entries) then Some refused.Head else (
+    if list_any (λ e. e.in_flight == 1 && nat_le (2 ^ 63) e.counter) entries then Some refused.Counter else None)
+
+-- the same, and what is wrong with the entries before
 abbrev pub entries_fault : ℕ → List SplitEntry → List SplitEntry → Option StartError
 entries_fault size entries settled =
-    if list_any (λ e. nat_lt 1 e.in_flight) entries then Some refused.Mark else (
-    if list_any (λ e. e.in_flight == 1) (drop size settled) then Some refused.Head else (
-    if list_any (λ e. e.in_flight == 1 && nat_le (2 ^ 63) e.counter) settled then Some refused.Counter else None))
+    if list_any (λ e. nat_lt 1 e.in_flight) entries then Some refused.Mark else settled_fault size settled
 
 -- the first fault
 abbrev pub or_else : Option StartError → Option StartError → Option StartError
@@ -96,3 +102,17 @@ or_else (Some e) later = Some e
 abbrev pub fault : ℕ → ℕ → SplitRegion → ℕ → Option StartError
 fault descriptors size r used =
     or_else (header_fault descriptors size r used) (entries_fault size r.entries (settled r used))
+
+-- what is wrong with the bytes of a region
+abbrev pub start_fault : ℕ → ℕ → List ℕ → ℕ → Option StartError
+start_fault descriptors size bytes used =
+    if nat_lt (length bytes) (entry_offset descriptors) then Some refused.TooShort else (
+    if nat_lt descriptors size then Some refused.RingSize else
+    fault descriptors size (region_of descriptors bytes) used)
+
+-- where the queue goes on
+pub record Starts (descriptors : ℕ) (r : SplitRegion) (used : ℕ) (s : SplitStart) : Type 0 where
+  pub again : Flies r used s.again.items
+  pub next : s.next_avail ≡ (used + length s.again.items) % 2 ^ 16
+  pub stores : s.stores.items ≡ start_stores descriptors r used
+  pub kept : s.in_flight ≡ started r used

@@ -10,6 +10,6 @@ mod split_start;
 mod store;
 
 pub use split::{SplitInFlight, SplitStore};
-pub use split_region::SplitEntry;
-pub use split_start::StartError;
+pub use split_region::{SplitEntry, SplitHeader, split_region_len};
+pub use split_start::{SplitStart, StartError, start_split};
 pub use store::{Store, Value};

@@ -1,13 +1,13 @@
 //! Where a split queue goes on.
-ghost use Rattle.std.specs.Prelude.{◌≡◌, ◌⊎◌, ◌^◌, ◌≤◌, ◌&&◌, ◌==◌, false, nat_le, nat_lt, true, IfErr, IfOk, List, None, Some, length, map};
+ghost use Rattle.std.specs.Prelude.{◌≡◌, ◌⊎◌, ◌^◌, ◌≤◌, ◌&&◌, ◌==◌, false, nat_le, nat_lt, true, IfErr, IfOk, List, None, OnOk, Some, length, map};
 ghost use Rattle.std.specs.List.{list_any};
-ghost use Rattle.vhost_inflight.specs.SplitBytes.{region_with};
-ghost use Rattle.vhost_inflight.specs.SplitStart.{IsInFlight, batch, cleared, greatest, header_fault, returned};
-ghost use Rattle.vhost_inflight.specs.SplitStart.{start_stores};
+ghost use Rattle.vhost_inflight.specs.SplitBytes.{region_of, region_with};
+ghost use Rattle.vhost_inflight.specs.SplitStart.{IsInFlight, Starts, batch, cleared, fault, greatest, header_fault};
+ghost use Rattle.vhost_inflight.specs.SplitStart.{returned, settled_fault, start_fault, start_stores};
 ghost use Rattle.vhost_inflight.specs.declared.split_region.SplitEntry.{SplitEntry};
 
 use crate::split::{SplitInFlight, SplitStore};
-use crate::split_region::{SplitEntry, SplitHeader};
+use crate::split_region::{ENTRY_LEN, HEADER_LEN, SplitEntry, SplitHeader, entries_in, header_in};
 use std::alloc::{AllocError, Global};
 use thiserror::Error;
 
@@ -105,7 +105,7 @@ fn returned(
 ) -> Result<Vec<u16>, StartError>
     requires { size ≤ length entries.now }
     ensures ok { IfOk result (λ heads. (heads.items ≡ returned (region_with header entries.now) used_idx)
-        × (list_any (λ h. nat_le size h) heads.items ≡ false)
+        × (list_any (λ h. nat_le (length entries.now) h) heads.items ≡ false)
         × (header_fault descriptors size (region_with header entries.now) used_idx ≡ None)) }
     ensures err { IfErr result (λ e. (e ≡ StartError.Memory)
         ⊎ (header_fault descriptors size (region_with header entries.now) used_idx ≡ Some e)) }
@@ -218,4 +218,84 @@ fn start_stores(
     }
     stores.push(SplitStore::UsedIdx(used_idx))?;
     Ok(stores)
+}
+
+// What is wrong with the entries, once what was returned is in flight no longer.
+fn settled_fault(entries: &[SplitEntry], size: u16) -> Option<StartError>
+    requires { size ≤ length entries.now }
+    ensures { result ≡ settled_fault size entries.now }
+{
+    if has_in_flight(&entries[size as usize..]) {
+        return Some(StartError::Head);
+    }
+    if has_bad_count(entries) {
+        return Some(StartError::Counter);
+    }
+    None
+}
+
+// The same as `start_split`, by what the region says.
+fn start_from(
+    alloc: Global,
+    header: SplitHeader,
+    mut entries: Vec<SplitEntry>,
+    descriptors: u16,
+    size: u16,
+    used_idx: u16,
+) -> Result<SplitStart, StartError>
+    requires len { length entries.items ≡ descriptors }
+    requires fits { size ≤ descriptors }
+    ensures ok { IfOk result (Starts descriptors (region_with header entries.items) used_idx) }
+    ensures sound { OnOk result (fault descriptors size (region_with header entries.items) used_idx ≡ None) }
+    ensures err { IfErr result (λ e. (e ≡ StartError.Memory)
+        ⊎ (fault descriptors size (region_with header entries.items) used_idx ≡ Some e)) }
+{
+    let heads = returned(alloc, header, &entries, descriptors, size, used_idx)?;
+    if has_bad_mark(&entries) {
+        return Err(StartError::Mark);
+    }
+    clear(&mut entries, &heads);
+    if let Some(error) = settled_fault(&entries, size) {
+        return Err(error);
+    }
+    let again = in_order(alloc, &entries, descriptors)?;
+    let stores = start_stores(alloc, header, &heads, descriptors, used_idx)?;
+    let next_avail = used_idx.wrapping_add(again.len() as u16);
+    let in_flight = SplitInFlight::new(header.last_batch_head, greatest(&entries));
+    Ok(SplitStart {
+        in_flight,
+        again,
+        next_avail,
+        stores,
+    })
+}
+
+/// Where a queue goes on, by a copy of its region and the ring's used index: which chains to serve again, what the next
+/// available index is, and what to store to the region first. The region was made for `descriptors`, and the ring has
+/// `size` of them. A fresh region is taken as one that says nothing was returned.
+///
+/// It may be called again after a crash, also one among its stores. A region that nobody could have written is refused,
+/// and whatever it says, no head is outside of the ring.
+pub fn start_split(
+    alloc: Global,
+    bytes: &[u8],
+    descriptors: u16,
+    size: u16,
+    used_idx: u16,
+) -> Result<SplitStart, StartError>
+    ensures ok { IfOk result (Starts descriptors (region_of descriptors bytes.now) used_idx) }
+    ensures sound { OnOk result (start_fault descriptors size bytes.now used_idx ≡ None) }
+    // It gives up only for want of memory, or for the fault.
+    ensures err { IfErr result (λ e. (e ≡ StartError.Memory)
+        ⊎ (start_fault descriptors size bytes.now used_idx ≡ Some e)) }
+{
+    if bytes.len() < HEADER_LEN + ENTRY_LEN * descriptors as usize {
+        return Err(StartError::TooShort);
+    }
+    if descriptors < size {
+        return Err(StartError::RingSize);
+    }
+    let header = header_in(bytes);
+    let entries = entries_in(alloc, bytes, descriptors)?;
+    start_from(alloc, header, entries, descriptors, size, used_idx)
 }
