@@ -4,7 +4,7 @@ use Rattle.vm_memory_guest.specs.Host.{Host}
 use Rattle.vm_memory_guest.specs.Memory.{Memory}
 use Rattle.virtio_queue.specs.Descriptor.{has_flag}
 use Rattle.virtio_queue.specs.Fields.{Answers, word_at}
-use Rattle.virtio_queue.specs.Looks.{MayWantAny, gives, takes, word}
+use Rattle.virtio_queue.specs.Looks.{MayWantAny, answer, gives, takes, word}
 use Rattle.virtio_queue.specs.Notification as split
 use Rattle.virtio_queue.specs.Notification.{is_among, needing, wanting}
 use Rattle.virtio_queue.specs.Packed as packed
@@ -17,7 +17,7 @@ use Rattle.virtio_queue.specs.declared.error.QueueError.{QueueError}
 use Rattle.virtio_queue.specs.declared.error.QueueError.TheVariants as errors
 use Rattle.virtio_queue.specs.declared.packed.state.PackedState.{PackedState}
 use Rattle.virtio_queue.specs.declared.state.QueueState.{QueueState}
-use Rattle.virtio_queue.proofs.StillLemmas.{answer, same_then}
+use Rattle.virtio_queue.proofs.StillLemmas.{same_then}
 
 module _ {B : Type 0} (m : Memory) (host : Host B) where
   -- notifications of split queues

@@ -3,6 +3,7 @@ use Rattle.std.proofs.Common.{◌≡◌, ◌∙◌, ℕ, suc, ◌+◌, ◌*◌, 
 use Rattle.vm_memory_device.specs.Chain.{chain_fault}
 use Rattle.vm_memory_device.specs.declared.chain.ChainFault.{ChainFault}
 use Rattle.vm_memory_device.specs.declared.chain.Segment.{Segment}
+use Rattle.virtio_queue.specs.Again.{chain_of_copies, segments_of}
 use Rattle.virtio_queue.specs.Available.{if_chain}
 use Rattle.virtio_queue.specs.Looks.{Follows, Given, Step, Tree, and_takes, gives, keeps, takes, row, word}
 use Rattle.virtio_queue.specs.Packed.{slot_after, slots_out}
@@ -140,6 +141,20 @@ module _ {S : Type 0} (look : S → (p : Step) → Result (Given p) QueueError �
     last_taken ss fault h is = then_follows look (last_after t.segments t.last) ends s new new ss
         (and_then (if_chain ss fault) (λ ss. Ok (record { id = t.last.id; slots = t.slots }, ss))) h
         (ap (λ f. and_then (if_chain ss f) (λ ss. Ok (record { id = t.last.id; slots = t.slots }, ss))) (sym is), refl)
+
+  -- a chain of descriptors that were kept
+  module _ (q : PackedState) (ds : List PackedDescriptor) (s new : S) (ready : q.ready ≡ true) where
+    abbrev checked : List Segment → Tree (List Segment)
+    checked ss = gives (if_chain ss (chain_fault ss))
+
+    pub copies_refused : (e : QueueError) → Follows look (segments_of ds) s (Err e) new
+        → Follows look (chain_of_copies q ds) s (Err e) new
+    copies_refused e h = rw ready (then_fails look (segments_of ds) checked s new e h)
+
+    pub copies_made : (ss : List Segment) (fault : Option ChainFault) → Follows look (segments_of ds) s (Ok ss) new
+        → chain_fault ss ≡ fault → Follows look (chain_of_copies q ds) s (if_chain ss fault) new
+    copies_made ss fault h is = rw ready (then_follows look (segments_of ds) checked s new new ss (if_chain ss fault) h
+        (ap (if_chain ss) (sym is), refl))
 
   module _ (q : PackedState) (flags : ℕ) (s : S) where
     abbrev first_ones : Tree Taken

@@ -6,7 +6,7 @@ use Rattle.vm_memory_guest.specs.Host.{Host}
 use Rattle.vm_memory_guest.specs.Memory.{Memory}
 use Rattle.virtio_queue.specs.Available.{if_chain, indirect_len}
 use Rattle.virtio_queue.specs.Fields.{Answers, descriptor_at, word_at}
-use Rattle.virtio_queue.specs.Looks.{MayWantAny, Tree, and_takes, gives, if_ok, keeps, takes, word}
+use Rattle.virtio_queue.specs.Looks.{MayWantAny, Tree, and_takes, answer, gives, if_ok, keeps, takes, word}
 use Rattle.virtio_queue.specs.Packed.{slot_after, slots_out}
 use Rattle.virtio_queue.specs.PackedPopping.{MayWantChain, Taken, chain_after, chain_known, chain_made, chain_taken, last_after, listing, popping, rows_after, with_known}
 use Rattle.virtio_queue.specs.PackedRing as held
@@ -19,7 +19,7 @@ use Rattle.virtio_queue.specs.declared.packed.descriptor.PackedDescriptor.{Packe
 use Rattle.virtio_queue.specs.declared.packed.state.PackedBuffer.{PackedBuffer}
 use Rattle.virtio_queue.specs.declared.packed.state.PackedState.{PackedState}
 use Rattle.virtio_queue.proofs.FlagLemmas.{flags_are, then_ok}
-use Rattle.virtio_queue.proofs.StillLemmas.{answer, answer_then}
+use Rattle.virtio_queue.proofs.StillLemmas.{answer_then}
 
 in_front_twice : (xs ys : List Segment) (r : Result (List Segment) QueueError)
     → in_front xs (in_front ys r) ≡ in_front (xs ++ ys) r

@@ -1,3 +1,4 @@
+pub mod Again
 pub mod Any
 pub mod Available
 pub mod Descriptor

@@ -8,6 +8,7 @@ use Rattle.vm_memory_guest.specs.Memory.{Memory}
 use Rattle.vm_memory_guest.specs.Walk.{NeedsPieces}
 use Rattle.vm_memory_guest.specs.Window.{Window, window_names}
 use Rattle.virtio_queue.specs.Fields.{Answers, MayWant, StoresWord, WritesBytes, descriptor_at, is_word, room_at, stored_at, window_at, word_at}
+use Rattle.virtio_queue.specs.Rings.{and_then}
 use Rattle.virtio_queue.specs.declared.descriptor.Descriptor.{Descriptor}
 use Rattle.virtio_queue.specs.declared.error.QueueError.{QueueError}
 use Rattle.virtio_queue.specs.declared.error.QueueError.TheVariants as errors
@@ -102,6 +103,20 @@ Finds m host (room base offset n) given =
 Finds m host (spot access base offset) given =
     Answers (MayWant m host base offset 2 access) (window_at m host base offset access) given
 Finds m host s given = ⊥
+
+-- what looks and look-ups find, and what is made of that
+module _ {B : Type 0} (m : Memory) (host : Host B) where
+  abbrev pub found_in : (s : Step) → Result (Given s) QueueError
+  found_in (word base offset) = word_at m host base offset
+  found_in (row table i) = descriptor_at m host table i
+  found_in (room base offset n) = room_at m host base offset n
+  found_in (spot access base offset) = window_at m host base offset access
+  found_in s = Err errors.Memory
+
+  abbrev pub answer : {T : Type 0} → Tree T → Result T QueueError
+  answer (gives r) = r
+  answer (takes s k) = and_then (found_in s) (λ v. answer (k v))
+  answer (keeps t) = answer t
 
 -- what other steps do: what was stored lies there
 abbrev pub Takes : {B : Type 0} → (B → ℕ → ℕ → B → Type 0) → Memory → Host B → (s : Step)

@@ -1,18 +1,19 @@
 //! Queues of either kind.
 ghost use Rattle.std.specs.Prelude.{◌≡◌, None, Ok, false, OnOk};
 ghost use Rattle.vm_memory_guest.specs.Host.{shape_of, Holds};
+ghost use Rattle.virtio_queue.specs.Again.{again};
 ghost use Rattle.virtio_queue.specs.Any.{AddsUsed, Disables, Enables, HasNone, MayWantChain, MayWantNeeds};
 ghost use Rattle.virtio_queue.specs.Any.{MayWantValid, Offers, Waits, after_asked, after_pop, after_used, asking};
 ghost use Rattle.virtio_queue.specs.Any.{at_next, disabling, enabling, has_event_idx, max_size_of, needs_notification};
 ghost use Rattle.virtio_queue.specs.Any.{next_avail_of, past, popped, popping, returning, unset, valid, with_event_idx};
 ghost use Rattle.virtio_queue.specs.Any.{with_ready};
 ghost use Rattle.virtio_queue.specs.Fields.{Answers};
-ghost use Rattle.virtio_queue.specs.Looks.{Follows};
+ghost use Rattle.virtio_queue.specs.Looks.{Follows, MayWantAny, answer};
 ghost use Rattle.virtio_queue.specs.declared.packed.state.PackedBuffer.{PackedBuffer};
 
 use crate::error::QueueError;
 use crate::looks::Looks;
-use crate::packed::{PackedBuffer, PackedQueue, RingPosition};
+use crate::packed::{PackedBuffer, PackedDescriptor, PackedQueue, RingPosition};
 use crate::queue::Queue;
 use crate::stores::Stores;
 use std::alloc::Global;
@@ -171,6 +172,45 @@ impl AnyQueue {
                 Err(error) => Err(error),
             },
             AnyQueue::Packed(queue) => queue.pop_from(alloc, list, looks),
+        }
+    }
+
+    /// A chain that was popped before the device was started again, and not returned: that of a head, if the queue is
+    /// split, and that of these descriptors, as they lay in the ring, if it is packed. The queue's place stays. The
+    /// chain takes the list, and leaves an empty one.
+    pub fn chain_again<M: GuestMemory, B: Bitmap>(
+        &self,
+        alloc: Global,
+        list: &mut Vec<Segment>,
+        mem: &M,
+        host: &HostMemory<B>,
+        head: u16,
+        descriptors: &[PackedDescriptor],
+    ) -> Result<Chain, QueueError>
+        requires { Holds (shape_of host.now) (M.names mem.now) }
+        ensures { let m = M.memory mem.now in let t = again self.now head descriptors.now in
+            Answers (MayWantAny m host.now t) (answer m host.now t) result }
+    {
+        match self {
+            AnyQueue::Split(queue) => queue.chain_of_head(alloc, list, mem, host, head),
+            AnyQueue::Packed(queue) => queue.chain_of_copies(alloc, list, mem, host, descriptors),
+        }
+    }
+
+    /// As `chain_again`, from memory that a driver may write meanwhile.
+    pub fn chain_again_from<L: Looks>(
+        &self,
+        alloc: Global,
+        list: &mut Vec<Segment>,
+        looks: &mut L,
+        head: u16,
+        descriptors: &[PackedDescriptor],
+    ) -> Result<Chain, QueueError>
+        ensures { Follows L.looks (again self.now head descriptors.now) looks.old result looks.new }
+    {
+        match self {
+            AnyQueue::Split(queue) => queue.chain_of_head_from(alloc, list, looks, head),
+            AnyQueue::Packed(queue) => queue.chain_of_copies_from(alloc, list, looks, descriptors),
         }
     }
 

@@ -4,6 +4,7 @@ ghost use Rattle.std.specs.Prelude.{MatchResult};
 ghost use Rattle.virtio_queue.specs.Packed.{are_positions, at_base, base_of, is_packed_size, new_queue, new_state};
 ghost use Rattle.virtio_queue.specs.Packed.{set_if, state_error, with_next_avail, with_size, with_state};
 
+mod again;
 mod available;
 mod chain;
 mod descriptor;

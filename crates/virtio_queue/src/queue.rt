@@ -4,6 +4,7 @@ ghost use Rattle.std.specs.Prelude.{MatchResult};
 ghost use Rattle.virtio_queue.specs.Rings.{before};
 ghost use Rattle.virtio_queue.specs.State.{is_size, new_queue, new_state, set_if, state_error, with_state};
 
+mod again;
 mod available;
 mod barrier;
 mod notification;

@@ -108,7 +108,7 @@ fn add_rows<L: Looks>(
 }
 
 // Adds the segments of the last descriptor of a chain: its own, or those of its table.
-fn add_last<L: Looks>(
+pub(super) fn add_last<L: Looks>(
     looks: &mut L,
     last: &PackedDescriptor,
     segments: &mut Vec<Segment>,
