@@ -14,7 +14,9 @@ enum {
     GET_VRING_BASE = 11,
     SET_VRING_KICK = 12,
     SET_PROTOCOL_FEATURES = 16,
-    GET_CONFIG = 24
+    GET_CONFIG = 24,
+    GET_INFLIGHT_FD = 31,
+    SET_INFLIGHT_FD = 32
 };
 
 /* The address of the front end's memory. The guest sees 64 KiB of it, from 1 MiB on. */
@@ -291,8 +293,44 @@ static int logged(void) {
     return state.features == 1ull << 26 && state.protocol_features == 1 << 1 && state.queues == 2 ? 0 : 95;
 }
 
+/* A region of what is in flight for 2 rings of 128 descriptors: 16 bytes and 16 for each, rounded up to 2,112 by 64. */
+static int in_flight(void) {
+    vmm_vhost_offer offer = {1ull << 30, 1 << 12, 2, 256, 0, 0};
+    vmm_vhost_close(&connection);
+    if (vmm_vhost_open(&connection, &offer, reply, 0) != VMM_DONE) {
+        return 100;
+    }
+    begin(SET_PROTOCOL_FEATURES, 8);
+    put(1 << 12, 8);
+    if (handle(0) != VMM_DONE) {
+        return 101;
+    }
+    begin(GET_INFLIGHT_FD, 20);
+    put(0, 8);
+    put(0, 8);
+    put(2, 2);
+    put(128, 2);
+    if (handle(0) != VMM_DONE || request.index != 2 || request.queue_size != 128 || request.size != 0) {
+        return 102;
+    }
+    if (replied(32) != (128ull << 48 | 2ull << 32) || reply[12] != 0x80 || reply[13] != 0x10) {
+        return 103;
+    }
+    begin(SET_INFLIGHT_FD, 24);
+    put(4224, 8);
+    put(0x5000, 8);
+    put(2, 2);
+    put(128, 6);
+    if (handle(1) != VMM_DONE || request.index != 2 || request.queue_size != 128 || request.value != 0x5000 ||
+        request.size != 4224) {
+        return 104;
+    }
+    message[12] = 0x7f;
+    return handle(1) == VMM_VHOST_REGION_RANGE && request.size == 4224 ? 0 : 105;
+}
+
 int main(void) {
-    int (*const tests[])(void) = {opened, features, memory, ring, refused, changed, asked, answers, logged};
+    int (*const tests[])(void) = {opened, features, memory, ring, refused, changed, asked, answers, logged, in_flight};
     for (size_t i = 0; i < sizeof tests / sizeof *tests; i++) {
         int failed = tests[i]();
         if (failed) {

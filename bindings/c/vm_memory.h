@@ -718,9 +718,10 @@ typedef struct vmm_vhost_wanted_bytes {
 /* What a message asks for, by the number of its request. Fields that the request does not name are 0. `index` is the
  * ring. `flag` is 1 if a descriptor came (KICK, CALL, ERR), if the ring is enabled (ENABLE), or if it is for a
  * migration (GET_CONFIG, SET_CONFIG). `value` is the number of a SET_VRING_NUM or SET_VRING_BASE, the bits of features,
- * or where a part of the configuration or a log begins, and `size` how many bytes that has. */
+ * or where a part of the configuration, a log or a region of what is in flight begins, and `size` how many bytes that
+ * has. Such a region (GET_INFLIGHT_FD, SET_INFLIGHT_FD) is for `index` rings of at most `queue_size` descriptors. */
 typedef struct vmm_vhost_request {
-    uint32_t request, index, flag;
+    uint32_t request, index, flag, queue_size;
     uint64_t value, size;
 } vmm_vhost_request;
 

@@ -18,6 +18,8 @@
 //! # Ok::<(), Box<dyn std::error::Error>>(())
 //! ```
 
+pub(crate) mod raw;
+
 use crate::ffi::{vhost_access_fail, vhost_answered, vhost_config_change, vhost_miss, vhost_wanted, Connection};
 use crate::machine::Permissions;
 use crate::raw::code;
@@ -102,6 +104,19 @@ pub struct ConfigSpace {
     pub is_migration: bool,
 }
 
+/// A region in which a back end keeps which requests of each ring are in flight.
+#[derive(Clone, Copy, Debug, PartialEq, Eq)]
+pub struct Inflight {
+    /// How many bytes it has. A GET_INFLIGHT_FD does not say so.
+    pub mmap_size: u64,
+    /// The place of its first byte in its file. A GET_INFLIGHT_FD does not say so.
+    pub mmap_offset: u64,
+    /// How many rings it is for.
+    pub num_queues: u16,
+    /// How many descriptors each of them has at most.
+    pub queue_size: u16,
+}
+
 /// What a message asks for. All of it that is part of the connection's state is there already.
 #[derive(Clone, Copy, Debug, PartialEq, Eq)]
 #[allow(missing_docs)]
@@ -161,6 +176,10 @@ pub enum Request {
     GetConfig(ConfigSpace),
     /// The bytes are those of the payload after the first 12.
     SetConfig(ConfigSpace),
+    /// The reply has a region of this shape. The descriptor of its file is sent with it.
+    GetInflightFd(Inflight),
+    /// What is in flight is in this region of the file whose descriptor came.
+    SetInflightFd(Inflight),
 }
 
 /// How one end of a ring notifies the other.
@@ -222,7 +241,7 @@ pub enum Refusal {
     NotNegotiated,
     /// Features that were not offered.
     Features,
-    /// There is no ring of this number.
+    /// There is no ring of this number, or there are not so many.
     Index,
     /// A ring has a descriptor, and no more of them than were offered.
     QueueSize,
@@ -234,7 +253,7 @@ pub enum Refusal {
     Alignment,
     /// This must not change while a ring is started.
     Started,
-    /// A region has no bytes, or passes the last address.
+    /// A region has no bytes or too few, or passes the last address.
     RegionRange,
     /// Two regions have guest addresses in common.
     RegionOverlap,
@@ -350,50 +369,18 @@ impl fmt::Display for Refusal {
 
 impl error::Error for Refusal {}
 
-/// What crosses to the library and back.
-pub(crate) mod raw {
-    #[repr(C)]
-    #[derive(Clone, Copy, Default)]
-    pub(crate) struct Request {
-        pub(crate) request: u32,
-        pub(crate) index: u32,
-        pub(crate) flag: u32,
-        pub(crate) value: u64,
-        pub(crate) size: u64,
-    }
-
-    #[repr(C)]
-    #[derive(Clone, Copy, Default)]
-    pub(crate) struct Vring {
-        pub(crate) size: u32,
-        pub(crate) base: u32,
-        pub(crate) descriptor: u64,
-        pub(crate) available: u64,
-        pub(crate) used: u64,
-        pub(crate) used_len: u64,
-        pub(crate) log: u64,
-        pub(crate) is_logged: u32,
-        pub(crate) kick: u32,
-        pub(crate) call: u32,
-    }
-
-    #[repr(C)]
-    #[derive(Clone, Copy, Default)]
-    pub(crate) struct Negotiated {
-        pub(crate) features: u64,
-        pub(crate) protocol_features: u64,
-        pub(crate) queues: usize,
-        pub(crate) regions: usize,
-        pub(crate) is_owned: u32,
-    }
-}
-
 fn request_of(raw: &raw::Request) -> Request {
     let (index, is_set) = (raw.index, raw.flag == 1);
     let space = ConfigSpace {
         offset: raw.value as u32,
         size: raw.size as u32,
         is_migration: is_set,
+    };
+    let region = Inflight {
+        mmap_size: raw.size,
+        mmap_offset: raw.value,
+        num_queues: raw.index as u16,
+        queue_size: raw.queue_size as u16,
     };
     match raw.request {
         1 => Request::GetFeatures,
@@ -436,6 +423,8 @@ fn request_of(raw: &raw::Request) -> Request {
         22 => Request::IotlbMsg,
         24 => Request::GetConfig(space),
         25 => Request::SetConfig(space),
+        31 => Request::GetInflightFd(region),
+        32 => Request::SetInflightFd(region),
         number => unreachable!("the library takes no request of the number {number}"),
     }
 }

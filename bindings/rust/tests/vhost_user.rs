@@ -772,7 +772,7 @@ fn an_offer_has_bounds() {
             protocol_features: 1 << bit,
             ..OFFER
         };
-        let is_known = [0, 1, 3, 5, 9].contains(&bit);
+        let is_known = [0, 1, 3, 5, 9, 12].contains(&bit);
         assert_eq!(make(offer, 1), (!is_known).then_some(Refusal::Offer), "{bit}");
     }
 }

@@ -10,7 +10,7 @@ use vm_memory_proved::vhost_user::{wanted, Backend, Offer, Refusal, Request, MAX
 
 // Of each connection a part is offered.
 const FEATURES: u64 = FLUSH | LOG_ALL | INDIRECT_DESC | EVENT_IDX | PROTOCOL_FEATURES | VERSION_1 | ACCESS_PLATFORM;
-const PROTOCOL: u64 = MQ | LOG_SHMFD | REPLY_ACK | BACKEND_REQ | CONFIG;
+const PROTOCOL: u64 = MQ | LOG_SHMFD | REPLY_ACK | BACKEND_REQ | CONFIG | INFLIGHT_SHMFD;
 
 // How many bytes of configuration there are.
 const CONFIGURATION: usize = 36;
@@ -21,7 +21,7 @@ const USER: u64 = 0x7f00_0000_0000;
 // As many messages as are made.
 const MESSAGES: usize = 1_000_000;
 
-const REQUESTS: [u32; 22] = [
+const REQUESTS: [u32; 24] = [
     GET_FEATURES,
     SET_FEATURES,
     SET_OWNER,
@@ -44,6 +44,8 @@ const REQUESTS: [u32; 22] = [
     IOTLB_MSG,
     GET_CONFIG,
     SET_CONFIG,
+    GET_INFLIGHT_FD,
+    SET_INFLIGHT_FD,
 ];
 
 fn one_of<T: Copy>(numbers: &mut Numbers, all: &[T]) -> T {
@@ -124,6 +126,17 @@ fn payload(numbers: &mut Numbers, request: u32, offer: &Offer) -> (Vec<u8>, usiz
             let (offset, flags) = (numbers.below(40) as u32, one_of(numbers, &[0, 0, 0, 1, 2]));
             let bytes: Vec<u8> = (0..numbers.below(36)).map(|_| numbers.any() as u8).collect();
             (config(offset, flags, &bytes), 0)
+        }
+        GET_INFLIGHT_FD | SET_INFLIGHT_FD => {
+            let (rings, size) = (
+                one_of(numbers, &[1, 1, 1, 2, 0]),
+                one_of(numbers, &[16, 128, 1024, 0, 1025]),
+            );
+            let len = one_of(numbers, &[320, 576, 2112, 4160, 8320, 16448, 65600, u64::MAX]);
+            let offset = one_of(numbers, &[0, 0, 0, 4096, u64::MAX - 320]);
+            let mut bytes = inflight(len - one_of(numbers, &[0, 0, 0, 1]), offset, rings, size);
+            bytes.resize(one_of(numbers, &[20, 24, 24, 24, 22]), numbers.any() as u8);
+            (bytes, usize::from(request == SET_INFLIGHT_FD))
         }
         _ => (Vec::new(), 0),
     }

@@ -1,11 +1,12 @@
 //! Connections, row by row: what each message asks for or why it is refused, and what the reply is.
 
+use crate::inflight_rows::{self, PACKED, SPLIT};
 use crate::rows::{BOOT, CONFIG, END, FEATURES, IOMMU, LOGGING, PROTOCOL_FEATURES, Part, REFUSED};
 use std::alloc::Global;
 use std::test::Fail;
 use test_text::expect_text;
-use vhost_message::{FrontendReq, Header, Incoming, MemoryRegion, Refusal};
-use vhost_user::{BackendReqHandler, Offer};
+use vhost_message::{FrontendReq, Header, Incoming, MemoryRegion, Refusal, VhostUserInflight};
+use vhost_user::{BackendReqHandler, Offer, VIRTIO_F_RING_PACKED};
 
 // Where a ring that is stopped goes on.
 const BASE: u32 = 5;
@@ -103,6 +104,32 @@ fn messages_are_done_or_refused(rt: HostRuntime) -> Result<(), Fail> {
     }
     let mut handler = BackendReqHandler::new(alloc, OFFER, 2, &CONFIG)?;
     expect_part(alloc, &mut handler, &IOMMU)
+}
+
+// The last accepted region is kept, whatever is refused after it.
+#[test]
+fn regions_of_what_is_in_flight_are_shared(rt: HostRuntime) -> Result<(), Fail> {
+    let alloc = rt.alloc();
+    let offer = Offer {
+        features: FEATURES | VIRTIO_F_RING_PACKED,
+        protocol_features: inflight_rows::PROTOCOL_FEATURES,
+        ..OFFER
+    };
+    let mut handler = BackendReqHandler::new(alloc, offer, 2, &CONFIG)?;
+    assert!(rt; handler.inflight().is_none());
+    expect_part(alloc, &mut handler, &SPLIT)?;
+    let mut region = VhostUserInflight {
+        mmap_size: 8192,
+        mmap_offset: 4096,
+        num_queues: 2,
+        queue_size: 128,
+    };
+    assert!(rt; handler.inflight() == Some(region));
+    expect_part(alloc, &mut handler, &PACKED)?;
+    region.mmap_size = 8320;
+    region.mmap_offset = u64::MAX - 8320;
+    assert!(rt; handler.inflight() == Some(region));
+    Ok(())
 }
 
 // Feeds a piece, and adds each message that is whole, and a line break.

@@ -4,6 +4,8 @@
 #[cfg(test)]
 mod connections;
 #[cfg(test)]
+mod inflight_rows;
+#[cfg(test)]
 mod rows;
 #[cfg(test)]
 mod witnesses;

@@ -2,7 +2,8 @@
 use Rattle.std.specs.Prelude.{ℕ, Bool, true, false, length, Option, Some, None}
 use Rattle.vhost_message.specs.declared.frontend_req.ConfigSpace.{ConfigSpace}
 use Rattle.vhost_message.specs.declared.frontend_req.FrontendReq.{FrontendReq}
-use Rattle.vhost_message.specs.declared.frontend_req.FrontendReq.TheVariants.{SetFeatures, SetProtocolFeatures, SetLogBase, SetVringNum, SetVringAddr, SetVringBase, GetVringBase, SetVringKick, SetVringCall, SetVringErr, SetVringEnable, GetConfig, SetConfig}
+use Rattle.vhost_message.specs.declared.frontend_req.FrontendReq.TheVariants.{SetFeatures, SetProtocolFeatures, SetLogBase, SetVringNum, SetVringAddr, SetVringBase, GetVringBase, SetVringKick, SetVringCall, SetVringErr, SetVringEnable, GetConfig, SetConfig, GetInflightFd, SetInflightFd}
+use Rattle.vhost_message.specs.declared.frontend_req.VhostUserInflight.{VhostUserInflight}
 use Rattle.vhost_message.specs.declared.regions.MemoryRegion.{MemoryRegion}
 use Rattle.vhost_user.specs.Connection.{Connection}
 use Rattle.vhost_user.specs.declared.backend_req_handler.Offer.{Offer}
@@ -33,7 +34,7 @@ number_of_bool false = 0
 -- ---- requests
 
 abbrev pub no_request : ℕ → VhostRequest
-no_request request = record { request = request; index = 0; flag = 0; value = 0; size = 0 }
+no_request request = record { request = request; index = 0; flag = 0; queue_size = 0; value = 0; size = 0 }
 
 abbrev pub valued : ℕ → ℕ → VhostRequest
 valued request value = record (no_request request) { value = value }
@@ -46,6 +47,14 @@ switched request index on = record (no_request request) { index = index; flag = 
 
 abbrev pub on_config : ℕ → ConfigSpace → VhostRequest
 on_config request c = record (no_request request) { flag = c.flags; value = c.offset; size = c.size }
+
+abbrev pub on_inflight : ℕ → VhostUserInflight → VhostRequest
+on_inflight request r = record (no_request request) {
+  index = r.num_queues;
+  queue_size = r.queue_size;
+  value = r.mmap_offset;
+  size = r.mmap_size;
+}
 
 -- what a request of this number asks for
 abbrev pub asked_by : ℕ → FrontendReq → VhostRequest
@@ -62,6 +71,8 @@ asked_by n (SetVringErr index descriptor) = switched n index descriptor
 asked_by n (SetVringEnable index enable) = switched n index enable
 asked_by n (GetConfig space) = on_config n space
 asked_by n (SetConfig space) = on_config n space
+asked_by n (GetInflightFd region) = on_inflight n region
+asked_by n (SetInflightFd region) = on_inflight n region
 asked_by n request = no_request n
 
 -- ---- memory and rings

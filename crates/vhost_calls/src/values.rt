@@ -1,11 +1,12 @@
 //! What crosses to C, as plain numbers.
 ghost use Rattle.std.specs.Prelude.{◌≡◌};
 ghost use Rattle.vhost_calls.specs.Values.{asked_by, connection_state, no_request, number_of_notifier, offer_of};
-ghost use Rattle.vhost_calls.specs.Values.{on_config, on_ring, pages_row, region_row, switched, valued, vring_row};
+ghost use Rattle.vhost_calls.specs.Values.{on_config, on_inflight, on_ring, pages_row, region_row, switched, valued};
+ghost use Rattle.vhost_calls.specs.Values.{vring_row};
 
 use vhost_user::{
     BackendReqHandler, ConfigSpace, FrontendReq, LogPages, MemoryRegion, Notifier, Offer,
-    RunningVring,
+    RunningVring, VhostUserInflight,
 };
 
 /// What a back end offers.
@@ -42,15 +43,17 @@ pub struct VhostWanted {
 pub struct VhostRequest {
     /// The number of the request.
     pub request: u32,
-    /// The ring that it names.
+    /// The ring that it names. Of a GET_INFLIGHT_FD or SET_INFLIGHT_FD how many rings there are in the region.
     pub index: u32,
     /// Of a KICK, CALL or ERR 1 if a descriptor came, of an ENABLE 1 if the ring is enabled, and of a GET_CONFIG or
     /// SET_CONFIG 1 if it is for a migration.
     pub flag: u32,
-    /// Of a SET_VRING_NUM or SET_VRING_BASE the number, of features the bits, of a configuration or a log the place of
-    /// the part's first byte.
+    /// Of a GET_INFLIGHT_FD or SET_INFLIGHT_FD how many descriptors a ring has at most.
+    pub queue_size: u32,
+    /// Of a SET_VRING_NUM or SET_VRING_BASE the number, of features the bits, of a configuration, a log or a region of
+    /// what is in flight the place of the part's first byte.
     pub value: u64,
-    /// How many bytes the part of the configuration or the log has.
+    /// How many bytes the part of the configuration, the log or the region has.
     pub size: u64,
 }
 
@@ -144,6 +147,7 @@ fn no_request(request: u32) -> VhostRequest
         request,
         index: 0,
         flag: 0,
+        queue_size: 0,
         value: 0,
         size: 0,
     }
@@ -193,6 +197,19 @@ fn on_config(request: u32, space: &ConfigSpace) -> VhostRequest
     }
 }
 
+// A request on a region of what is in flight.
+fn on_inflight(request: u32, region: &VhostUserInflight) -> VhostRequest
+    ensures { result ≡ on_inflight request region.now }
+{
+    VhostRequest {
+        index: region.num_queues as u32,
+        queue_size: region.queue_size as u32,
+        value: region.mmap_offset,
+        size: region.mmap_size,
+        ..no_request(request)
+    }
+}
+
 // What a request of this number asks for.
 pub(crate) fn asked_by(number: u32, request: &FrontendReq) -> VhostRequest
     ensures { result ≡ asked_by number request.now }
@@ -215,6 +232,8 @@ pub(crate) fn asked_by(number: u32, request: &FrontendReq) -> VhostRequest
         FrontendReq::SetVringEnable { index, enable } => switched(number, *index, *enable),
         FrontendReq::GetConfig(space) => on_config(number, space),
         FrontendReq::SetConfig(space) => on_config(number, space),
+        FrontendReq::GetInflightFd(region) => on_inflight(number, region),
+        FrontendReq::SetInflightFd(region) => on_inflight(number, region),
         _ => no_request(number),
     }
 }

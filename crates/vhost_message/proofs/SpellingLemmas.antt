@@ -1,20 +1,21 @@
 -- What a front end spells is read.
-use Rattle.std.proofs.Common.{◌≡◌, ℕ, zero, suc, ◌+◌, ◌*◌, ◌/◌, ◌%◌, ◌^◌, ◌<◌, ◌≤◌, Bool, true, false, cond, eqb, List, [], ◌∷◌, ◌++◌, length, take, drop, Result, Ok, Err, arith, refl, sym, ap, ◌∙◌}
-use Rattle.std.specs.Prelude.{nat_le, nat_lt, ◌&&◌, is_ok}
-use Rattle.std.specs.Int.{w32, w64, from_le_bytes, to_le_bytes}
+use Rattle.std.proofs.Common.{◌≡◌, ◌⊎◌, inl, inr, ℕ, zero, suc, ◌+◌, ◌*◌, ◌/◌, ◌%◌, ◌^◌, ◌<◌, ◌≤◌, Bool, true, false, cond, eqb, List, [], ◌∷◌, ◌++◌, length, take, drop, Result, Ok, Err, arith, refl, sym, ap, ◌∙◌}
+use Rattle.std.specs.Prelude.{nat_le, nat_lt, ◌&&◌, ◌||◌, is_ok}
+use Rattle.std.specs.Int.{w16, w32, w64, from_le_bytes, to_le_bytes}
 use Rattle.std.proofs.lemmas.Bool.{cond-false, cond-true, eq-eqb, le-leb, le-ltb, lt-ltb, ne_eqb}
 use Rattle.std.proofs.lemmas.List.{drop-drop, length-append, length-drop}
-use Rattle.std.proofs.lemmas.Nat.{from_le_bytes-to_le_bytes_4, from_le_bytes-to_le_bytes_8}
+use Rattle.std.proofs.lemmas.Nat.{from_le_bytes-to_le_bytes_2, from_le_bytes-to_le_bytes_4, from_le_bytes-to_le_bytes_8}
 use Rattle.vhost_message.specs.BackendReq.{flags_of}
-use Rattle.vhost_message.specs.FrontendReq.{◌>>=◌, config_in, enabling_in, has_descriptor, iotlb_in, of_front, request_in, request_of, ring_in, vring_addr_in, vring_request_in}
+use Rattle.vhost_message.specs.FrontendReq.{◌>>=◌, config_in, enabling_in, has_descriptor, inflight_in, iotlb_in, of_front, request_in, request_of, ring_in, vring_addr_in, vring_request_in}
 use Rattle.vhost_message.specs.Iotlb.{fields_in, fields_of, payload_bytes}
 use Rattle.vhost_message.specs.Numbers.{number, word}
 use Rattle.vhost_message.specs.Regions.{no_region, region_at, region_or_none, table_in}
 use Rattle.vhost_message.specs.Requests.{expected, of_shape, shape_of}
-use Rattle.vhost_message.specs.Spelling.{AreNumbers, AreRegions, IsAddress, IsOfFront, IsRequest, IsSpace, address_bytes, header_of, notifier_bytes, pair_bytes, payload_of, region_bytes, regions_bytes, space_bytes, switch}
+use Rattle.vhost_message.specs.Spelling.{AreNumbers, AreRegions, IsAddress, IsInflight, IsOfFront, IsRequest, IsSpace, address_bytes, header_of, inflight_bytes, notifier_bytes, pair_bytes, payload_of, region_bytes, regions_bytes, space_bytes, switch}
 use Rattle.vhost_message.specs.declared.frontend_req.ConfigSpace.{ConfigSpace}
 use Rattle.vhost_message.specs.declared.frontend_req.FrontendReq.{FrontendReq}
-use Rattle.vhost_message.specs.declared.frontend_req.FrontendReq.TheVariants.{GetFeatures, SetFeatures, SetOwner, ResetOwner, SetMemTable, SetLogBase, SetLogFd, SetVringNum, SetVringAddr, SetVringBase, GetVringBase, SetVringKick, SetVringCall, SetVringErr, GetProtocolFeatures, SetProtocolFeatures, GetQueueNum, SetVringEnable, SetBackendReqFd, IotlbMsg, GetConfig, SetConfig}
+use Rattle.vhost_message.specs.declared.frontend_req.FrontendReq.TheVariants.{GetFeatures, SetFeatures, SetOwner, ResetOwner, SetMemTable, SetLogBase, SetLogFd, SetVringNum, SetVringAddr, SetVringBase, GetVringBase, SetVringKick, SetVringCall, SetVringErr, GetProtocolFeatures, SetProtocolFeatures, GetQueueNum, SetVringEnable, SetBackendReqFd, IotlbMsg, GetConfig, SetConfig, GetInflightFd, SetInflightFd}
+use Rattle.vhost_message.specs.declared.frontend_req.VhostUserInflight.{VhostUserInflight}
 use Rattle.vhost_message.specs.declared.frontend_req.VringAddr.{VringAddr}
 use Rattle.vhost_message.specs.declared.header.Header.{Header}
 use Rattle.vhost_message.specs.declared.iotlb.IotlbMessage.{IotlbMessage}
@@ -27,6 +28,9 @@ use Rattle.vhost_message.proofs.CodecLemmas.{payload_spells, spelled_is_read}
 
 abbrev asked : FrontendReq → Result FrontendReq Refusal
 asked r = Ok r
+
+abbrev again_2 : ℕ → ℕ
+again_2 n = from_le_bytes w16 (to_le_bytes w16 n)
 
 abbrev again_4 : ℕ → ℕ
 again_4 n = from_le_bytes w32 (to_le_bytes w32 n)
@@ -172,6 +176,59 @@ module _ (c : ConfigSpace) (bytes : List ℕ) (is : IsSpace c bytes) where
       (Ok (record { payload = length spelled; descriptors = 0 })) (Err PayloadSize)) ≡ true
   space_sized = ap (λ (b : Bool). is_ok {T = Expected} {E = Refusal} (cond b
       (Ok (record { payload = length spelled; descriptors = 0 })) (Err PayloadSize))) between
+
+-- ---- regions of what is in flight
+
+module _ (r : VhostUserInflight) (bytes : List ℕ) (is : IsInflight r bytes) where
+  abbrev described : List ℕ
+  described = inflight_bytes r ++ bytes
+
+  described_len : length described ≡ 20 + length bytes
+  described_len = length-append (inflight_bytes r) bytes
+
+  abbrev describing : ℕ → ℕ → ℕ → ℕ → VhostUserInflight
+  describing size offset queues most =
+      record { mmap_size = size; mmap_offset = offset; num_queues = queues; queue_size = most }
+
+  again : describing (again_8 r.mmap_size) (again_8 r.mmap_offset) (again_2 r.num_queues) (again_2 r.queue_size) ≡ r
+  again =
+      ap (λ (k : ℕ). describing k (again_8 r.mmap_offset) (again_2 r.num_queues) (again_2 r.queue_size))
+      (from_le_bytes-to_le_bytes_8 r.mmap_size is.0)
+      ∙ ap (λ (k : ℕ). describing r.mmap_size k (again_2 r.num_queues) (again_2 r.queue_size))
+      (from_le_bytes-to_le_bytes_8 r.mmap_offset is.1)
+      ∙ ap (λ (k : ℕ). describing r.mmap_size r.mmap_offset k (again_2 r.queue_size))
+      (from_le_bytes-to_le_bytes_2 r.num_queues is.2)
+      ∙ ap (λ (k : ℕ). describing r.mmap_size r.mmap_offset r.num_queues k)
+      (from_le_bytes-to_le_bytes_2 r.queue_size is.3)
+
+  one_of : (n : ℕ) → (n ≡ 20) ⊎ (n ≡ 24) → (eqb n 20 || eqb n 24) ≡ true
+  one_of n (inl e) = ap (λ (k : ℕ). eqb k 20 || eqb k 24) e
+  one_of n (inr e) = ap (λ (k : ℕ). eqb k 20 || eqb k 24) e
+
+  len_is : (length bytes ≡ 0) ⊎ (length bytes ≡ 4) → (length described ≡ 20) ⊎ (length described ≡ 24)
+  len_is (inl e) = inl (omega (arith, e, described_len))
+  len_is (inr e) = inr (omega (arith, e, described_len))
+
+  region_again : inflight_in described ≡ Ok r
+  unfolding inflight_in
+  region_again =
+      cond-true (eqb (length described) 20 || eqb (length described) 24)
+      (Ok (describing (again_8 r.mmap_size) (again_8 r.mmap_offset) (again_2 r.num_queues) (again_2 r.queue_size)))
+      (Err PayloadSize) (one_of (length described) (len_is is.4))
+      ∙ ap (λ (x : VhostUserInflight). Ok x) again
+
+  between_20 : (nat_le 20 (length described) && nat_le (length described) 24) ≡ true
+  between_20 = by_len (length described) (len_is is.4)
+    where
+      by_len : (n : ℕ) → (n ≡ 20) ⊎ (n ≡ 24) → (nat_le 20 n && nat_le n 24) ≡ true
+      by_len n (inl e) = ap (λ (k : ℕ). nat_le 20 k && nat_le k 24) e
+      by_len n (inr e) = ap (λ (k : ℕ). nat_le 20 k && nat_le k 24) e
+
+  described_sized : (descriptors : ℕ) → is_ok {T = Expected} {E = Refusal}
+      (cond (nat_le 20 (length described) && nat_le (length described) 24)
+      (Ok (record { payload = length described; descriptors = descriptors })) (Err PayloadSize)) ≡ true
+  described_sized descriptors = ap (λ (b : Bool). is_ok {T = Expected} {E = Refusal} (cond b
+      (Ok (record { payload = length described; descriptors = descriptors })) (Err PayloadSize))) between_20
 
 -- ---- regions
 
@@ -397,3 +454,11 @@ comes_back (GetConfig c) bytes need is =
 comes_back (SetConfig c) bytes need is =
     back 25 (space_bytes c ++ bytes) need (SetConfig c) (space_sized c bytes is)
     (ap (λ (t : Result ConfigSpace Refusal). t >>= λ (x : ConfigSpace). asked (SetConfig x)) (space c bytes is))
+comes_back (GetInflightFd r) bytes need is =
+    back 31 (inflight_bytes r ++ bytes) need (GetInflightFd r) (described_sized r bytes is 0)
+    (ap (λ (t : Result VhostUserInflight Refusal). t >>= λ (x : VhostUserInflight). asked (GetInflightFd x))
+    (region_again r bytes is))
+comes_back (SetInflightFd r) bytes need is =
+    back 32 (inflight_bytes r ++ bytes) need (SetInflightFd r) (described_sized r bytes is 1)
+    (ap (λ (t : Result VhostUserInflight Refusal). t >>= λ (x : VhostUserInflight). asked (SetInflightFd x))
+    (region_again r bytes is))

@@ -1,12 +1,13 @@
 -- What a front end asks for, by the number of the request and the payload.
-use Rattle.std.specs.Prelude.{ℕ, ◌+◌, ◌/◌, ◌%◌, Bool, true, false, ◌==◌, nat_lt, if◌then◌else◌, List, length, take, Result, Ok, Err}
+use Rattle.std.specs.Prelude.{ℕ, ◌+◌, ◌/◌, ◌%◌, Bool, true, false, ◌||◌, ◌==◌, nat_lt, if◌then◌else◌, List, length, take, Result, Ok, Err}
 use Rattle.vhost_message.specs.Iotlb.{fields_in, message_in}
-use Rattle.vhost_message.specs.Numbers.{number, word}
+use Rattle.vhost_message.specs.Numbers.{half, number, word}
 use Rattle.vhost_message.specs.Regions.{table_in}
 use Rattle.vhost_message.specs.Requests.{expected}
 use Rattle.vhost_message.specs.declared.frontend_req.ConfigSpace.{ConfigSpace}
 use Rattle.vhost_message.specs.declared.frontend_req.FrontendReq.{FrontendReq}
-use Rattle.vhost_message.specs.declared.frontend_req.FrontendReq.TheVariants.{GetFeatures, SetFeatures, SetOwner, ResetOwner, SetMemTable, SetLogBase, SetLogFd, SetVringNum, SetVringAddr, SetVringBase, GetVringBase, SetVringKick, SetVringCall, SetVringErr, GetProtocolFeatures, SetProtocolFeatures, GetQueueNum, SetVringEnable, SetBackendReqFd, IotlbMsg, GetConfig, SetConfig}
+use Rattle.vhost_message.specs.declared.frontend_req.FrontendReq.TheVariants.{GetFeatures, SetFeatures, SetOwner, ResetOwner, SetMemTable, SetLogBase, SetLogFd, SetVringNum, SetVringAddr, SetVringBase, GetVringBase, SetVringKick, SetVringCall, SetVringErr, GetProtocolFeatures, SetProtocolFeatures, GetQueueNum, SetVringEnable, SetBackendReqFd, IotlbMsg, GetConfig, SetConfig, GetInflightFd, SetInflightFd}
+use Rattle.vhost_message.specs.declared.frontend_req.VhostUserInflight.{VhostUserInflight}
 use Rattle.vhost_message.specs.declared.frontend_req.VringAddr.{VringAddr}
 use Rattle.vhost_message.specs.declared.header.Header.{Header}
 use Rattle.vhost_message.specs.declared.iotlb.IotlbMessage.{IotlbMessage}
@@ -53,6 +54,16 @@ config_in payload = if length payload == 12 + word payload 4
       flags = word payload 8;
     })) else Err PayloadSize
 
+-- the description of a region, which 4 bytes without a meaning may follow
+unfoldable pub inflight_in : List ℕ → Result VhostUserInflight Refusal
+inflight_in payload = if length payload == 20 || length payload == 24
+    then Ok (record {
+      mmap_size = number payload 0;
+      mmap_offset = number payload 8;
+      num_queues = half payload 16;
+      queue_size = half payload 18;
+    }) else Err PayloadSize
+
 -- what a front end may send on the device's table
 abbrev pub of_front : Result IotlbMessage Malformed → Result FrontendReq Refusal
 of_front (Ok (Update iova size user permissions)) = Ok (IotlbMsg (Update iova size user permissions))
@@ -92,8 +103,10 @@ request_in request payload =
     if request == 21 then Ok SetBackendReqFd else (
     if request == 22 then iotlb_in payload else (
     if request == 24 then (config_in payload >>= λ space. Ok (GetConfig space)) else (
-    if request == 25 then (config_in payload >>= λ space. Ok (SetConfig space)) else
-    vring_request_in request payload)))))))))))))
+    if request == 25 then (config_in payload >>= λ space. Ok (SetConfig space)) else (
+    if request == 31 then (inflight_in payload >>= λ region. Ok (GetInflightFd region)) else (
+    if request == 32 then (inflight_in payload >>= λ region. Ok (SetInflightFd region)) else
+    vring_request_in request payload)))))))))))))))
 
 -- what a message asks for
 abbrev pub request_of : Header → List ℕ → Result FrontendReq Refusal
@@ -112,6 +125,7 @@ descriptors_of (SetMemTable table) = length table
 descriptors_of (SetLogBase size offset) = 1
 descriptors_of SetLogFd = 1
 descriptors_of SetBackendReqFd = 1
+descriptors_of (SetInflightFd region) = 1
 descriptors_of (SetVringKick index descriptor) = if_any descriptor
 descriptors_of (SetVringCall index descriptor) = if_any descriptor
 descriptors_of (SetVringErr index descriptor) = if_any descriptor

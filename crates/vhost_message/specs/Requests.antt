@@ -35,7 +35,10 @@ shape_of request =
     -- IOTLB_MSG
     if request == 22 then sized 32 32 0 else (
     -- GET_CONFIG, SET_CONFIG of at most 256 bytes
-    if is_among request (24 ∷ 25 ∷ []) then sized 12 268 0 else None))))))))
+    if is_among request (24 ∷ 25 ∷ []) then sized 12 268 0 else (
+    -- GET_INFLIGHT_FD, SET_INFLIGHT_FD
+    if request == 31 then sized 20 24 0 else (
+    if request == 32 then sized 20 24 1 else None))))))))))
 
 -- how many bytes its payload has at least
 abbrev pub least_in : Option Shape → ℕ

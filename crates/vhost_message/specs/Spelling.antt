@@ -1,11 +1,12 @@
 -- How a front end spells what it asks for.
-use Rattle.std.specs.Prelude.{◌≡◌, ℕ, ◌+◌, ◌^◌, ◌<◌, ◌≤◌, Bool, true, false, List, [], ◌∷◌, ◌++◌, length}
-use Rattle.std.specs.Int.{w32, w64, to_le_bytes}
+use Rattle.std.specs.Prelude.{◌≡◌, ◌⊎◌, ℕ, ◌+◌, ◌^◌, ◌<◌, ◌≤◌, Bool, true, false, List, [], ◌∷◌, ◌++◌, length}
+use Rattle.std.specs.Int.{w16, w32, w64, to_le_bytes}
 use Rattle.vhost_message.specs.BackendReq.{flags_of}
 use Rattle.vhost_message.specs.Iotlb.{IsMessage, fields_of, payload_bytes}
 use Rattle.vhost_message.specs.declared.frontend_req.ConfigSpace.{ConfigSpace}
 use Rattle.vhost_message.specs.declared.frontend_req.FrontendReq.{FrontendReq}
-use Rattle.vhost_message.specs.declared.frontend_req.FrontendReq.TheVariants.{GetFeatures, SetFeatures, SetOwner, ResetOwner, SetMemTable, SetLogBase, SetLogFd, SetVringNum, SetVringAddr, SetVringBase, GetVringBase, SetVringKick, SetVringCall, SetVringErr, GetProtocolFeatures, SetProtocolFeatures, GetQueueNum, SetVringEnable, SetBackendReqFd, IotlbMsg, GetConfig, SetConfig}
+use Rattle.vhost_message.specs.declared.frontend_req.FrontendReq.TheVariants.{GetFeatures, SetFeatures, SetOwner, ResetOwner, SetMemTable, SetLogBase, SetLogFd, SetVringNum, SetVringAddr, SetVringBase, GetVringBase, SetVringKick, SetVringCall, SetVringErr, GetProtocolFeatures, SetProtocolFeatures, GetQueueNum, SetVringEnable, SetBackendReqFd, IotlbMsg, GetConfig, SetConfig, GetInflightFd, SetInflightFd}
+use Rattle.vhost_message.specs.declared.frontend_req.VhostUserInflight.{VhostUserInflight}
 use Rattle.vhost_message.specs.declared.frontend_req.VringAddr.{VringAddr}
 use Rattle.vhost_message.specs.declared.header.Header.{Header}
 use Rattle.vhost_message.specs.declared.iotlb.IotlbMessage.{IotlbMessage}
@@ -35,6 +36,8 @@ number_of SetBackendReqFd = 21
 number_of (IotlbMsg m) = 22
 number_of (GetConfig space) = 24
 number_of (SetConfig space) = 25
+number_of (GetInflightFd region) = 31
+number_of (SetInflightFd region) = 32
 
 -- ---- payloads
 
@@ -65,7 +68,12 @@ switch false = 0
 abbrev pub space_bytes : ConfigSpace → List ℕ
 space_bytes c = to_le_bytes w32 c.offset ++ (to_le_bytes w32 c.size ++ to_le_bytes w32 c.flags)
 
--- the payload of a request: that of a part of the configuration ends in its bytes
+abbrev pub inflight_bytes : VhostUserInflight → List ℕ
+inflight_bytes r = to_le_bytes w64 r.mmap_size ++ (to_le_bytes w64 r.mmap_offset
+    ++ (to_le_bytes w16 r.num_queues ++ to_le_bytes w16 r.queue_size))
+
+-- the payload of a request: that of a part of the configuration ends in its bytes, and that of a region of what is in
+-- flight in its padding
 abbrev pub payload_of : FrontendReq → List ℕ → List ℕ
 payload_of (SetFeatures features) bytes = to_le_bytes w64 features
 payload_of (SetMemTable table) bytes =
@@ -83,6 +91,8 @@ payload_of (SetVringEnable index enable) bytes = pair_bytes index (switch enable
 payload_of (IotlbMsg m) bytes = payload_bytes (fields_of m)
 payload_of (GetConfig space) bytes = space_bytes space ++ bytes
 payload_of (SetConfig space) bytes = space_bytes space ++ bytes
+payload_of (GetInflightFd region) bytes = inflight_bytes region ++ bytes
+payload_of (SetInflightFd region) bytes = inflight_bytes region ++ bytes
 payload_of request bytes = []
 
 -- its header
@@ -106,6 +116,11 @@ IsAddress a = (a.index < 2 ^ 32) × (a.flags < 2 ^ 32) × (a.descriptor < 2 ^ 64
 abbrev pub IsSpace : ConfigSpace → List ℕ → Type 0
 IsSpace c bytes = (c.offset < 2 ^ 32) × (c.size ≡ length bytes) × (length bytes ≤ 256) × (c.flags ≤ 1)
 
+-- no padding, or 4 bytes
+abbrev pub IsInflight : VhostUserInflight → List ℕ → Type 0
+IsInflight r bytes = (r.mmap_size < 2 ^ 64) × (r.mmap_offset < 2 ^ 64) × (r.num_queues < 2 ^ 16)
+    × (r.queue_size < 2 ^ 16) × ((length bytes ≡ 0) ⊎ (length bytes ≡ 4))
+
 abbrev pub IsOfFront : IotlbMessage → Type 0
 IsOfFront (Update iova size user permissions) = IsMessage (Update iova size user permissions)
 IsOfFront (Invalidate iova size) = IsMessage (Invalidate iova size)
@@ -128,4 +143,6 @@ IsRequest (SetVringEnable index enable) bytes = index < 2 ^ 32
 IsRequest (IotlbMsg m) bytes = IsOfFront m
 IsRequest (GetConfig space) bytes = IsSpace space bytes
 IsRequest (SetConfig space) bytes = IsSpace space bytes
+IsRequest (GetInflightFd region) bytes = IsInflight region bytes
+IsRequest (SetInflightFd region) bytes = IsInflight region bytes
 IsRequest request bytes = Unit {0}

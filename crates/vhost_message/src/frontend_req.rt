@@ -1,12 +1,13 @@
 //! What a front end asks for.
 ghost use Rattle.std.specs.Prelude.{◌≡◌, ◌≤◌, length};
-ghost use Rattle.vhost_message.specs.FrontendReq.{config_in, descriptors_of, enabling_in, has_descriptor, iotlb_in};
-ghost use Rattle.vhost_message.specs.FrontendReq.{request_in, request_of, ring_in, vring_addr_in, vring_request_in};
+ghost use Rattle.vhost_message.specs.FrontendReq.{config_in, descriptors_of, enabling_in, has_descriptor, inflight_in};
+ghost use Rattle.vhost_message.specs.FrontendReq.{iotlb_in, request_in, request_of, ring_in, vring_addr_in};
+ghost use Rattle.vhost_message.specs.FrontendReq.{vring_request_in};
 ghost use Rattle.vhost_message.specs.Requests.{least_of};
 
 use crate::header::Header;
 use crate::iotlb::{IotlbMessage, PAYLOAD_LEN};
-use crate::numbers::{number, word};
+use crate::numbers::{half, number, word};
 use crate::refusal::{Malformed, Refusal};
 use crate::regions::MemoryTable;
 use crate::requests::*;
@@ -37,6 +38,20 @@ pub struct ConfigSpace {
     pub size: u32,
     /// 0 for what the driver does, and 1 for a migration.
     pub flags: u32,
+}
+
+/// A region in which a back end keeps which requests of each ring are in flight, so that it can go on after it was
+/// started anew.
+#[derive(Clone, Copy, Debug, PartialEq, Eq)]
+pub struct VhostUserInflight {
+    /// How many bytes it has. A GET_INFLIGHT_FD does not say so.
+    pub mmap_size: u64,
+    /// Where it begins in its file. A GET_INFLIGHT_FD does not say so.
+    pub mmap_offset: u64,
+    /// How many rings it is for.
+    pub num_queues: u16,
+    /// How many descriptors each of them has at most.
+    pub queue_size: u16,
 }
 
 /// What a front end asks for. `descriptor` says whether a file descriptor came.
@@ -73,6 +88,10 @@ pub enum FrontendReq {
     GetConfig(ConfigSpace),
     /// The bytes are those of the payload after the first 12.
     SetConfig(ConfigSpace),
+    /// A region of this shape is the reply. A descriptor of its file goes with it.
+    GetInflightFd(VhostUserInflight),
+    /// What is in flight is in this region of the file whose descriptor comes.
+    SetInflightFd(VhostUserInflight),
 }
 
 fn vring_addr_in(payload: &[u8]) -> VringAddr
@@ -108,6 +127,23 @@ fn config_in(payload: &[u8]) -> Result<ConfigSpace, Refusal>
         offset: word(payload, 0),
         size,
         flags,
+    })
+}
+
+// A region of what is in flight: `PayloadSize` if the payload has neither 20 bytes nor 24, as a compiler pads them.
+#[tactic(auto, unfolding(crate::specs::FrontendReq::inflight_in))]
+fn inflight_in(payload: &[u8]) -> Result<VhostUserInflight, Refusal>
+    requires { 20 ≤ length payload.now }
+    ensures { result ≡ inflight_in payload.now }
+{
+    if payload.len() != 20 && payload.len() != 24 {
+        return Err(Refusal::PayloadSize);
+    }
+    Ok(VhostUserInflight {
+        mmap_size: number(payload, 0),
+        mmap_offset: number(payload, 8),
+        num_queues: half(payload, 16),
+        queue_size: half(payload, 18),
     })
 }
 
@@ -219,6 +255,8 @@ fn request_in(request: u32, payload: &[u8]) -> Result<FrontendReq, Refusal>
         VHOST_USER_IOTLB_MSG => iotlb_in(payload),
         VHOST_USER_GET_CONFIG => Ok(FrontendReq::GetConfig(config_in(payload)?)),
         VHOST_USER_SET_CONFIG => Ok(FrontendReq::SetConfig(config_in(payload)?)),
+        VHOST_USER_GET_INFLIGHT_FD => Ok(FrontendReq::GetInflightFd(inflight_in(payload)?)),
+        VHOST_USER_SET_INFLIGHT_FD => Ok(FrontendReq::SetInflightFd(inflight_in(payload)?)),
         _ => vring_request_in(request, payload),
     }
 }
@@ -243,8 +281,10 @@ impl FrontendReq {
     {
         match self {
             FrontendReq::SetMemTable(table) => table.regions().len(),
-            FrontendReq::SetLogBase { .. } | FrontendReq::SetLogFd | FrontendReq::SetBackendReqFd =>
-                1,
+            FrontendReq::SetLogBase { .. }
+            | FrontendReq::SetLogFd
+            | FrontendReq::SetBackendReqFd
+            | FrontendReq::SetInflightFd(_) => 1,
             FrontendReq::SetVringKick { descriptor, .. }
             | FrontendReq::SetVringCall { descriptor, .. }
             | FrontendReq::SetVringErr { descriptor, .. } => *descriptor as usize,

@@ -43,7 +43,7 @@ pub enum Refusal {
     /// Features that were not offered.
     #[error("features not offered")]
     Features,
-    /// There is no ring of this number.
+    /// There is no ring of this number, or there are not so many.
     #[error("no such ring")]
     Index,
     /// A ring has one descriptor or more, and at most as many as were offered.
@@ -61,7 +61,7 @@ pub enum Refusal {
     /// This must not change while a ring is started.
     #[error("ring is started")]
     Started,
-    /// A region has no bytes, or passes the last address.
+    /// A region has no bytes or too few, or passes the last address.
     #[error("invalid region")]
     RegionRange,
     /// Two regions have guest addresses in common.

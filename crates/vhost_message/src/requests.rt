@@ -49,6 +49,10 @@ pub const VHOST_USER_GET_CONFIG: u32 = 24;
 
 pub const VHOST_USER_SET_CONFIG: u32 = 25;
 
+pub const VHOST_USER_GET_INFLIGHT_FD: u32 = 31;
+
+pub const VHOST_USER_SET_INFLIGHT_FD: u32 = 32;
+
 /// What a message of a request may be.
 #[derive(Clone, Copy, Debug, PartialEq, Eq)]
 pub struct Shape {
@@ -96,6 +100,8 @@ fn shape_of(request: u32) -> Option<Shape>
         VHOST_USER_SET_VRING_ADDR => sized(40, 40, 0),
         VHOST_USER_IOTLB_MSG => sized(32, 32, 0),
         VHOST_USER_GET_CONFIG | VHOST_USER_SET_CONFIG => sized(12, 268, 0),
+        VHOST_USER_GET_INFLIGHT_FD => sized(20, 24, 0),
+        VHOST_USER_SET_INFLIGHT_FD => sized(20, 24, 1),
         _ => None,
     }
 }

@@ -1,9 +1,10 @@
 -- A connection: what was offered, what was negotiated, and what the front end said of its memory and its rings. And what
 -- each request makes of it, or why it is refused.
-use Rattle.std.specs.Prelude.{◌≡◌, ℕ, ◌+◌, Bool, true, false, not, ◌&&◌, ◌||◌, ◌==◌, nat_le, nat_lt, bit_or, if◌then◌else◌, List, [], ◌++◌, length, take, drop, replicate, slice_get, slice_set, Option, Some, None, Result, Ok, Err}
+use Rattle.std.specs.Prelude.{◌≡◌, ℕ, ◌+◌, ◌^◌, Bool, true, false, not, ◌&&◌, ◌||◌, ◌==◌, nat_le, nat_lt, bit_or, if◌then◌else◌, List, [], ◌++◌, length, take, drop, replicate, slice_get, slice_set, Option, Some, None, Result, Ok, Err}
 use Rattle.std.specs.List.{list_any}
 use Rattle.vhost_user.specs.Features as feature
 use Rattle.vhost_user.specs.Features.{are_of, has}
+use Rattle.vhost_user.specs.Inflight.{region_len}
 use Rattle.vhost_message.specs.FrontendReq.{◌>>=◌, descriptors_of, request_of}
 use Rattle.vhost_message.specs.Regions.{tested}
 use Rattle.vhost_user.specs.Vring.{is_aligned, is_placed_as, is_started, new_vring, notifier_of}
@@ -12,11 +13,12 @@ use Rattle.vhost_user.specs.declared.backend_req_handler.OfferError.{OfferError}
 use Rattle.vhost_user.specs.declared.backend_req_handler.OfferError.TheVariants.{Invalid, Memory}
 use Rattle.vhost_message.specs.declared.frontend_req.ConfigSpace.{ConfigSpace}
 use Rattle.vhost_message.specs.declared.frontend_req.FrontendReq.{FrontendReq}
-use Rattle.vhost_message.specs.declared.frontend_req.FrontendReq.TheVariants.{SetFeatures, SetOwner, SetMemTable, SetLogBase, SetLogFd, SetVringNum, SetVringAddr, SetVringBase, GetVringBase, SetVringKick, SetVringCall, SetVringErr, GetProtocolFeatures, SetProtocolFeatures, GetQueueNum, SetVringEnable, SetBackendReqFd, IotlbMsg, GetConfig, SetConfig}
+use Rattle.vhost_message.specs.declared.frontend_req.FrontendReq.TheVariants.{SetFeatures, SetOwner, SetMemTable, SetLogBase, SetLogFd, SetVringNum, SetVringAddr, SetVringBase, GetVringBase, SetVringKick, SetVringCall, SetVringErr, GetProtocolFeatures, SetProtocolFeatures, GetQueueNum, SetVringEnable, SetBackendReqFd, IotlbMsg, GetConfig, SetConfig, GetInflightFd, SetInflightFd}
+use Rattle.vhost_message.specs.declared.frontend_req.VhostUserInflight.{VhostUserInflight}
 use Rattle.vhost_message.specs.declared.frontend_req.VringAddr.{VringAddr}
 use Rattle.vhost_message.specs.declared.header.Header.{Header}
 use Rattle.vhost_message.specs.declared.refusal.Refusal.{Refusal}
-use Rattle.vhost_message.specs.declared.refusal.Refusal.TheVariants.{Descriptors, NotNegotiated, Features, Index, QueueSize, Base, Flags, Alignment, Started, ConfigRange, ConfigReadOnly}
+use Rattle.vhost_message.specs.declared.refusal.Refusal.TheVariants.{Descriptors, NotNegotiated, Features, Index, QueueSize, Base, Flags, Alignment, Started, RegionRange, ConfigRange, ConfigReadOnly}
 use Rattle.vhost_message.specs.declared.regions.MemoryRegion.{MemoryRegion}
 use Rattle.vhost_user.specs.declared.vring.Notifier.TheVariants.{Unset}
 use Rattle.vhost_user.specs.declared.vring.Vring.{Vring}
@@ -32,6 +34,8 @@ pub record Connection : Type 0 where
   pub memory : List MemoryRegion
   -- how many bytes the log of dirty pages has that was shared last
   pub log : Option ℕ
+  -- the region of what is in flight that was shared last
+  pub inflight : Option VhostUserInflight
   pub vrings : List Vring
 
 -- ---- features
@@ -66,6 +70,20 @@ with_memory s table = tested table >>= λ _. Ok (record s { memory = table })
 
 abbrev pub with_log : Connection → ℕ → Result Connection Refusal
 with_log s size = needed s.protocol_features feature.log_shmfd >>= λ _. Ok (record s { log = Some size })
+
+-- ---- what is in flight
+
+-- a region is for rings that there are, and of a size that is offered
+abbrev pub in_offer : Connection → VhostUserInflight → Result (Unit {0}) Refusal
+in_offer s r = needed s.protocol_features feature.inflight_shmfd
+    >>= λ _. if r.num_queues == 0 || nat_lt (length s.vrings) r.num_queues then Err Index else (
+    if r.queue_size == 0 || nat_lt s.offer.max_queue_size r.queue_size then Err QueueSize else Ok tt)
+
+-- and has room for each of them, in a file
+abbrev pub with_inflight : Connection → VhostUserInflight → Result Connection Refusal
+with_inflight s r = in_offer s r
+    >>= λ _. if nat_lt r.mmap_size (region_len s.features r) || not (nat_lt (r.mmap_offset + r.mmap_size) (2 ^ 64))
+    then Err RegionRange else Ok (record s { inflight = Some r })
 
 -- ---- rings
 
@@ -164,6 +182,8 @@ served s (GetConfig space) payload = in_config s space.offset space.size >>= λ 
 served s GetProtocolFeatures payload = needed s.offer.features feature.protocol_features >>= λ _. Ok s
 served s GetQueueNum payload = needed s.protocol_features feature.mq >>= λ _. Ok s
 served s (SetLogBase size offset) payload = with_log s size
+served s (GetInflightFd region) payload = in_offer s region >>= λ _. Ok s
+served s (SetInflightFd region) payload = with_inflight s region
 served s SetLogFd payload = needed s.offer.features feature.log_all >>= λ _. Ok s
 served s SetBackendReqFd payload = needed s.protocol_features feature.backend_req >>= λ _. Ok s
 served s (IotlbMsg message) payload = needed s.features feature.access_platform >>= λ _. Ok s
@@ -202,6 +222,7 @@ connected offer queues config = record {
   protocol_features = 0;
   memory = [];
   log = None;
+  inflight = None;
   vrings = replicate queues new_vring;
 }
 

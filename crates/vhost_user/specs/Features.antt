@@ -33,9 +33,12 @@ backend_req = 2 ^ 5
 abbrev pub config : ℕ
 config = 2 ^ 9
 
+abbrev pub inflight_shmfd : ℕ
+inflight_shmfd = 2 ^ 12
+
 -- those that a back end may offer
 abbrev pub known : ℕ
-known = mq + log_shmfd + reply_ack + backend_req + config
+known = mq + log_shmfd + reply_ack + backend_req + config + inflight_shmfd
 
 -- ----
 

@@ -1,5 +1,6 @@
 pub mod Connection
 pub mod Features
+pub mod Inflight
 pub mod Log
 pub mod Reply
 pub mod Running

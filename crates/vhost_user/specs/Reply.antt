@@ -4,11 +4,14 @@ use Rattle.std.specs.Int.{w32, w64, to_le_bytes}
 use Rattle.vhost_user.specs.Connection.{Connection}
 use Rattle.vhost_user.specs.Features as feature
 use Rattle.vhost_user.specs.Features.{has}
+use Rattle.vhost_user.specs.Inflight.{region_len}
 use Rattle.vhost_message.specs.Header.{header_bytes, needs_reply}
 use Rattle.vhost_message.specs.Requests.{is_among}
+use Rattle.vhost_message.specs.Spelling.{inflight_bytes}
 use Rattle.vhost_message.specs.declared.frontend_req.ConfigSpace.{ConfigSpace}
 use Rattle.vhost_message.specs.declared.frontend_req.FrontendReq.{FrontendReq}
-use Rattle.vhost_message.specs.declared.frontend_req.FrontendReq.TheVariants.{GetFeatures, SetLogBase, GetVringBase, GetProtocolFeatures, GetQueueNum, GetConfig}
+use Rattle.vhost_message.specs.declared.frontend_req.FrontendReq.TheVariants.{GetFeatures, SetLogBase, GetVringBase, GetProtocolFeatures, GetQueueNum, GetConfig, GetInflightFd}
+use Rattle.vhost_message.specs.declared.frontend_req.VhostUserInflight.{VhostUserInflight}
 use Rattle.vhost_message.specs.declared.header.Header.{Header}
 use Rattle.vhost_user.specs.declared.vring.Vring.{Vring}
 
@@ -38,6 +41,16 @@ config_reply s request c = if nat_lt (length s.config) (c.offset + c.size) then 
     else reply request (12 + c.size) (to_le_bytes w32 c.offset ++ (to_le_bytes w32 c.size
     ++ (to_le_bytes w32 c.flags ++ slice_range s.config c.offset (c.offset + c.size))))
 
+-- the region of a shape: it begins its file
+abbrev pub inflight_for : Connection → VhostUserInflight → VhostUserInflight
+inflight_for s asked = record asked { mmap_size = region_len s.features asked; mmap_offset = 0 }
+
+-- in as many bytes as it was asked for, with padding or without
+abbrev pub inflight_reply : Connection → Header → VhostUserInflight → List ℕ
+inflight_reply s h asked = if h.size == 24
+    then reply h.request 24 (inflight_bytes (inflight_for s asked) ++ to_le_bytes w32 0)
+    else reply h.request 20 (inflight_bytes (inflight_for s asked))
+
 -- what is answered to a request that was done
 abbrev pub reply_to : Connection → Header → FrontendReq → List ℕ
 reply_to s h GetFeatures = number_reply h.request s.offer.features
@@ -45,10 +58,11 @@ reply_to s h GetProtocolFeatures = number_reply h.request s.offer.protocol_featu
 reply_to s h GetQueueNum = number_reply h.request (length s.vrings)
 reply_to s h (GetVringBase index) = base_reply s h.request index
 reply_to s h (GetConfig space) = config_reply s h.request space
+reply_to s h (GetInflightFd region) = inflight_reply s h region
 reply_to s h (SetLogBase size offset) = reply h.request 0 []
 reply_to s h request = acknowledgement s h 0
 
 -- and to one that was refused: of those that have a reply of their own only a GET_CONFIG, by no payload
 abbrev pub refused : Connection → Header → List ℕ
 refused s h = if h.request == 24 then reply 24 0 [] else (
-    if is_among h.request (1 ∷ 6 ∷ 11 ∷ 15 ∷ 17 ∷ []) then [] else acknowledgement s h 1)
+    if is_among h.request (1 ∷ 6 ∷ 11 ∷ 15 ∷ 17 ∷ 31 ∷ []) then [] else acknowledgement s h 1)

@@ -3,17 +3,19 @@ ghost use Rattle.std.specs.Prelude.{◌≡◌, ◌<◌, ◌≤◌, length, drop,
 ghost use Rattle.vhost_user.specs.Connection.{Handles, Steps, Connects, can_offer, in_config, is_any_started};
 ghost use Rattle.vhost_user.specs.Connection.{is_writable, needed, served, stopped_at, vring_at, with_address};
 ghost use Rattle.vhost_user.specs.Connection.{with_base, with_call, with_changed_config, with_config, with_enabled};
-ghost use Rattle.vhost_user.specs.Connection.{with_err, with_features, with_kick, with_log, with_memory, with_num};
-ghost use Rattle.vhost_user.specs.Connection.{with_protocol_features, with_vring, without_kick, vring_served};
+ghost use Rattle.vhost_user.specs.Connection.{with_err, with_features, with_inflight, with_kick, with_log};
+ghost use Rattle.vhost_user.specs.Connection.{with_memory, with_num, with_protocol_features, in_offer, with_vring};
+ghost use Rattle.vhost_user.specs.Connection.{without_kick, vring_served};
 ghost use Rattle.vhost_user.specs.Features.{has};
 ghost use Rattle.vhost_user.specs.Running.{is_disabled, log_of, place, placed_vring, running};
 
 use crate::features::{
     PROTOCOL_FEATURES, VHOST_F_LOG_ALL, VHOST_USER_F_PROTOCOL_FEATURES,
     VHOST_USER_PROTOCOL_F_BACKEND_REQ, VHOST_USER_PROTOCOL_F_CONFIG,
-    VHOST_USER_PROTOCOL_F_LOG_SHMFD, VHOST_USER_PROTOCOL_F_MQ, VIRTIO_F_ACCESS_PLATFORM,
-    VIRTIO_F_RING_PACKED, has,
+    VHOST_USER_PROTOCOL_F_INFLIGHT_SHMFD, VHOST_USER_PROTOCOL_F_LOG_SHMFD,
+    VHOST_USER_PROTOCOL_F_MQ, VIRTIO_F_ACCESS_PLATFORM, VIRTIO_F_RING_PACKED, has,
 };
+use crate::inflight::region_len;
 use crate::vring::{
     NotRunning, Notifier, RunningVring, Vring, available_len, is_aligned, notifier_of, table_len,
     used_len,
@@ -22,7 +24,8 @@ use std::alloc::Global;
 use std::marker::Model;
 use thiserror::Error;
 use vhost_message::{
-    ConfigSpace, FrontendReq, Header, MAX_CONFIG, MemoryTable, Refusal, VringAddr,
+    ConfigSpace, FrontendReq, Header, MAX_CONFIG, MemoryTable, Refusal, VhostUserInflight,
+    VringAddr,
 };
 
 /// What a back end offers.
@@ -63,6 +66,8 @@ pub struct BackendReqHandler {
     memory: MemoryTable,
     // How many bytes the log of dirty pages has that was shared last.
     log: Option<u64>,
+    // The region of what is in flight that was shared last.
+    inflight: Option<VhostUserInflight>,
     vrings: Vec<Vring>,
 }
 
@@ -80,6 +85,7 @@ impl Model for BackendReqHandler {
       protocol_features = h.protocol_features;
       memory = h.memory;
       log = h.log;
+      inflight = h.inflight;
       vrings = h.vrings.items;
     } };
 
@@ -168,6 +174,7 @@ impl BackendReqHandler {
             protocol_features: 0,
             memory: MemoryTable::new(),
             log: None,
+            inflight: None,
             vrings,
         })
     }
@@ -227,6 +234,13 @@ impl BackendReqHandler {
         ensures { result ≡ self.now.log }
     {
         self.log
+    }
+
+    /// The region of what is in flight, if the front end shared one.
+    pub fn inflight(&self) -> Option<VhostUserInflight>
+        ensures { result ≡ self.now.inflight }
+    {
+        self.inflight
     }
 
     /// What was said of a ring. `Index` if there is none of this number.
@@ -312,6 +326,35 @@ impl BackendReqHandler {
     {
         needs(self.protocol_features, VHOST_USER_PROTOCOL_F_LOG_SHMFD)?;
         self.log = Some(size);
+        Ok(())
+    }
+
+    // ---- what is in flight
+
+    // Whether a region is for rings that there are, and of a size that is offered.
+    fn test_inflight(&self, region: &VhostUserInflight) -> Result<(), Refusal>
+        ensures { result ≡ in_offer self.now region.now }
+    {
+        needs(self.protocol_features, VHOST_USER_PROTOCOL_F_INFLIGHT_SHMFD)?;
+        if region.num_queues == 0 || region.num_queues as usize > self.vrings.len() {
+            return Err(Refusal::Index);
+        }
+        if region.queue_size == 0 || region.queue_size as u32 > self.offer.max_queue_size {
+            return Err(Refusal::QueueSize);
+        }
+        Ok(())
+    }
+
+    fn set_inflight_fd(&mut self, region: &VhostUserInflight) -> Result<(), Refusal>
+        ensures { Steps self.old (with_inflight self.old region.now) result self.new }
+    {
+        self.test_inflight(region)?;
+        if region.mmap_size < region_len(self.features, region)
+            || region.mmap_offset.checked_add(region.mmap_size).is_none()
+        {
+            return Err(Refusal::RegionRange);
+        }
+        self.inflight = Some(*region);
         Ok(())
     }
 
@@ -491,6 +534,8 @@ impl BackendReqHandler {
             }
             FrontendReq::GetQueueNum => needs(self.protocol_features, VHOST_USER_PROTOCOL_F_MQ),
             FrontendReq::SetLogBase { size, .. } => self.set_log_base(*size),
+            FrontendReq::GetInflightFd(region) => self.test_inflight(region),
+            FrontendReq::SetInflightFd(region) => self.set_inflight_fd(region),
             FrontendReq::SetLogFd => needs(self.offer.features, VHOST_F_LOG_ALL),
             FrontendReq::SetBackendReqFd => {
                 needs(self.protocol_features, VHOST_USER_PROTOCOL_F_BACKEND_REQ)

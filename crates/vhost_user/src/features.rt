@@ -32,8 +32,11 @@ pub const VHOST_USER_PROTOCOL_F_BACKEND_REQ: u64 = 1 << 5;
 /// The protocol feature of the device's configuration over the channel.
 pub const VHOST_USER_PROTOCOL_F_CONFIG: u64 = 1 << 9;
 
+/// The protocol feature of a region in which a back end keeps what is in flight.
+pub const VHOST_USER_PROTOCOL_F_INFLIGHT_SHMFD: u64 = 1 << 12;
+
 /// The protocol features that a back end may offer.
-pub const PROTOCOL_FEATURES: u64 = 0x22b;
+pub const PROTOCOL_FEATURES: u64 = 0x122b;
 
 // Whether a feature is among some.
 #[inline]

@@ -1,14 +1,17 @@
 //! What a back end replies.
 ghost use Rattle.std.specs.Prelude.{◌≡◌, []};
-ghost use Rattle.vhost_user.specs.Reply.{acknowledgement, base_reply, config_reply, number_reply, refused, reply};
-ghost use Rattle.vhost_user.specs.Reply.{reply_to};
+ghost use Rattle.vhost_message.specs.Spelling.{inflight_bytes};
+ghost use Rattle.vhost_user.specs.Reply.{acknowledgement, base_reply, config_reply, inflight_for, inflight_reply};
+ghost use Rattle.vhost_user.specs.Reply.{number_reply, refused, reply, reply_to};
 
 use crate::backend_req_handler::BackendReqHandler;
 use crate::features::{VHOST_USER_PROTOCOL_F_REPLY_ACK, has};
+use crate::inflight::region_len;
 use vhost_message::{
     ConfigSpace, FrontendReq, Header, Message, VERSION, VHOST_USER_GET_CONFIG,
-    VHOST_USER_GET_FEATURES, VHOST_USER_GET_PROTOCOL_FEATURES, VHOST_USER_GET_QUEUE_NUM,
-    VHOST_USER_GET_VRING_BASE, VHOST_USER_REPLY, VHOST_USER_SET_LOG_BASE,
+    VHOST_USER_GET_FEATURES, VHOST_USER_GET_INFLIGHT_FD, VHOST_USER_GET_PROTOCOL_FEATURES,
+    VHOST_USER_GET_QUEUE_NUM, VHOST_USER_GET_VRING_BASE, VHOST_USER_REPLY, VHOST_USER_SET_LOG_BASE,
+    VhostUserInflight,
 };
 
 // The header of a reply, with so many bytes after it.
@@ -30,6 +33,18 @@ fn number_reply(request: u32, value: u64) -> Message
 {
     let mut message = reply(request, 8);
     message.extend(&value.to_le_bytes());
+    message
+}
+
+// A reply of so many bytes with the description of a region at its front.
+fn region_reply(request: u32, size: u32, region: &VhostUserInflight) -> Message
+    ensures { result ≡ reply request size (inflight_bytes region.now) }
+{
+    let mut message = reply(request, size);
+    message.extend(&region.mmap_size.to_le_bytes());
+    message.extend(&region.mmap_offset.to_le_bytes());
+    message.extend(&region.num_queues.to_le_bytes());
+    message.extend(&region.queue_size.to_le_bytes());
     message
 }
 
@@ -75,6 +90,31 @@ impl BackendReqHandler {
         message
     }
 
+    /// The region that a GET_INFLIGHT_FD asks for by its numbers of rings and descriptors: its size, from the beginning
+    /// of its file on.
+    pub fn inflight_for(&self, asked: &VhostUserInflight) -> VhostUserInflight
+        ensures { result ≡ inflight_for self.now asked.now }
+    {
+        VhostUserInflight {
+            mmap_size: region_len(self.features(), asked),
+            mmap_offset: 0,
+            ..*asked
+        }
+    }
+
+    // The region in as many bytes as it was asked for, which may be padded.
+    fn inflight_reply(&self, header: &Header, asked: &VhostUserInflight) -> Message
+        ensures { result ≡ inflight_reply self.now header.now asked.now }
+    {
+        let region = self.inflight_for(asked);
+        if header.size == 24 {
+            let mut message = region_reply(header.request, 24, &region);
+            message.extend(&0u32.to_le_bytes());
+            return message;
+        }
+        region_reply(header.request, 20, &region)
+    }
+
     /// What is sent for a request that was done: the bytes of a message, or none if no reply is due.
     pub fn reply(&self, header: &Header, request: &FrontendReq) -> Message
         ensures { result ≡ reply_to self.now header.now request.now }
@@ -87,6 +127,7 @@ impl BackendReqHandler {
             FrontendReq::GetQueueNum => number_reply(header.request, self.queues() as u64),
             FrontendReq::GetVringBase { index } => self.base_reply(header.request, *index),
             FrontendReq::GetConfig(space) => self.config_reply(header.request, space),
+            FrontendReq::GetInflightFd(asked) => self.inflight_reply(header, asked),
             FrontendReq::SetLogBase { .. } => reply(header.request, 0),
             _ => self.acknowledgement(header, 0),
         }
@@ -104,7 +145,8 @@ impl BackendReqHandler {
             | VHOST_USER_SET_LOG_BASE
             | VHOST_USER_GET_VRING_BASE
             | VHOST_USER_GET_PROTOCOL_FEATURES
-            | VHOST_USER_GET_QUEUE_NUM => Message::new(),
+            | VHOST_USER_GET_QUEUE_NUM
+            | VHOST_USER_GET_INFLIGHT_FD => Message::new(),
             _ => self.acknowledgement(header, 1),
         }
     }

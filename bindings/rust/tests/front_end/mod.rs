@@ -5,10 +5,14 @@
 pub mod protocol;
 
 pub use protocol::*;
-use vm_memory_proved::vhost_user::{ConfigSpace, Notifier, Offer, Refusal, Region, Request, Vring, Wanted};
+use vm_memory_proved::vhost_user::{ConfigSpace, Inflight, Notifier, Offer, Refusal, Region, Request, Vring, Wanted};
 
 fn word(bytes: &[u8], at: usize) -> u32 {
     u32::from_le_bytes(bytes[at..at + 4].try_into().unwrap())
+}
+
+fn half(bytes: &[u8], at: usize) -> u16 {
+    u16::from_le_bytes(bytes[at..at + 2].try_into().unwrap())
 }
 
 fn long(bytes: &[u8], at: usize) -> u64 {
@@ -33,6 +37,8 @@ fn shape(request: u32) -> Option<(usize, usize, usize)> {
         SET_VRING_ADDR => Some((40, 40, 0)),
         IOTLB_MSG => Some((32, 32, 0)),
         GET_CONFIG | SET_CONFIG => Some((12, 12 + 256, 0)),
+        GET_INFLIGHT_FD => Some((20, 24, 0)),
+        SET_INFLIGHT_FD => Some((20, 24, 1)),
         _ => None,
     }
 }
@@ -130,7 +136,7 @@ impl Slow {
         }
         let due = match request {
             SET_MEM_TABLE => (payload.len() - 8) / 32,
-            SET_LOG_BASE | SET_LOG_FD | SET_BACKEND_REQ_FD => 1,
+            SET_LOG_BASE | SET_LOG_FD | SET_BACKEND_REQ_FD | SET_INFLIGHT_FD => 1,
             SET_VRING_KICK | SET_VRING_CALL | SET_VRING_ERR => usize::from(long(payload, 0) & NO_DESCRIPTOR == 0),
             _ => 0,
         };
@@ -141,6 +147,7 @@ impl Slow {
             SET_MEM_TABLE => self.test_table(payload, &mut broken),
             SET_VRING_NUM..=SET_VRING_ERR | SET_VRING_ENABLE => self.test_ring(request, payload, &mut broken),
             GET_CONFIG | SET_CONFIG => self.test_config(request, payload, &mut broken),
+            GET_INFLIGHT_FD | SET_INFLIGHT_FD => self.test_inflight(request, payload, &mut broken),
             _ => self.test_features(request, payload, &mut broken),
         }
         broken
@@ -276,6 +283,32 @@ impl Slow {
         }
     }
 
+    // How many bytes a region has for so many rings of so many descriptors.
+    fn inflight_len(&self, rings: u16, descriptors: u16) -> u64 {
+        let entry = if self.features & RING_PACKED != 0 { 32 } else { 16 };
+        u64::from(rings) * (entry * (1 + u64::from(descriptors))).next_multiple_of(64)
+    }
+
+    fn test_inflight(&self, request: u32, payload: &[u8], broken: &mut Vec<Refusal>) {
+        if payload.len() != 20 && payload.len() != 24 {
+            broken.push(Refusal::PayloadSize);
+        }
+        if self.protocol_features & INFLIGHT_SHMFD == 0 {
+            broken.push(Refusal::NotNegotiated);
+        }
+        let region = region_of(payload);
+        if region.num_queues == 0 || u32::from(region.num_queues) > self.offer.queues {
+            broken.push(Refusal::Index);
+        }
+        if region.queue_size == 0 || u32::from(region.queue_size) > self.offer.max_queue_size {
+            broken.push(Refusal::QueueSize);
+        }
+        let is_small = region.mmap_size < self.inflight_len(region.num_queues, region.queue_size);
+        if request == SET_INFLIGHT_FD && (is_small || !has_end(region.mmap_offset, region.mmap_size)) {
+            broken.push(Refusal::RegionRange);
+        }
+    }
+
     /// Does what a message asks for with which nothing is wrong.
     pub fn take(&mut self, message: &[u8], descriptors: usize) -> Request {
         let (request, payload) = (word(message, 0), &message[12..]);
@@ -318,6 +351,8 @@ impl Slow {
                 self.config[from..from + payload.len() - 12].copy_from_slice(&payload[12..]);
                 Request::SetConfig(space(payload))
             }
+            GET_INFLIGHT_FD => Request::GetInflightFd(region_of(payload)),
+            SET_INFLIGHT_FD => Request::SetInflightFd(region_of(payload)),
             _ => self.take_ring(request, payload, descriptors == 1),
         }
     }
@@ -388,7 +423,9 @@ impl Slow {
         let asks = word(message, 4) & NEED_REPLY != 0 && self.protocol_features & REPLY_ACK != 0;
         match request {
             GET_CONFIG if !is_done => reply(request, &[]),
-            GET_FEATURES | GET_PROTOCOL_FEATURES | GET_QUEUE_NUM | GET_VRING_BASE | SET_LOG_BASE if !is_done => {
+            GET_FEATURES | GET_PROTOCOL_FEATURES | GET_QUEUE_NUM | GET_VRING_BASE | SET_LOG_BASE | GET_INFLIGHT_FD
+                if !is_done =>
+            {
                 Vec::new()
             }
             GET_FEATURES => reply(request, &longs(&[self.offer.features])),
@@ -399,6 +436,13 @@ impl Slow {
                 reply(request, &words(&[index, self.rings[index as usize].base]))
             }
             SET_LOG_BASE => reply(request, &[]),
+            GET_INFLIGHT_FD => {
+                let region = region_of(payload);
+                let (rings, size) = (region.num_queues, region.queue_size);
+                let mut answer = inflight(self.inflight_len(rings, size), 0, rings, size);
+                answer.resize(payload.len(), 0);
+                reply(request, &answer)
+            }
             GET_CONFIG => {
                 let (from, size) = (word(payload, 0) as usize, word(payload, 4) as usize);
                 reply(request, &[&payload[..12], &self.config[from..from + size]].concat())
@@ -467,6 +511,15 @@ impl Slow {
             kick: ring.kick,
             call: ring.call,
         })
+    }
+}
+
+fn region_of(payload: &[u8]) -> Inflight {
+    Inflight {
+        mmap_size: long(payload, 0),
+        mmap_offset: long(payload, 8),
+        num_queues: half(payload, 16),
+        queue_size: half(payload, 18),
     }
 }
 

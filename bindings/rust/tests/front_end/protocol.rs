@@ -23,6 +23,8 @@ pub const SET_BACKEND_REQ_FD: u32 = 21;
 pub const IOTLB_MSG: u32 = 22;
 pub const GET_CONFIG: u32 = 24;
 pub const SET_CONFIG: u32 = 25;
+pub const GET_INFLIGHT_FD: u32 = 31;
+pub const SET_INFLIGHT_FD: u32 = 32;
 
 pub const REPLY: u32 = 4;
 pub const NEED_REPLY: u32 = 8;
@@ -42,6 +44,7 @@ pub const LOG_SHMFD: u64 = 1 << 1;
 pub const REPLY_ACK: u64 = 1 << 3;
 pub const BACKEND_REQ: u64 = 1 << 5;
 pub const CONFIG: u64 = 1 << 9;
+pub const INFLIGHT_SHMFD: u64 = 1 << 12;
 
 /// No descriptor comes with a SET_VRING_KICK, CALL or ERR.
 pub const NO_DESCRIPTOR: u64 = 1 << 8;
@@ -79,6 +82,16 @@ pub fn iotlb(iova: u64, size: u64, user: u64, permissions: u8, kind: u8) -> Vec<
 /// The payload of a GET_CONFIG or a SET_CONFIG.
 pub fn config(offset: u32, flags: u32, bytes: &[u8]) -> Vec<u8> {
     [&words(&[offset, bytes.len() as u32, flags]), bytes].concat()
+}
+
+/// The payload of a GET_INFLIGHT_FD or a SET_INFLIGHT_FD, without padding: of the region its size and offset, and how
+/// many rings it is for, of how many descriptors.
+pub fn inflight(size: u64, offset: u64, rings: u16, descriptors: u16) -> Vec<u8> {
+    [
+        longs(&[size, offset]),
+        [rings.to_le_bytes(), descriptors.to_le_bytes()].concat(),
+    ]
+    .concat()
 }
 
 /// The bytes of a reply.
