@@ -7,7 +7,7 @@ use guest::Guest;
 use std::env;
 use std::ffi::{c_char, c_int, c_uint};
 use std::fs::{self, File};
-use std::os::fd::{AsFd, FromRawFd, OwnedFd};
+use std::os::fd::{AsFd, AsRawFd, FromRawFd, OwnedFd};
 use std::os::unix::fs::FileExt;
 use std::path::Path;
 use std::process;
@@ -21,6 +21,7 @@ const BASE: u64 = 0x1_0000;
 // Of the C library, as Linux on x86-64 has it.
 unsafe extern "C" {
     fn memfd_create(name: *const c_char, flags: c_uint) -> c_int;
+    fn fallocate(fd: c_int, mode: c_int, from: i64, len: i64) -> c_int;
 }
 
 // A file of so many huge pages in memory. `None` if there are none, and this process may not ask for them.
@@ -41,8 +42,10 @@ fn huge_file(pages: usize) -> Option<File> {
     }
     // SAFETY: the system has just opened this descriptor, and nothing else has it.
     let file = File::from(unsafe { OwnedFd::from_raw_fd(fd) });
-    file.set_len((pages * HUGE) as u64).ok()?;
-    Some(file)
+    // Another process may take them meanwhile: those of the file are its own from here on.
+    // SAFETY: the declaration fits the function, which takes numbers.
+    let has_all = unsafe { fallocate(file.as_raw_fd(), 0, 0, (pages * HUGE) as i64) } == 0;
+    has_all.then_some(file)
 }
 
 fn mappings() -> usize {

@@ -13,11 +13,13 @@ use Rattle.virtio_blk.specs.declared.request.Request.{Request}
 use Rattle.virtio_blk.specs.declared.request.Request.TheVariants.{Refused}
 use Rattle.virtio_blk.specs.declared.request.DeviceLimits.{DeviceLimits}
 use Rattle.vhost_backend.proofs.OnceLemmas.{step_keeps}
+use Rattle.vhost_backend.proofs.FlightLemmas.{Goes, in_goes}
 use Rattle.vhost_backend.proofs.StageLemmas.{IsQuiet, Stage, behind_stage}
 use Rattle.vhost_backend.proofs.TurnLemmas.{nothing_popped, read_asked, refused_is}
 use Rattle.vhost_backend.specs.Behind.{HappensBy}
 use Rattle.vhost_backend.specs.Block.{block_parts, len_of}
 use Rattle.vhost_backend.specs.BlockQueue.{AfterAsk, AfterPop, AfterRead, Agrees, BlockQueueState, FindsAll, HappensNext, Pops, PopsOrWaits, Waits, asked_at, asked_count, begun, chain_by, event_of, given, has_place, popped, refused, shortened, with_asked, with_queue}
+use Rattle.vhost_backend.specs.Flight.{HappensIn}
 use Rattle.vhost_backend.specs.Ring.{RingState, Step, may_run, request_at}
 use Rattle.vhost_backend.specs.Ring as ring
 use Rattle.vhost_backend.specs.RingMemory.{MemoryStep, Returned}
@@ -336,10 +338,10 @@ module _ {H : Type 0} (step : H → (s : MemoryStep) → Returned s → H → Ty
 module _ {H : Type 0} (step : H → (s : MemoryStep) → Returned s → H → Type 0) (way : Option Sight) (terms : DeviceLimits)
     (q : BlockQueueState) (r : RingState) (agrees : Agrees q r) (same : length q.asked ≡ length r.requests)
     (runs : may_run r ≡ true) where
-  pub turn_grows : (old : H) (e : RingEvent) (new_q : BlockQueueState) (new : H)
+  by_grows : (old : H) (e : RingEvent) (new_q : BlockQueueState) (new : H)
       → HappensBy step way terms q old (Some e) new_q new → (id : ℕ)
       → asked_count new_q id ≡ asked_count q id + length (of_id id (taken r (On e)))
-  turn_grows old e new_q new = go way
+  by_grows old e new_q new = go way
     where
       go : (w : Option Sight) → HappensBy step w terms q old (Some e) new_q new → (id : ℕ)
           → asked_count new_q id ≡ asked_count q id + length (of_id id (taken r (On e)))
@@ -347,8 +349,20 @@ module _ {H : Type 0} (step : H → (s : MemoryStep) → Returned s → H → Ty
       go (Some w) p = stage_grows step terms q r agrees same runs e new_q new
           (behind_stage step (says w.table) w.can_ask terms q old (Some e) new_q new p)
 
+  pub turn_grows : (old : H) (e : RingEvent) (new_q : BlockQueueState) (new : H)
+      → HappensIn step terms way q old (Some e) new_q new → (id : ℕ)
+      → asked_count new_q id ≡ asked_count q id + length (of_id id (taken r (On e)))
+  turn_grows old e new_q new p id =
+      let (mid_q, mid, goes, is, ends) = in_goes step terms way q old (Some e) new_q new p in
+      ap (λ (v : BlockQueueState). asked_count v id) is ∙ go mid_q mid goes
+    where
+      go : (mid_q : BlockQueueState) (mid : H) → Goes step terms way q old (Some e) mid_q mid
+          → asked_count mid_q id ≡ asked_count q id + length (of_id id (taken r (On e)))
+      go mid_q mid (inl p) = by_grows old e mid_q mid p id
+      go mid_q mid (inr p) = stage_grows step terms q r agrees same runs e mid_q mid p id
+
   pub turns : (old : H) (e : RingEvent) (new_q : BlockQueueState) (new : H)
-      → HappensBy step way terms q old (Some e) new_q new → FindsAll new_q (stepped r (On e))
+      → HappensIn step terms way q old (Some e) new_q new → FindsAll new_q (stepped r (On e))
   turns old e new_q new next =
       let grows = turn_grows old e new_q new next in
       settles new_q (stepped r (On e)) (λ id. omega (arith, grows id, counts r id (On e), agrees id))

@@ -23,7 +23,7 @@ use Rattle.vhost_backend.proofs.StandLemmas.{AllLess, FetchLess, QueueLess, all_
 use Rattle.vhost_backend.specs.Backend.{is_free}
 use Rattle.vhost_backend.specs.Behind.{with_reach}
 use Rattle.vhost_backend.specs.BlockBackend.{answered, came, channel_lost, finished_by, hung_up, in_use, is_done, mapped, mapped_at, refused_one, region_at, replied_to, reply_by, reply_for, reply_taken, resized, taken_by, with_change}
-use Rattle.vhost_backend.specs.BlockConnection.{Connects, Maps, done, ended, failed, kicked, new_connection, offered, reply_came, reply_in, sent, taken, taken_whole, with_backend}
+use Rattle.vhost_backend.specs.BlockConnection.{Connects, Maps, done, ended, failed, kicked, new_connection, offered, reply_came, reply_in, sent, taken, taken_whole, tracking, with_backend}
 use Rattle.vhost_backend.specs.BlockQueue.{BlockQueueState, new_queue}
 use Rattle.vhost_backend.specs.ConnectionMemory as memory
 use Rattle.vhost_backend.specs.ConnectionMemory.{MemoryState}
@@ -152,6 +152,9 @@ module _ (f : Says) where
 
   pub sent_now : (c : BlockConnection) (count : ℕ) → Current f c → Current f (sent c count)
   sent_now c count now = same_now f c (sent c count) refl refl refl refl now
+
+  pub tracking_now : (c : BlockConnection) (bytes : List ℕ) → Current f c → Current f (tracking c bytes)
+  tracking_now c bytes now = same_now f c (tracking c bytes) refl refl refl refl now
 
   pub resized_now : (c : BlockConnection) (sectors : ℕ) → Current f c
       → Current f (with_backend c (resized c.backend sectors))

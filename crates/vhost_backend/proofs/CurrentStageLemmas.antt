@@ -469,7 +469,7 @@ module _ {H : Type 0} (step : H → (s : MemoryStep) → Returned s → H → Ty
           go state.Stops p = ends p
           go state.Whole p = uses terms q x x.goal old a q' new p refl none fetch (t, stands)
 
-      after_look : (q : BlockQueueState) (r : Result (Option Found) QueueError) (old : H) (a : Option RingEvent)
+      pub after_look : (q : BlockQueueState) (r : Result (Option Found) QueueError) (old : H) (a : Option RingEvent)
           (q' : BlockQueueState) (new : H) → AfterLook step terms q r old a q' new → Holds old q → Holds new q'
       after_look q (Ok (Some found)) old a q' new p holds = chains terms q found old a q' new p holds
       after_look q (Ok None) old a q' new (was, is, same) (t, stands) =

@@ -8,8 +8,10 @@ use Rattle.virtio_queue.specs.declared.error.QueueError.{QueueError}
 use Rattle.vhost_user.specs.Reply.{refused}
 use Rattle.vhost_user.specs.declared.vring.NotRunning.{NotRunning}
 use Rattle.vhost_user.specs.declared.vring.RunningVring.{RunningVring}
+use Rattle.vhost_backend.proofs.FlightLemmas.{gives_asked}
 use Rattle.vhost_backend.proofs.ChannelLemmas.{on_channel}
-use Rattle.vhost_backend.proofs.StandLemmas.{AllLess, QueueLess, alike, all_itself, all_same, all_then, forgot_asked, less_as, queue_itself, set_less, unasked}
+use Rattle.vhost_backend.proofs.StandLemmas.{AllLess, AskedLess, QueueLess, alike, all_itself, all_same, all_then, forgot_asked, less_as, queue_itself, set_less, unasked}
+use Rattle.vhost_backend.specs.declared.flight.FlightPlace.{FlightPlace}
 use Rattle.vhost_backend.specs.Backend.{is_over, mapping_at, over}
 use Rattle.vhost_backend.specs.Block.{status_of, written_of}
 use Rattle.vhost_backend.specs.BlockBackend.{Acts, ActsFirst, GivesBackAt, Returns, Steps, StepsFrom, after_reach, asked_by, asked_first_by, asked_more_by, broke_if, called_up, counted, ended_by, ended_with, hung_up, messaged, placed_by, replied, said_last, stepped_on_by}
@@ -22,7 +24,7 @@ use Rattle.vhost_backend.specs.PageList.{capped}
 use Rattle.vhost_backend.specs.Questions.{stale}
 use Rattle.vhost_backend.specs.Reach.{moved_to, same_log}
 use Rattle.vhost_backend.specs.RingMemory.{MemoryStep, Returned, finishes}
-use Rattle.vhost_backend.specs.SetUp.{base_of, fresh_queue, is_set_up, log_of, moved_queue}
+use Rattle.vhost_backend.specs.SetUp.{base_of, fresh_queue, is_set_up, log_of, moved_queue, part_for}
 use Rattle.vhost_backend.specs.TableUse.{awaited}
 use Rattle.vhost_backend.specs.Wanted.{wanted_at}
 use Rattle.vhost_backend.specs.declared.backend.Finish.{Finish}
@@ -84,35 +86,36 @@ moves q queue log = go (is_same_place q.queue queue && same_log q.reach.log log)
     go true = alike q _ refl (unasked q.asked)
     go false = record { pages = refl; rows = refl; fetch = tt; asked = unasked q.asked }
 
-began_less : (q : BlockQueueState) (made : Result AnyQueue QueueError) (log : Option ℕ)
-    → QueueLess q (began q made log).0
-began_less q (Ok queue) log = record { pages = refl; rows = refl; fetch = tt; asked = unasked q.asked }
-began_less q (Err e) log = queue_itself q
+began_less : (q : BlockQueueState) (made : Result AnyQueue QueueError) (log : Option ℕ) (part : Option FlightPlace)
+    → QueueLess q (began q made log part).0
+began_less q (Ok queue) log part = record { pages = refl; rows = refl; fetch = tt; asked = unasked q.asked }
+began_less q (Err e) log part = queue_itself q
 
 went_on_less : (q : BlockQueueState) (made : Result AnyQueue QueueError) (log : Option ℕ)
     → QueueLess q (went_on q made log).0
 went_on_less q (Ok queue) log = moves q queue log
 went_on_less q (Err e) log = queue_itself q
 
-set_up_less : (q : BlockQueueState) (max_size : ℕ) (vring : RunningVring) (features : ℕ) (fresh : Bool)
-    → QueueLess q (set_up q max_size vring features fresh).0
-set_up_less q max_size vring features true = began_less q (fresh_queue max_size vring features) (log_of vring features)
-set_up_less q max_size vring features false = go (not (is_set_up q.queue) || stays_at q vring (log_of vring features))
+set_up_less : (q : BlockQueueState) (max_size : ℕ) (vring : RunningVring) (features : ℕ) (part : Option FlightPlace) (fresh : Bool)
+    → QueueLess q (set_up q max_size vring features part fresh).0
+set_up_less q max_size vring features part true =
+    began_less q (fresh_queue max_size vring features) (log_of vring features) part
+set_up_less q max_size vring features part false = go (not (is_set_up q.queue) || stays_at q vring (log_of vring features))
   where
     go : (v : Bool) → (let t : BlockQueueState × Reached = if v then (q, reached.Fine)
         else went_on q (moved_queue q.queue vring) (log_of vring features) in QueueLess q t.0)
     go true = queue_itself q
     go false = went_on_less q (moved_queue q.queue vring) (log_of vring features)
 
-set_up_all : (qs : List BlockQueueState) (ring max_size : ℕ) (vring : RunningVring) (features : ℕ) (fresh : Bool)
-    → AllLess qs (set_up_at qs ring max_size vring features fresh (slice_get qs ring)).0
-set_up_all qs ring max_size vring features fresh = go (slice_get qs ring) refl
+set_up_all : (qs : List BlockQueueState) (ring max_size : ℕ) (vring : RunningVring) (features : ℕ) (part : Option FlightPlace) (fresh : Bool)
+    → AllLess qs (set_up_at qs ring max_size vring features part fresh (slice_get qs ring)).0
+set_up_all qs ring max_size vring features part fresh = go (slice_get qs ring) refl
   where
     go : (o : Option BlockQueueState) → slice_get qs ring ≡ o
-        → AllLess qs (set_up_at qs ring max_size vring features fresh o).0
+        → AllLess qs (set_up_at qs ring max_size vring features part fresh o).0
     go None found = all_itself qs
-    go (Some q) found = set_less qs ring q (set_up q max_size vring features fresh).0 found
-        (set_up_less q max_size vring features fresh)
+    go (Some q) found = set_less qs ring q (set_up q max_size vring features part fresh).0 found
+        (set_up_less q max_size vring features part fresh)
 
 -- ---- what leaves queues with no more than these
 
@@ -136,6 +139,8 @@ module _ (qs : List BlockQueueState) where
   first w wanted.Nothing few = few
   first w wanted.Memory few = few
   first w (wanted.Log size offset) few = few
+  first w (wanted.File asked) few = few
+  first w (wanted.Region size offset) few = few
   first w (wanted.Descriptor purpose is) few = few
   first w (wanted.Base ring) few =
       all_then qs w.queues (based w.queues ring (slice_get w.queues ring)).0 few (based_less w.queues ring)
@@ -199,9 +204,10 @@ module _ (qs : List BlockQueueState) where
   placed w (Err e) fresh few = few
   placed w (Ok vring) fresh few =
       let features = w.backend.connection.features in
-      let t = set_up_at w.queues w.todo.ring w.max_size vring features fresh (slice_get w.queues w.todo.ring) in
+      let part = part_for features w.todo.ring w.backend.connection.inflight in
+      let t = set_up_at w.queues w.todo.ring w.max_size vring features part fresh (slice_get w.queues w.todo.ring) in
       reach (record w { queues = t.0 }) t.1 (all_then qs w.queues t.0 few
-      (set_up_all w.queues w.todo.ring w.max_size vring features fresh))
+      (set_up_all w.queues w.todo.ring w.max_size vring features part fresh))
 
   freed : (w : BlockBackend) (ring : ℕ) (before after : Option (ℕ × Permissions)) → Few w
       → Few (freed_by w ring before after)
@@ -247,7 +253,8 @@ module _ {H : Type 0} (step : H → (s : MemoryStep) → Returned s → H → Ty
   gives_less w t old w' new (r, qs, with, is) = subst (λ (v : BlockBackend). AllLess w.queues v.queues) (sym is)
       (reach w.queues (record w { queues = qs }) r
       (queue_less w.queues t.ring reached.Fine old r qs new (Gives step t.chain t.len old new)
-      (λ q q' p. less_as q _ q' p.1.1 (alike q _ refl (forgot_asked q.asked t.chain.id))) with))
+      (λ q q' p. let (asked, reach) = gives_asked step q t.chain t.len old p.0 q' new p.1 in
+      alike q q' reach (subst (AskedLess q.asked) (sym asked) (forgot_asked q.asked t.chain.id))) with))
 
   acts_less : (w : BlockBackend) (a : RingAction) (old : H) (m : Made) (w' : BlockBackend) (new : H)
       → Acts step w w.todo.ring a old m w' new → AllLess w.queues w'.queues

@@ -1,12 +1,12 @@
 -- A step of a ring's turn leaves all that is kept, fetched and under way where the messages say.
-use Rattle.std.proofs.Common.{◌≡◌, ◌∙◌, ◌⊎◌, ℕ, Bool, true, false, List, Contains, Option, Some, None, Result, Ok, Err, MatchBool, MatchOption, refl, ap, sym, subst, inl, inr}
+use Rattle.std.proofs.Common.{◌≡◌, ◌∙◌, ◌⊎◌, ℕ, Bool, true, false, List, [], Contains, Option, Some, None, Result, Ok, Err, MatchBool, MatchOption, refl, ap, sym, subst, inl, inr}
 use Rattle.std.specs.List.{slice_get, slice_set}
 use Rattle.std.specs.declared.alloc.AllocError.{AllocError}
 use Rattle.vm_memory_base.specs.Table.{Says, says}
 use Rattle.vm_memory_base.specs.declared.iotlb.Permissions.{Permissions}
 use Rattle.vm_memory_guest.specs.declared.region.error.GuestMemoryError.{GuestMemoryError}
 use Rattle.vm_memory_device.specs.declared.chain.Segment.{Segment}
-use Rattle.virtio_queue.specs.Any.{past}
+use Rattle.virtio_queue.specs.Any.{of_head, past}
 use Rattle.virtio_queue.specs.declared.any.AnyQueue.{AnyQueue}
 use Rattle.virtio_queue.specs.declared.any.AnyQueue.TheVariants.{Split, Packed}
 use Rattle.virtio_queue.specs.declared.error.QueueError.{QueueError}
@@ -14,9 +14,10 @@ use Rattle.virtio_blk.specs.declared.request.DeviceLimits.{DeviceLimits}
 use Rattle.virtio_blk.specs.declared.request.Request.{Request}
 use Rattle.virtio_blk.specs.declared.request.Request.TheVariants.{Refused}
 use Rattle.vhost_iotlb.specs.declared.kept.Kept.{Kept}
-use Rattle.vhost_backend.proofs.CurrentStageLemmas.{LeadsLaw, behind_holds}
-use Rattle.vhost_backend.proofs.KeepLemmas.{IsPlain, next_keeps}
-use Rattle.vhost_backend.proofs.StandLemmas.{HoldsAll, HoldsOne, QueueLess, alike, began_asked, less_as, less_stands, one_holds, queue_itself, queue_then, unasked}
+use Rattle.vhost_backend.proofs.CurrentStageLemmas.{LeadsLaw, after_look, behind_holds}
+use Rattle.vhost_backend.proofs.FlightLemmas.{flies_else, resumes_is}
+use Rattle.vhost_backend.proofs.KeepLemmas.{IsPlain, again_here_keeps, flies_keep, next_keeps, resumes_keep}
+use Rattle.vhost_backend.proofs.StandLemmas.{AskedLess, HoldsAll, HoldsOne, QueueLess, alike, began_asked, less_as, less_stands, one_holds, queue_itself, queue_then, unasked}
 use Rattle.vhost_backend.specs.Backend.{BackendState}
 use Rattle.vhost_backend.specs.Behind.{HappensBy}
 use Rattle.vhost_backend.specs.BlockBackend.{Looks, TakesTurn, looked, terms_of, told}
@@ -25,7 +26,8 @@ use Rattle.vhost_backend.specs.BlockQueues.{Turns}
 use Rattle.vhost_backend.specs.BlockTable.{asked_by, asked_for}
 use Rattle.vhost_backend.specs.BlockTurn as turn
 use Rattle.vhost_backend.specs.Current.{IsKeptBy, QueueStands}
-use Rattle.vhost_backend.specs.RingMemory.{MemoryStep, Returned, begins, forgets, keeps}
+use Rattle.vhost_backend.specs.Flight.{Flies, HappensFirst, HappensIn, PopsAgain, Resumes, found_again, is_due, is_open, kept_at}
+use Rattle.vhost_backend.specs.RingMemory.{MemoryStep, Returned, begins, forgets, keeps, pops_again}
 use Rattle.vhost_backend.specs.Rings.{may_pop}
 use Rattle.vhost_backend.specs.Sight.{Sight}
 use Rattle.vhost_backend.specs.TableUse.{awaited}
@@ -99,6 +101,29 @@ module _ {H : Type 0} (step : H → (s : MemoryStep) → Returned s → H → Ty
           (pops_less mid_q mid found next_q next pops) (after_less next_q found next e q' new after)
       go (Err error) (is, kept, still) = same mid_q q' kept
 
+  -- ---- what was in flight
+
+  again_here_less : (q : BlockQueueState) (head : ℕ) (old : H) (e : Option RingEvent) (q' : BlockQueueState) (new : H)
+      → PopsAgain step terms None q head old e q' new → QueueLess q q'
+  again_here_less q head old e q' new (Err error, mid, first, (is, kept, still)) = same q q' kept
+  again_here_less q head old e q' new (Ok chain, mid, first, (found, rest, is)) = go (has_place q head) rest
+    where
+      read : (request : Result Request GuestMemoryError) → (found, q') ≡ begun (kept_at q.queue) q (of_head head) chain request
+          → QueueLess q q'
+      read (Ok request) is = less_as q _ q' (ap (λ t. t.1) is) (alike q _ refl (began_asked q.asked head _ refl))
+      read (Err error) is = less_as q _ q' (ap (λ t. t.1) is) (alike q _ refl (unasked q.asked))
+
+      go : (place : Bool) → MatchBool place
+          ((request : Result Request GuestMemoryError) × step mid (begins terms chain) request new
+          × ((found, q') ≡ begun (kept_at q.queue) q (of_head head) chain request))
+          ((found ≡ popped (of_head head) (Refused 1)) × (q' ≡ q) × (new ≡ mid)) → QueueLess q q'
+      go true (request, took, is) = read request is
+      go false (is, kept, still) = same q q' kept
+
+-- a queue of which what is kept and fetched and under way is the same
+same_less : (q q' : BlockQueueState) → q'.reach ≡ q.reach → q'.asked ≡ q.asked → QueueLess q q'
+same_less q q' reach asked = alike q q' reach (subst (AskedLess q.asked) (sym asked) (unasked q.asked))
+
 -- ---- all rings
 
 -- what is asked for changes no queue
@@ -113,23 +138,65 @@ module _ {H : Type 0} (step : H → (s : MemoryStep) → Returned s → H → Ty
     (more : (h : H) (S S' : Kept → Type 0) → ((k : Kept) → S k → S' k) → T h S → T h S')
     (plain : (old : H) (s : MemoryStep) (r : Returned s) (new : H) (S : Kept → Type 0) → IsPlain s → step old s r new
     → T old S → T new S) (f : Says) where
-  none_holds : (terms : DeviceLimits) (q : BlockQueueState) (old : H) (e : Option RingEvent) (q' : BlockQueueState)
-      (new : H) → HappensNext step terms q old e q' new → (S : Kept → Type 0) → HoldsOne T f S old q
-      → HoldsOne T f S new q'
-  none_holds terms q old e q' new next S (t, stands) =
-      let less = next_less step terms q old e q' new next in
+  -- no more is kept, and what is known of the table stays
+  less_holds : (q : BlockQueueState) (old : H) (q' : BlockQueueState) (new : H) → QueueLess q q'
+      → ((P : Kept → Type 0) → T old P → T new P) → (S : Kept → Type 0) → HoldsOne T f S old q → HoldsOne T f S new q'
+  less_holds q old q' new less goes S (t, stands) =
       let P : Kept → Type 0 = λ k. S k ⊎ IsKeptBy q.reach k in (
         subst (λ (rows : List Kept). T new (λ k. S k ⊎ (Contains q'.reach.pages k ⊎ Contains rows k))) (sym less.rows)
             (subst (λ (pages : List Kept). T new (λ k. S k ⊎ (Contains pages k ⊎ Contains q.reach.rows k))) (sym less.pages)
-            (next_keeps step (λ a b. T a P → T b P) (λ h t. t) (λ a b c first second t. second (first t))
-            (λ old s r new is step t. plain old s r new P is step t) terms q old e q' new next t)),
+            (goes P t)),
         less_stands f q q' less stands,
       )
+
+  none_holds : (terms : DeviceLimits) (q : BlockQueueState) (old : H) (e : Option RingEvent) (q' : BlockQueueState)
+      (new : H) → HappensNext step terms q old e q' new → (S : Kept → Type 0) → HoldsOne T f S old q
+      → HoldsOne T f S new q'
+  none_holds terms q old e q' new next = less_holds q old q' new (next_less step terms q old e q' new next)
+      (λ P t. next_keeps step (λ a b. T a P → T b P) (λ h t. t) (λ a b c first second t. second (first t))
+      (λ old s r new is step t. plain old s r new P is step t) terms q old e q' new next t)
+
+  -- what holds of what happens to a ring without a region, and of chains that were in flight, holds of its turn
+  module _ (way : Option Sight) (terms : DeviceLimits)
+      (by : (q : BlockQueueState) (old : H) (e : Option RingEvent) (q' : BlockQueueState) (new : H)
+      → HappensBy step way terms q old e q' new → (S : Kept → Type 0) → HoldsOne T f S old q → HoldsOne T f S new q')
+      (again : (q : BlockQueueState) (head : ℕ) (old : H) (e : Option RingEvent) (q' : BlockQueueState) (new : H)
+      → PopsAgain step terms way q head old e q' new → (S : Kept → Type 0) → HoldsOne T f S old q
+      → HoldsOne T f S new q') where
+    first_holds : (q : BlockQueueState) (o : Option ℕ) (old : H) (e : Option RingEvent) (q' : BlockQueueState) (new : H)
+        → HappensFirst step terms way q o old e q' new → (S : Kept → Type 0) → HoldsOne T f S old q
+        → HoldsOne T f S new q'
+    first_holds q None old e q' new p = by q old e q' new p
+    first_holds q (Some head) old e q' new p = go (is_open way q) p
+      where
+        go : (v : Bool) → MatchBool v (PopsAgain step terms way q head old e q' new)
+            (HappensBy step way terms q old e q' new) → (S : Kept → Type 0) → HoldsOne T f S old q
+            → HoldsOne T f S new q'
+        go true p = again q head old e q' new p
+        go false p = by q old e q' new p
+
+    in_holds : (q : BlockQueueState) (old : H) (e : Option RingEvent) (q' : BlockQueueState) (new : H)
+        → HappensIn step terms way q old e q' new → (S : Kept → Type 0) → HoldsOne T f S old q → HoldsOne T f S new q'
+    in_holds q old e q' new p S one = go (is_due way q) p
+      where
+        go : (v : Bool) → MatchBool v (Resumes step q old e q' new) (Flies step terms way q old e q' new)
+            → HoldsOne T f S new q'
+        go true p = let (quiet, asked, reach) = resumes_is step q old e q' new p in
+            less_holds q old q' new (same_less q q' reach asked)
+            (λ P t. resumes_keep step (λ a b. T a P → T b P) (λ h t. t) (λ a b c first second t. second (first t))
+            (λ old s r new is step t. plain old s r new P is step t) q old e q' new p t) S one
+        go false (mid_q, mid, first, flies) =
+            let is = flies_else step terms e mid_q mid q' new flies in
+            less_holds mid_q mid q' new (same_less mid_q q' (ap (λ (v : BlockQueueState). v.reach) is)
+            (ap (λ (v : BlockQueueState). v.asked) is))
+            (λ P t. flies_keep step (λ a b. T a P → T b P) (λ h t. t) (λ a b c first second t. second (first t))
+            (λ old s r new is step t. plain old s r new P is step t) terms e mid_q mid q' new flies t) S
+            (first_holds q (slice_get q.flight.again 0) old e mid_q mid first S one)
 
   -- a turn, by what is known of a step of one ring
   turn_holds : (way : Option Sight) (w : BlockBackend) (old : H) (is : Bool) (w' : BlockBackend) (new : H)
       → ((q : BlockQueueState) (e : Option RingEvent) (q' : BlockQueueState)
-      → HappensBy step way (terms_of w) q old e q' new → (S : Kept → Type 0) → HoldsOne T f S old q
+      → HappensIn step (terms_of w) way q old e q' new → (S : Kept → Type 0) → HoldsOne T f S old q
       → HoldsOne T f S new q')
       → TakesTurn step way w old is w' new → HoldsAll T f old w.queues → HoldsAll T f new w'.queues
   turn_holds way w old is w' new each (r, b, qs, with, none, was, becomes) holds =
@@ -142,7 +209,7 @@ module _ {H : Type 0} (step : H → (s : MemoryStep) → Returned s → H → Ty
 
       runs : (q q' : BlockQueueState) → slice_get w.queues w.turn ≡ Some q → qs ≡ slice_set w.queues w.turn q'
           → (v : Bool) → MatchBool v
-          ((e : Option RingEvent) × HappensBy step way (terms_of w) q old e q' new × ((b, r) ≡ turn.told w.backend w.turn e))
+          ((e : Option RingEvent) × HappensIn step (terms_of w) way q old e q' new × ((b, r) ≡ turn.told w.backend w.turn e))
           ((r ≡ None) × (b ≡ w.backend) × (q' ≡ q) × (new ≡ old)) → HoldsAll T f new qs
       runs q q' found set true (e, next, told) = subst (HoldsAll T f new) (sym set)
           (one_holds T more f w.queues w.turn q q' old new found (each q e q' next) holds)
@@ -160,7 +227,7 @@ module _ {H : Type 0} (step : H → (s : MemoryStep) → Returned s → H → Ty
 
   looks_by : (way : Option Sight) (w : BlockBackend) (old : H) (is : Bool) (w' : BlockBackend) (new : H)
       → ((q : BlockQueueState) (e : Option RingEvent) (q' : BlockQueueState)
-      → HappensBy step way (terms_of w) q old e q' new → (S : Kept → Type 0) → HoldsOne T f S old q
+      → HappensIn step (terms_of w) way q old e q' new → (S : Kept → Type 0) → HoldsOne T f S old q
       → HoldsOne T f S new q')
       → Looks step way w old is w' new → HoldsAll T f old w.queues → HoldsAll T f new w'.queues
   looks_by way w old is w' new each (None, kicks, takes, turns) holds =
@@ -173,7 +240,14 @@ module _ {H : Type 0} (step : H → (s : MemoryStep) → Returned s → H → Ty
   pub looks_plainly : (w : BlockBackend) (old : H) (is : Bool) (w' : BlockBackend) (new : H)
       → Looks step None w old is w' new → HoldsAll T f old w.queues → HoldsAll T f new w'.queues
   looks_plainly w old is w' new looks holds = looks_by None w old is w' new
-      (λ q e q' next S one. none_holds (terms_of w) q old e q' new next S one) looks holds
+      (λ q e q' next. in_holds None (terms_of w) (none_holds (terms_of w)) again q old e q' new next) looks holds
+    where
+      again : (q : BlockQueueState) (head : ℕ) (old : H) (e : Option RingEvent) (q' : BlockQueueState) (new : H)
+          → PopsAgain step (terms_of w) None q head old e q' new → (S : Kept → Type 0) → HoldsOne T f S old q
+          → HoldsOne T f S new q'
+      again q head old e q' new p = less_holds q old q' new (again_here_less step (terms_of w) q head old e q' new p)
+          (λ P t. again_here_keeps step (λ a b. T a P → T b P) (λ h t. t) (λ a b c first second t. second (first t))
+          (λ old s r new is step t. plain old s r new P is step t) (terms_of w) q head old e q' new p t)
 
   module _ (kept : (old : H) (k : Kept) (r : Result (Unit {0}) AllocError) (new : H) (S : Kept → Type 0)
       → step old (keeps k) r new → T old S → T new (λ j. S j ⊎ (j ≡ k)))
@@ -186,5 +260,18 @@ module _ {H : Type 0} (step : H → (s : MemoryStep) → Returned s → H → Ty
         → LeadsLaw (says way.table) f → Looks step (Some way) w old is w' new → HoldsAll T f old w.queues
         → HoldsAll T f new w'.queues
     looks_behind way w old is w' new leads looks holds = looks_by (Some way) w old is w' new
-        (λ q e q' next S one. behind_holds step T more plain kept forgot failed f S (says way.table) leads way.can_ask
-        (terms_of w) q old e q' new next one) looks holds
+        (λ q e q' next. in_holds (Some way) (terms_of w) by again q old e q' new next) looks holds
+      where
+        by : (q : BlockQueueState) (old : H) (e : Option RingEvent) (q' : BlockQueueState) (new : H)
+            → HappensBy step (Some way) (terms_of w) q old e q' new → (S : Kept → Type 0) → HoldsOne T f S old q
+            → HoldsOne T f S new q'
+        by q old e q' new next S one = behind_holds step T more plain kept forgot failed f S (says way.table) leads
+            way.can_ask (terms_of w) q old e q' new next one
+
+        again : (q : BlockQueueState) (head : ℕ) (old : H) (e : Option RingEvent) (q' : BlockQueueState) (new : H)
+            → PopsAgain step (terms_of w) (Some way) q head old e q' new → (S : Kept → Type 0) → HoldsOne T f S old q
+            → HoldsOne T f S new q'
+        again q head old e q' new (r, mid, first, after) S (t, stands) =
+            after_look step T more plain kept forgot failed f S (says way.table) leads way.can_ask (terms_of w) q
+            (found_again q head r) mid e q' new after
+            (plain old (pops_again q.queue head []) r mid (λ k. S k ⊎ IsKeptBy q.reach k) tt first t, stands)

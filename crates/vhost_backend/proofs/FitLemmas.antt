@@ -342,6 +342,8 @@ until_fits b used (req.IotlbMsg message) = go used
     go false = (refl, λ i is there. absurd (cc))
 until_fits b used (req.GetConfig space) = (refl, λ i is there. absurd (cc))
 until_fits b used (req.SetConfig space) = (refl, λ i is there. absurd (cc))
+until_fits b used (req.GetInflightFd region) = (refl, λ i is there. absurd (cc))
+until_fits b used (req.SetInflightFd region) = refl
 
 -- ---- messages
 

@@ -95,6 +95,8 @@ module _ (w : BlockBackend) (place : is_none w.todo.place ≡ true) (actions : (
   first_rests wanted.Nothing is = absurd (cc)
   first_rests wanted.Memory is = absurd (cc)
   first_rests (wanted.Log size offset) is = absurd (cc)
+  first_rests (wanted.File asked) is = absurd (cc)
+  first_rests (wanted.Region size offset) is = absurd (cc)
   first_rests (wanted.Descriptor purpose there) is = absurd (cc)
   first_rests (wanted.Base ring) is = absurd (cc)
   first_rests wanted.Table is = absurd (cc)

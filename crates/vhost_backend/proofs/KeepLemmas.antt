@@ -8,11 +8,16 @@ use Rattle.vm_memory_device.specs.declared.chain.Segment.{Segment}
 use Rattle.virtio_blk.specs.declared.request.DeviceLimits.{DeviceLimits}
 use Rattle.virtio_blk.specs.declared.request.Request.{Request}
 use Rattle.virtio_blk.specs.declared.request.Request.TheVariants.{Refused}
-use Rattle.virtio_queue.specs.Any.{past}
+use Rattle.virtio_queue.specs.Any.{of_head, past}
 use Rattle.virtio_queue.specs.declared.any.AnyQueue.{AnyQueue}
 use Rattle.virtio_queue.specs.declared.any.AnyQueue.TheVariants.{Split, Packed}
 use Rattle.virtio_queue.specs.declared.error.QueueError.{QueueError}
 use Rattle.virtio_queue.specs.declared.packed.state.PackedBuffer.{PackedBuffer}
+use Rattle.vhost_inflight.specs.Split.{after_pop, after_return, begin_return_stores, end_return_stores, pop_stores}
+use Rattle.vhost_inflight.specs.declared.split.SplitInFlight.{SplitInFlight}
+use Rattle.vhost_inflight.specs.declared.split.SplitStore.{SplitStore}
+use Rattle.vhost_inflight.specs.declared.split_start.SplitStart.{SplitStart}
+use Rattle.vhost_inflight.specs.declared.split_start.StartError.{StartError}
 use Rattle.vhost_iotlb.specs.Kept.{differs}
 use Rattle.vhost_iotlb.specs.declared.kept.Change.{Change}
 use Rattle.vhost_iotlb.specs.declared.kept.Kept.{Kept}
@@ -20,15 +25,16 @@ use Rattle.vhost_backend.specs.Backend.{BackendState}
 use Rattle.vhost_backend.specs.Behind.{AfterAskBehind, AfterFind, AfterLook, AfterLookUp, BeginsFetched, Fetches, FetchesChain, FetchesNext, Finds, FindsNext, GivesUp, HappensBehind, HappensBy, KeepsRows, ReachesRing, ReadsBehind, TakesFetched, Uses, WaitsBehind, begun_behind, open_terms, or_empty, origin_of, past_found, with_fetch, with_reach}
 use Rattle.vhost_backend.specs.Block.{status_of, written_of}
 use Rattle.vhost_backend.specs.BlockBackend.{Acts, ActsFirst, GivesBackAt, Looks, Returns, Steps, StepsFrom, TakesTurn, terms_of}
-use Rattle.vhost_backend.specs.BlockQueue.{AfterAsk, AfterPop, AfterRead, Asks, Begins, BlockQueueState, HappensNext, Pops, PopsBy, PopsOrWaits, ReadsBy, Waits, asked_at, begun, buffer_by, event_of, has_place, len_left, popped, with_asked, with_queue}
+use Rattle.vhost_backend.specs.BlockQueue.{AfterAsk, AfterPop, AfterRead, Asks, Begins, BlockQueueState, GivesBack, HappensNext, Pops, PopsBy, PopsOrWaits, ReadsBy, Waits, asked_at, begun, buffer_by, event_of, has_place, len_left, popped, with_asked, with_queue}
 use Rattle.vhost_backend.specs.BlockQueues as queues
 use Rattle.vhost_backend.specs.BlockTable.{AfterChange, ChangesBy, ChangesTable}
 use Rattle.vhost_backend.specs.BlockTurn as turn
 use Rattle.vhost_backend.specs.Fetch.{FetchState, after_drop, guest_chain, has_gap, is_dropped}
+use Rattle.vhost_backend.specs.Flight.{kept_at, AfterAgain, AfterRegion, AfterStart, AfterUsed, Flies, FliesAt, FliesBy, HappensFirst, HappensIn, Lands, PopsAgain, ReadsRegion, Resumes, Tracks, TracksAt, found_again, is_due, is_open, next_used_of, store_at, used_ring_of, with_kept}
 use Rattle.vhost_backend.specs.KeptRanges.{ForgetsAll, KeepsAll}
-use Rattle.vhost_backend.specs.Marks.{Marks, MarksRing, asking_marks, chain_marks, return_marks}
+use Rattle.vhost_backend.specs.Marks.{Marks, MarksRing, asking_marks, chain_marks, logged_at, return_marks}
 use Rattle.vhost_backend.specs.Reach.{Changes, ChangesOthers, ForgetsBoth, ReachState, changed_by, dropped, forgotten, rows_forgotten}
-use Rattle.vhost_backend.specs.RingMemory.{MemoryStep, Returned, adds_used, begins, enables, finishes, forgets, keeps, marks, marks_ring, needs, pops, reads_used}
+use Rattle.vhost_backend.specs.RingMemory.{MemoryStep, Returned, adds_used, begins, enables, finishes, forgets, keeps, marks, marks_ring, needs, pops, pops_again, reads_region, reads_used, tracks}
 use Rattle.vhost_backend.specs.Rings.{may_pop}
 use Rattle.vhost_backend.specs.TableUse.{ChangesAll, ChangesAt, ChangesTo, in_use, kicked_if}
 use Rattle.vhost_backend.specs.declared.backend.Place.{Place}
@@ -40,6 +46,8 @@ use Rattle.vhost_backend.specs.Sight.{Sight}
 use Rattle.vhost_backend.specs.declared.block_queue.Asked.{Asked}
 use Rattle.vhost_backend.specs.declared.block_queue.Finished.{Finished}
 use Rattle.vhost_backend.specs.declared.block_queue.Finished.TheVariants as finished
+use Rattle.vhost_backend.specs.declared.block_queue.GiveBack.{GiveBack}
+use Rattle.vhost_backend.specs.declared.block_queue.GiveBack.TheVariants as back
 use Rattle.vhost_backend.specs.declared.block_queue.Pop.{Pop}
 use Rattle.vhost_backend.specs.declared.block_queue.Pop.TheVariants as pop
 use Rattle.vhost_backend.specs.declared.block_queues.Reached.{Reached}
@@ -50,10 +58,11 @@ use Rattle.vhost_backend.specs.declared.fetch.Goal.{Goal}
 use Rattle.vhost_backend.specs.declared.fetch.Goal.TheVariants as goal
 use Rattle.vhost_backend.specs.declared.fetch.State.{State}
 use Rattle.vhost_backend.specs.declared.fetch.State.TheVariants as state
+use Rattle.vhost_backend.specs.declared.flight.FlightPlace.{FlightPlace}
 use Rattle.vhost_backend.specs.declared.pieces.Piece.{Piece}
 use Rattle.vhost_backend.specs.declared.request.Chain.{Chain}
 use Rattle.vhost_backend.specs.declared.ring.RingEvent.{RingEvent}
-use Rattle.vhost_backend.specs.declared.ring.RingEvent.TheVariants.{Emptied}
+use Rattle.vhost_backend.specs.declared.ring.RingEvent.TheVariants.{Start, Stop, Enable, Break, Kick, Popped, Emptied, Ended}
 use Rattle.vhost_backend.specs.declared.ring.actions.RingAction.{RingAction}
 use Rattle.vhost_backend.specs.declared.ring.actions.RingAction.TheVariants as action
 
@@ -112,11 +121,40 @@ module _ {H : Type 0} (step : H → (s : MemoryStep) → Returned s → H → Ty
       go (Some asked) (w, mid, first, rest) = then old mid new (plain old (finishes asked.chain
           (status_of asked.request failed) (written_of asked.request moved)) w mid tt first) (after asked mid w rest)
 
-  gives_keep : (chain : Chain) (len : ℕ) (old new : H) (q : BlockQueueState) (r : Reached) (q' : BlockQueueState)
-      → queues.Gives step chain len old new q r q' → K old new
-  gives_keep chain len old new q r q' (a, ((e, stored, first, rest, made, after), asked), is) =
+  tracks_keep : (p : FlightPlace) (ss : List SplitStore) (old new : H) → Tracks step p ss old new → K old new
+  tracks_keep p [] old new is = same old new is
+  tracks_keep p (s ∷ ss) old new (mid, first, rest) =
+      then old mid new (plain old (tracks (store_at p s)) tt mid tt first) (tracks_keep p ss mid new rest)
+
+  tracks_at_keep : (o : Option FlightPlace) (ss : List SplitStore) (old new : H) → TracksAt step o ss old new → K old new
+  tracks_at_keep None ss old new is = same old new is
+  tracks_at_keep (Some p) ss old new all = tracks_keep p ss old new all
+
+  back_keep : (q : BlockQueueState) (chain : Chain) (len : ℕ) (old : H) (a : GiveBack) (q' : BlockQueueState) (new : H)
+      → GivesBack step q chain len old a q' new → K old new
+  back_keep q chain len old a q' new ((e, stored, first, rest, made, after), asked) =
       then old stored new (plain old (adds_used q.queue (buffer_by chain) len) e stored tt first)
       (ring_keeps (return_marks q.queue q.reach.log) stored new rest)
+
+  lands_keep : (a : GiveBack) (q : BlockQueueState) (chain : Chain) (old new : H) → Lands step a q chain old new
+      → K old new
+  lands_keep back.Done q chain old new all =
+      tracks_at_keep q.flight.place (end_return_stores chain.id (next_used_of q.queue)) old new all
+  lands_keep (back.Broken e) q chain old new is = same old new is
+
+  gives_keep : (chain : Chain) (len : ℕ) (old new : H) (q : BlockQueueState) (r : Reached) (q' : BlockQueueState)
+      → queues.Gives step chain len old new q r q' → K old new
+  gives_keep chain len old new q r q' (a, gives, is) = go q.flight.kept gives
+    where
+      go : (o : Option SplitInFlight) → MatchOption o (GivesBack step q chain len old a q' new)
+          (λ k. (one two : H) × TracksAt step q.flight.place (begin_return_stores k chain.id) old one
+          × GivesBack step (with_kept q (after_return k chain.id)) chain len one a q' two
+          × Lands step a q' chain two new) → K old new
+      go None p = back_keep q chain len old a q' new p
+      go (Some k) (one, two, before, gives, after) = then old one new
+          (tracks_at_keep q.flight.place (begin_return_stores k chain.id) old one before)
+          (then one two new (back_keep (with_kept q (after_return k chain.id)) chain len one a q' two gives)
+          (lands_keep a q' chain two new after))
 
   back_keeps : (w : BlockBackend) (t : Returning) (old : H) (w' : BlockBackend) (new : H)
       → GivesBackAt step w t old w' new → K old new
@@ -220,6 +258,69 @@ module _ {H : Type 0} (step : H → (s : MemoryStep) → Returned s → H → Ty
       go : (r : Result (Unit {0}) QueueError) → AfterRead step terms r mid_q mid a q' new → K mid new
       go (Ok done) p = pop_or_wait_keeps terms mid_q mid a q' new p
       go (Err e) p = same mid new p.2
+
+  -- ---- what was in flight
+
+  after_start_keeps : (q : BlockQueueState) (p : FlightPlace) (r : Result SplitStart StartError) (old : H)
+      (a : Option RingEvent) (q' : BlockQueueState) (new : H) → AfterStart step q p r old a q' new → K old new
+  after_start_keeps q p (Ok s) old a q' new (mid, all, marked, is, becomes) =
+      then old mid new (tracks_keep p s.stores.items old mid all)
+      (ring_keeps (logged_at q.reach.log (used_ring_of q.queue)) mid new marked)
+  after_start_keeps q p (Err e) old a q' new (is, becomes, still) = same old new still
+
+  after_region_keeps : (q : BlockQueueState) (p : FlightPlace) (r : Result (List ℕ) AllocError) (old : H)
+      (a : Option RingEvent) (q' : BlockQueueState) (new : H) → AfterRegion step q p r old a q' new → K old new
+  after_region_keeps q p (Ok bytes) old a q' new (r, starts, after) = after_start_keeps q p r old a q' new after
+  after_region_keeps q p (Err e) old a q' new (is, becomes, still) = same old new still
+
+  region_keeps : (q : BlockQueueState) (o : Option FlightPlace) (old : H) (a : Option RingEvent)
+      (q' : BlockQueueState) (new : H) → ReadsRegion step q o old a q' new → K old new
+  region_keeps q None old a q' new (is, becomes, still) = same old new still
+  region_keeps q (Some p) old a q' new (r, mid, first, after) =
+      then old mid new (plain old (reads_region p.base p.len) r mid tt first)
+      (after_region_keeps q p r mid a q' new after)
+
+  pub resumes_keep : (q : BlockQueueState) (old : H) (a : Option RingEvent) (q' : BlockQueueState) (new : H)
+      → Resumes step q old a q' new → K old new
+  resumes_keep q old a q' new (r, mid_q, mid, reads, after) =
+      then old mid new (reads_keep q q.is_unread q.queue old r mid_q mid reads) (go r after)
+    where
+      go : (r : Result (Unit {0}) QueueError) → AfterUsed step mid_q r mid a q' new → K mid new
+      go (Ok done) p = region_keeps mid_q mid_q.flight.place mid a q' new p
+      go (Err e) (is, becomes, still) = same mid new still
+
+  pub again_here_keeps : (terms : DeviceLimits) (q : BlockQueueState) (head : ℕ) (old : H) (a : Option RingEvent)
+      (q' : BlockQueueState) (new : H) → PopsAgain step terms None q head old a q' new → K old new
+  again_here_keeps terms q head old a q' new (r, mid, first, after) =
+      then old mid new (plain old (pops_again q.queue head []) r mid tt first) (go r after)
+    where
+      go : (r : Result (List Segment) QueueError) → AfterAgain step terms q head r mid a q' new → K mid new
+      go (Ok chain) (found, began, is) = begins_keep terms (kept_at q.queue) q (of_head head) chain mid found q' new began
+      go (Err e) (is, becomes, still) = same mid new still
+
+  flies_at_keep : (terms : DeviceLimits) (o : Option ℕ) (chain : Chain) (q : BlockQueueState) (old : H)
+      (q' : BlockQueueState) (new : H) → FliesAt step o chain q old q' new → K old new
+  flies_at_keep terms (Some head) chain q old q' new (becomes, still) = same old new still
+  flies_at_keep terms None chain q old q' new p = go q.flight.kept p
+    where
+      go : (o : Option SplitInFlight) → MatchOption o ((q' ≡ q) × (new ≡ old))
+          (λ k. TracksAt step q.flight.place (pop_stores k chain.id) old new × (q' ≡ with_kept q (after_pop k)))
+          → K old new
+      go None (becomes, still) = same old new still
+      go (Some k) (all, becomes) = tracks_at_keep q.flight.place (pop_stores k chain.id) old new all
+
+  pub flies_keep : (terms : DeviceLimits) (a : Option RingEvent) (q : BlockQueueState) (old : H) (q' : BlockQueueState)
+      (new : H) → FliesBy step a q old q' new → K old new
+  flies_keep terms (Some (Popped chain parts bytes)) q old q' new p =
+      flies_at_keep terms (slice_get q.flight.again 0) chain q old q' new p
+  flies_keep terms None q old q' new p = same old new p.1
+  flies_keep terms (Some Start) q old q' new p = same old new p.1
+  flies_keep terms (Some Stop) q old q' new p = same old new p.1
+  flies_keep terms (Some (Enable on)) q old q' new p = same old new p.1
+  flies_keep terms (Some Break) q old q' new p = same old new p.1
+  flies_keep terms (Some Kick) q old q' new p = same old new p.1
+  flies_keep terms (Some Emptied) q old q' new p = same old new p.1
+  flies_keep terms (Some (Ended id end)) q old q' new p = same old new p.1
 
   -- ---- turns of a ring whose addresses a table translates
 
@@ -435,6 +536,14 @@ module _ {H : Type 0} (step : H → (s : MemoryStep) → Returned s → H → Ty
               go true p = same old new p.3
               go false (done, qs, ks, all, rest) = changes_all_keep c w.queues w.kicks old done qs ks new all
 
+      again_keeps : (terms : DeviceLimits) (way : Option Sight) (q : BlockQueueState) (head : ℕ) (old : H)
+          (a : Option RingEvent) (q' : BlockQueueState) (new : H) → PopsAgain step terms way q head old a q' new
+          → K old new
+      again_keeps terms None q head old a q' new p = again_here_keeps terms q head old a q' new p
+      again_keeps terms (Some way) q head old a q' new (r, mid, first, after) =
+          then old mid new (plain old (pops_again q.queue head []) r mid tt first)
+          (look_keeps (says way.table) way.can_ask terms q (found_again q head r) mid a q' new after)
+
       -- ---- turns, by what translates the addresses of rings
 
       by_keeps : (way : Option Sight) (terms : DeviceLimits) (q : BlockQueueState) (old : H) (a : Option RingEvent)
@@ -442,14 +551,35 @@ module _ {H : Type 0} (step : H → (s : MemoryStep) → Returned s → H → Ty
       by_keeps None terms q old a q' new p = next_keeps terms q old a q' new p
       by_keeps (Some way) terms q old a q' new p = behind_keeps (says way.table) way.can_ask terms q old a q' new p
 
+      first_of_keeps : (way : Option Sight) (terms : DeviceLimits) (q : BlockQueueState) (o : Option ℕ) (old : H)
+          (a : Option RingEvent) (q' : BlockQueueState) (new : H) → HappensFirst step terms way q o old a q' new
+          → K old new
+      first_of_keeps way terms q None old a q' new p = by_keeps way terms q old a q' new p
+      first_of_keeps way terms q (Some head) old a q' new p = go (is_open way q) p
+        where
+          go : (v : Bool) → MatchBool v (PopsAgain step terms way q head old a q' new)
+              (HappensBy step way terms q old a q' new) → K old new
+          go true p = again_keeps terms way q head old a q' new p
+          go false p = by_keeps way terms q old a q' new p
+
+      pub in_keeps : (way : Option Sight) (terms : DeviceLimits) (q : BlockQueueState) (old : H) (a : Option RingEvent)
+          (q' : BlockQueueState) (new : H) → HappensIn step terms way q old a q' new → K old new
+      in_keeps way terms q old a q' new p = go (is_due way q) p
+        where
+          go : (v : Bool) → MatchBool v (Resumes step q old a q' new) (Flies step terms way q old a q' new) → K old new
+          go true p = resumes_keep q old a q' new p
+          go false (mid_q, mid, first, flies) =
+              then old mid new (first_of_keeps way terms q (slice_get q.flight.again 0) old a mid_q mid first)
+              (flies_keep terms a mid_q mid q' new flies)
+
       turn_keeps : (way : Option Sight) (w : BlockBackend) (b : BackendState) (old new : H) (q : BlockQueueState) (r : Option Todo)
           (q' : BlockQueueState) → queues.Turns step way (terms_of w) w.turn w.backend b old new q r q' → K old new
       turn_keeps way w b old new q r q' = go (may_pop w.backend.rings w.turn)
         where
           go : (v : Bool) → MatchBool v
-              ((e : Option RingEvent) × HappensBy step way (terms_of w) q old e q' new × ((b, r) ≡ turn.told w.backend w.turn e))
+              ((e : Option RingEvent) × HappensIn step (terms_of w) way q old e q' new × ((b, r) ≡ turn.told w.backend w.turn e))
               ((r ≡ None) × (b ≡ w.backend) × (q' ≡ q) × (new ≡ old)) → K old new
-          go true (e, next, is) = by_keeps way (terms_of w) q old e q' new next
+          go true (e, next, is) = in_keeps way (terms_of w) q old e q' new next
           go false p = same old new p.3
 
       takes_keep : (way : Option Sight) (w : BlockBackend) (old : H) (is : Bool) (w' : BlockBackend) (new : H)

@@ -18,6 +18,7 @@ pub mod EndLemmas
 pub mod FairLemmas
 pub mod FetchLemmas
 pub mod FitLemmas
+mod FlightLemmas
 pub mod GivenLemmas
 pub mod GoneLemmas
 pub mod HoldLemmas

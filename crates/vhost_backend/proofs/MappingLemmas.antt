@@ -42,6 +42,8 @@ changes req.SetBackendReqFd number mapping is = absurd (cc)
 changes (req.IotlbMsg message) number mapping is = absurd (cc)
 changes (req.GetConfig space) number mapping is = absurd (cc)
 changes (req.SetConfig space) number mapping is = absurd (cc)
+changes (req.GetInflightFd region) number mapping is = absurd (cc)
+changes (req.SetInflightFd region) number mapping is = absurd (cc)
 changes (req.GetVringBase index) number mapping is = absurd (cc)
 
 pub rest : (c : Connection) (ids : ℕ) (xs : List Happening) (number : ℕ) (mapping : Mapping)

@@ -206,7 +206,7 @@ lost_others w i none = others_unkicked w.queues w.kicks i (length w.queues) (ap 
 abbrev pub WaitsOnlyThen : Bool → Option RingEvent → BlockQueueState → Type 0
 WaitsOnlyThen can e q = (waited_for q.reach.fetch ≡ None) ⊎ ((e ≡ Some Emptied) × (can ≡ true))
 
-abbrev WaitsNot : BlockQueueState → Type 0
+abbrev pub WaitsNot : BlockQueueState → Type 0
 WaitsNot q = waited_for q.reach.fetch ≡ None
 
 -- what begins waits for nothing
@@ -337,7 +337,7 @@ module _ {H : Type 0} (step : H → (s : MemoryStep) → Returned s → H → Ty
   read_waits q false u old r q' new (is, becomes, still) = ap (λ (v : BlockQueueState). v.reach) becomes
 
   module _ (terms : DeviceLimits) where
-    chain_begins : (q : BlockQueueState) (found : Found) (old : H) (e : Option RingEvent) (q' : BlockQueueState) (new : H)
+    pub chain_begins : (q : BlockQueueState) (found : Found) (old : H) (e : Option RingEvent) (q' : BlockQueueState) (new : H)
         → WaitsNot q → FetchesChain step terms q found old e q' new → WaitsNot q'
     chain_begins q found old e q' new none (Ok done, forgets, (r, made, becomes)) =
         let v = is_refused terms (length q.asked) found.chain in
@@ -346,7 +346,7 @@ module _ {H : Type 0} (step : H → (s : MemoryStep) → Returned s → H → Ty
     chain_begins q found old e q' new none (Err error, forgets, (is, becomes)) =
         moved_waits q q' none (ap (λ (v : BlockQueueState). v.reach.fetch) becomes)
 
-    row_begins : (q : BlockQueueState) (error : QueueError) (e : Option RingEvent) (q' : BlockQueueState) → WaitsNot q
+    pub row_begins : (q : BlockQueueState) (error : QueueError) (e : Option RingEvent) (q' : BlockQueueState) → WaitsNot q
         → FetchesRow q error e q' → WaitsNot q'
     row_begins q error e q' none = go (missed_by error)
       where

@@ -8,10 +8,12 @@ use Rattle.virtio_queue.specs.declared.error.QueueError.{QueueError}
 use Rattle.virtio_blk.specs.declared.request.Request.{Request}
 use Rattle.virtio_blk.specs.declared.request.Request.TheVariants.{Refused}
 use Rattle.virtio_blk.specs.declared.request.DeviceLimits.{DeviceLimits}
+use Rattle.vhost_backend.proofs.FlightLemmas.{Goes, in_goes}
 use Rattle.vhost_backend.proofs.StageLemmas.{Stage, behind_stage}
 use Rattle.vhost_backend.proofs.TurnLemmas.{nothing_popped, read_asked}
 use Rattle.vhost_backend.specs.Behind.{HappensBy}
 use Rattle.vhost_backend.specs.BlockQueue.{AfterAsk, AfterPop, AfterRead, BlockQueueState, HappensNext, Pops, begun, event_of, has_place, popped, with_queue}
+use Rattle.vhost_backend.specs.Flight.{HappensIn}
 use Rattle.vhost_backend.specs.RingMemory.{MemoryStep, Returned}
 use Rattle.vhost_backend.specs.RingMemory as memory
 use Rattle.vhost_backend.specs.declared.block_queue.Asked.{Asked}
@@ -95,8 +97,19 @@ module _ {H : Type 0} (step : H → (s : MemoryStep) → Returned s → H → Ty
   behind_kept q e q' new (inr (inr (inr (buffer, place, kept, is)))) = same e q q' kept
 
 module _ {H : Type 0} (step : H → (s : MemoryStep) → Returned s → H → Type 0) where
-  pub next_kept : (way : Option Sight) (terms : DeviceLimits) (q : BlockQueueState) (old : H) (e : Option RingEvent)
+  by_kept : (way : Option Sight) (terms : DeviceLimits) (q : BlockQueueState) (old : H) (e : Option RingEvent)
       (q' : BlockQueueState) (new : H) → HappensBy step way terms q old e q' new → Kept e q q'
-  next_kept None terms q old e q' new p = in_place_kept step terms q old e q' new p
-  next_kept (Some way) terms q old e q' new p = behind_kept step terms q e q' new
+  by_kept None terms q old e q' new p = in_place_kept step terms q old e q' new p
+  by_kept (Some way) terms q old e q' new p = behind_kept step terms q e q' new
       (behind_stage step (says way.table) way.can_ask terms q old e q' new p)
+
+  pub next_kept : (way : Option Sight) (terms : DeviceLimits) (q : BlockQueueState) (old : H) (e : Option RingEvent)
+      (q' : BlockQueueState) (new : H) → HappensIn step terms way q old e q' new → Kept e q q'
+  next_kept way terms q old e q' new p =
+      let (mid_q, mid, goes, is, ends) = in_goes step terms way q old e q' new p in
+      subst (λ (l : List (Option Asked)). (length l ≡ length q.asked) × (e ≡ None → l ≡ q.asked))
+      (sym (ap (λ (v : BlockQueueState). v.asked) is)) (go mid_q mid goes)
+    where
+      go : (mid_q : BlockQueueState) (mid : H) → Goes step terms way q old e mid_q mid → Kept e q mid_q
+      go mid_q mid (inl p) = by_kept way terms q old e mid_q mid p
+      go mid_q mid (inr p) = behind_kept step terms q e mid_q mid p

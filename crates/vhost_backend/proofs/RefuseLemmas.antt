@@ -1,5 +1,5 @@
 -- A message that is refused changes nothing.
-use Rattle.std.proofs.Common.{◌≡◌, ◌∙◌, ℕ, ◌<◌, ◌≤◌, ◌==◌, ◌&&◌, ◌||◌, not, nat_lt, Bool, true, false, List, [], ◌∷◌, drop, length, Option, Some, None, Result, Ok, Err, if◌then◌else◌, refl, ap, sym, arith, inl, inr}
+use Rattle.std.proofs.Common.{◌≡◌, ◌∙◌, ℕ, ◌+◌, ◌^◌, ◌<◌, ◌≤◌, ◌==◌, ◌&&◌, ◌||◌, not, nat_lt, Bool, true, false, List, [], ◌∷◌, drop, length, Option, Some, None, Result, Ok, Err, if◌then◌else◌, refl, ap, sym, arith, inl, inr}
 use Rattle.std.specs.List.{slice_get}
 use Rattle.std.proofs.Math.ListN.{length-replicate, length-set}
 use Rattle.vhost_message.specs.declared.frontend_req.FrontendReq.{FrontendReq}
@@ -8,14 +8,16 @@ use Rattle.vhost_message.specs.declared.refusal.Refusal.{Refusal}
 use Rattle.vhost_message.specs.Regions.{tested}
 use Rattle.vhost_message.specs.FrontendReq.{◌>>=◌}
 use Rattle.std.proofs.lemmas.Option.{slice_get_cases}
-use Rattle.vhost_user.specs.Connection.{Connection, differ_in_log, in_config, is_any_started, is_writable, needed, replaced, served, stopped_at, vring_at, with_vring}
+use Rattle.vhost_user.specs.Connection.{Connection, differ_in_log, in_config, is_any_started, is_writable, needed, replaced, served, stopped_at, vring_at, in_offer, with_vring}
 use Rattle.vhost_user.specs.Features.{are_of, has}
 use Rattle.vhost_user.specs.Features as feature
 use Rattle.vhost_user.specs.Connection as user
+use Rattle.vhost_user.specs.Inflight.{region_len}
 use Rattle.vhost_user.specs.Vring.{is_aligned, is_placed_as, is_started, notifier_of}
 use Rattle.vhost_message.specs.declared.frontend_req.ConfigSpace.{ConfigSpace}
+use Rattle.vhost_message.specs.declared.frontend_req.VhostUserInflight.{VhostUserInflight}
 use Rattle.vhost_message.specs.declared.frontend_req.VringAddr.{VringAddr}
-use Rattle.vhost_message.specs.declared.refusal.Refusal.TheVariants.{Alignment, Base, ConfigReadOnly, Features, Flags, QueueSize, Started}
+use Rattle.vhost_message.specs.declared.refusal.Refusal.TheVariants.{Alignment, Base, ConfigReadOnly, Features, Flags, QueueSize, RegionRange, Started}
 use Rattle.vhost_user.specs.declared.vring.Notifier.TheVariants.{Unset}
 use Rattle.vhost_user.specs.declared.vring.Vring.{Vring}
 use Rattle.vhost_message.specs.FrontendReq.{descriptors_of, request_of}
@@ -124,6 +126,16 @@ module _ (s : Connection) where
       go (Ok x) true = refl
       go (Ok x) false = tt
 
+  with_inflight_same : (r : VhostUserInflight) → Same s (user.with_inflight s r)
+  with_inflight_same r = go (in_offer s r)
+      (nat_lt r.mmap_size (region_len s.features r) || not (nat_lt (r.mmap_offset + r.mmap_size) (2 ^ 64)))
+    where
+      go : (o : Result (Unit {0}) Refusal) (b : Bool)
+          → Same s (o >>= λ x. if b then Err RegionRange else Ok (record s { inflight = Some r }))
+      go (Err e) b = tt
+      go (Ok x) true = tt
+      go (Ok x) false = refl
+
   pub served_same : (request : FrontendReq) (payload : List ℕ) → Same s (served s request payload)
   served_same req.GetFeatures payload = refl
   served_same (req.SetFeatures features) payload = with_features_same features
@@ -153,6 +165,8 @@ module _ (s : Connection) where
   served_same (req.IotlbMsg message) payload = after_test (needed s.features feature.access_platform) s refl
   served_same (req.GetConfig space) payload = after_test (in_config s space.offset space.size) s refl
   served_same (req.SetConfig space) payload = with_config_same space (drop 12 payload)
+  served_same (req.GetInflightFd region) payload = after_test (in_offer s region) s refl
+  served_same (req.SetInflightFd region) payload = with_inflight_same region
 
 none_past : {X : Type 0} (xs : List X) (i : ℕ) → slice_get xs i ≡ None → length xs ≤ i
 none_past xs i none = elim (slice_get_cases xs i).1 [
@@ -184,6 +198,8 @@ stops_there s req.SetBackendReqFd payload i e is below fails = absurd (cc)
 stops_there s (req.IotlbMsg message) payload i e is below fails = absurd (cc)
 stops_there s (req.GetConfig space) payload i e is below fails = absurd (cc)
 stops_there s (req.SetConfig space) payload i e is below fails = absurd (cc)
+stops_there s (req.GetInflightFd region) payload i e is below fails = absurd (cc)
+stops_there s (req.SetInflightFd region) payload i e is below fails = absurd (cc)
 stops_there s (req.GetVringBase index) payload i e is below fails = go (slice_get s.vrings index) refl
   where
     go : (o : Option Vring) → slice_get s.vrings index ≡ o → ⊥

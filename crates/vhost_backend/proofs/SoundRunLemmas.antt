@@ -96,6 +96,8 @@ follow_sound c c' deed.UnmapAll is sound = same c' _ is (memory_sound c.backend 
 follow_sound c c' (deed.Map region descriptor) is sound = same c' _ is sound
 follow_sound c c' deed.Join (m, v, joins, is) sound = same c' _ is (answered_sound c.backend v sound)
 follow_sound c c' (deed.Log size offset) is sound = same c' _ is sound
+follow_sound c c' (deed.File size) is sound = same c' _ is sound
+follow_sound c c' (deed.Region size offset) is sound = same c' _ is sound
 follow_sound c c' (deed.Keep p v) is sound = same c' _ is sound
 follow_sound c c' (deed.Part ring id part left) (v, lies, is) sound =
     same c' _ is (open_sound c ring id part left v sound)

@@ -3,6 +3,7 @@ use Rattle.std.proofs.Common.{◌≡◌, ◌∙◌, ℕ, ◌+◌, ◌==◌, ◌|
 use Rattle.std.specs.List.{slice_get, slice_set}
 use Rattle.std.proofs.lemmas.Bool.{eq-eqb, ne_eqb}
 use Rattle.std.proofs.lemmas.List.Elements.{filter-append}
+use Rattle.vhost_backend.proofs.FlightLemmas.{gives_asked}
 use Rattle.vhost_backend.proofs.ChannelLemmas.{on_channel}
 use Rattle.vhost_user.specs.Reply.{refused}
 use Rattle.vhost_user.specs.declared.vring.NotRunning.{NotRunning}
@@ -10,6 +11,7 @@ use Rattle.vhost_user.specs.declared.vring.RunningVring.{RunningVring}
 use Rattle.vm_memory_guest.specs.declared.region.error.GuestMemoryError.{GuestMemoryError}
 use Rattle.virtio_queue.specs.declared.any.AnyQueue.{AnyQueue}
 use Rattle.virtio_queue.specs.declared.error.QueueError.{QueueError}
+use Rattle.vhost_backend.specs.declared.flight.FlightPlace.{FlightPlace}
 use Rattle.vhost_backend.specs.Backend.{mapping_at}
 use Rattle.vhost_backend.specs.Block.{status_of, written_of}
 use Rattle.vm_memory_base.specs.declared.iotlb.Permissions.{Permissions}
@@ -23,7 +25,7 @@ use Rattle.vhost_backend.specs.PageList.{capped}
 use Rattle.vhost_backend.specs.Questions.{stale}
 use Rattle.vhost_backend.specs.Ring.{RingState}
 use Rattle.vhost_backend.specs.RingMemory.{MemoryStep, Returned, finishes}
-use Rattle.vhost_backend.specs.SetUp.{fresh_queue, is_set_up, log_of, moved_queue}
+use Rattle.vhost_backend.specs.SetUp.{fresh_queue, is_set_up, log_of, moved_queue, part_for}
 use Rattle.vhost_backend.specs.Sound.{IsClear, Sound, SoundAt, ended_chain, pending}
 use Rattle.vhost_backend.specs.Story.{chain_of, of_id, returned}
 use Rattle.vhost_backend.specs.Wanted.{wanted_at}
@@ -66,6 +68,8 @@ first_sound : (w : BlockBackend) (x : Wanted) → Sound w → Sound (asked_first
 first_sound w wanted.Nothing sound = sound
 first_sound w wanted.Memory sound = sound
 first_sound w (wanted.Log size offset) sound = sound
+first_sound w (wanted.File asked) sound = sound
+first_sound w (wanted.Region size offset) sound = sound
 first_sound w (wanted.Descriptor purpose is) sound = sound
 first_sound w (wanted.Base ring) sound =
     let t = based w.queues ring (slice_get w.queues ring) in
@@ -159,21 +163,21 @@ other_given : (t : Returning) (ring : ℕ) (acts : List RingAction) (i : ℕ) �
     → chains_of None ring acts i ≡ chains_of (Some t) ring acts i
 other_given t ring acts i differs = rw (ne_eqb t.ring i (λ same. differs (sym same))) refl
 
-began_asked : (q : BlockQueueState) (made : Result AnyQueue QueueError) (log : Option ℕ)
-    → (began q made log).0.asked ≡ q.asked
-began_asked q (Ok queue) log = refl
-began_asked q (Err e) log = refl
+began_asked : (q : BlockQueueState) (made : Result AnyQueue QueueError) (log : Option ℕ) (part : Option FlightPlace)
+    → (began q made log part).0.asked ≡ q.asked
+began_asked q (Ok queue) log part = refl
+began_asked q (Err e) log part = refl
 
 went_on_asked : (q : BlockQueueState) (made : Result AnyQueue QueueError) (log : Option ℕ)
     → (went_on q made log).0.asked ≡ q.asked
 went_on_asked q (Ok queue) log = refl
 went_on_asked q (Err e) log = refl
 
-set_up_asked : (q : BlockQueueState) (max_size : ℕ) (vring : RunningVring) (features : ℕ) (fresh : Bool)
-    → (set_up q max_size vring features fresh).0.asked ≡ q.asked
-set_up_asked q max_size vring features true =
-    began_asked q (fresh_queue max_size vring features) (log_of vring features)
-set_up_asked q max_size vring features false = go (not (is_set_up q.queue) || stays_at q vring log)
+set_up_asked : (q : BlockQueueState) (max_size : ℕ) (vring : RunningVring) (features : ℕ) (part : Option FlightPlace) (fresh : Bool)
+    → (set_up q max_size vring features part fresh).0.asked ≡ q.asked
+set_up_asked q max_size vring features part true =
+    began_asked q (fresh_queue max_size vring features) (log_of vring features) part
+set_up_asked q max_size vring features part false = go (not (is_set_up q.queue) || stays_at q vring log)
   where
     log : Option ℕ
     log = log_of vring features
@@ -184,25 +188,26 @@ set_up_asked q max_size vring features false = go (not (is_set_up q.queue) || st
     go false = went_on_asked q (moved_queue q.queue vring) log
 
 set_up_sound : (qs : List BlockQueueState) (rs : List RingState) (chains : ℕ → List Chain) (ring max_size : ℕ)
-    (vring : RunningVring) (features : ℕ) (fresh : Bool) → SoundOf qs rs chains
-    → SoundOf (set_up_at qs ring max_size vring features fresh (slice_get qs ring)).0 rs chains
-set_up_sound qs rs chains ring max_size vring features fresh sound = go (slice_get qs ring) refl
+    (vring : RunningVring) (features : ℕ) (part : Option FlightPlace) (fresh : Bool) → SoundOf qs rs chains
+    → SoundOf (set_up_at qs ring max_size vring features part fresh (slice_get qs ring)).0 rs chains
+set_up_sound qs rs chains ring max_size vring features part fresh sound = go (slice_get qs ring) refl
   where
     go : (o : Option BlockQueueState) → slice_get qs ring ≡ o
-        → SoundOf (set_up_at qs ring max_size vring features fresh o).0 rs chains
+        → SoundOf (set_up_at qs ring max_size vring features part fresh o).0 rs chains
     go None found = sound
-    go (Some q) found = let q' = (set_up q max_size vring features fresh).0 in
+    go (Some q) found = let q' = (set_up q max_size vring features part fresh).0 in
         set_sound qs rs chains chains ring q q' found (λ i differs. refl)
-        (λ r has. same_has q q' r (chains ring) (set_up_asked q max_size vring features fresh) has) sound
+        (λ r has. same_has q q' r (chains ring) (set_up_asked q max_size vring features part fresh) has) sound
 
 places_sound : (w : BlockBackend) (v : Result RunningVring NotRunning) (fresh : Bool) → Sound w
     → Sound (placed_by w v fresh)
 places_sound w (Err e) fresh sound = sound
 places_sound w (Ok vring) fresh sound =
     let features = w.backend.connection.features in
-    let t = set_up_at w.queues w.todo.ring w.max_size vring features fresh (slice_get w.queues w.todo.ring) in
+    let part = part_for features w.todo.ring w.backend.connection.inflight in
+    let t = set_up_at w.queues w.todo.ring w.max_size vring features part fresh (slice_get w.queues w.todo.ring) in
     reach_sound (record w { queues = t.0 }) t.1
-    (set_up_sound w.queues w.backend.rings.rings (pending w) w.todo.ring w.max_size vring features fresh sound)
+    (set_up_sound w.queues w.backend.rings.rings (pending w) w.todo.ring w.max_size vring features part fresh sound)
 
 freed_sound : (w : BlockBackend) (ring : ℕ) (before after : Option (ℕ × Permissions)) → Sound w
     → Sound (freed_by w ring before after)
@@ -225,7 +230,8 @@ module _ {H : Type 0} (step : H → (s : MemoryStep) → Returned s → H → Ty
       gone_sound w.queues qs w.backend.rings.rings t.ring reached.Fine old r new
       (Gives step t.chain t.len old new) with (chains_of (Some t) w.todo.ring w.todo.actions)
       (chains_of None w.todo.ring w.todo.actions) t.chain (first_given t w.todo.ring w.todo.actions)
-      (other_given t w.todo.ring w.todo.actions) (λ q q' p. ap (λ n. n.asked) p.1.1) sound))
+      (other_given t w.todo.ring w.todo.actions)
+      (λ q q' p. (gives_asked step q t.chain t.len old p.0 q' new p.1).0) sound))
 
   -- ---- the end of a request
 

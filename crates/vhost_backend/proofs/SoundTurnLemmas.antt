@@ -14,7 +14,7 @@ use Rattle.vhost_backend.proofs.PopLemmas.{next_kept}
 use Rattle.vhost_backend.proofs.SoundLemmas.{SoundOf, asking_sound, at_goes, at_most_one, clear_pending, new_pending, same_has, set_sound, told_sound}
 use Rattle.vhost_backend.proofs.UnderWayLemmas.{counts, goes, goes_to, same_ids, story, story_quiet, waiting_quiet}
 use Rattle.vhost_backend.specs.Backend.{BackendState, after_event, is_outer}
-use Rattle.vhost_backend.specs.Behind.{HappensBy}
+use Rattle.vhost_backend.specs.Flight.{HappensIn}
 use Rattle.vhost_backend.specs.BlockBackend.{Looks, TakesTurn, looked, new_block_backend, terms_of}
 use Rattle.vhost_backend.specs.BlockQueue.{Agrees, BlockQueueState, asked_at, asked_count, given, new_queue}
 use Rattle.vhost_backend.specs.BlockQueues.{Turns}
@@ -117,7 +117,7 @@ module _ {H : Type 0} (step : H → (s : MemoryStep) → Returned s → H → Ty
   -- something happens to the ring that has its turn
   event_sound : (way : Option Sight) (w : BlockBackend) (q : BlockQueueState) (old : H) (e : RingEvent) (q' : BlockQueueState) (new : H)
       → slice_get w.queues w.turn ≡ Some q → may_pop w.backend.rings w.turn ≡ true
-      → HappensBy step way (terms_of w) q old (Some e) q' new → IsClear w → Sound w
+      → HappensIn step (terms_of w) way q old (Some e) q' new → IsClear w → Sound w
       → (let t = after_event w.backend (event.Ring w.turn e) in
       Sound (record w { queues = slice_set w.queues w.turn q'; backend = t.0; todo = t.1 }))
   event_sound way w q old e q' new found may next clear sound i = elim (cases_eq i w.turn) [
@@ -190,7 +190,7 @@ module _ {H : Type 0} (step : H → (s : MemoryStep) → Returned s → H → Ty
 
       told_something : (q q' : BlockQueueState) → slice_get w.queues w.turn ≡ Some q → qs ≡ slice_set w.queues w.turn q'
           → may_pop w.backend.rings w.turn ≡ true → (e : Option RingEvent)
-          → HappensBy step way (terms_of w) q old e q' new → (b, r) ≡ turn.told w.backend w.turn e
+          → HappensIn step (terms_of w) way q old e q' new → (b, r) ≡ turn.told w.backend w.turn e
           → Sound (looked (record w { queues = qs; backend = b }) r)
       told_something q q' found set may None next is = still (ap (λ t. t.1) is) (ap (λ t. t.0) is)
           (subst (λ l. SoundOf l w.backend.rings.rings (pending w)) (sym set)
@@ -204,7 +204,7 @@ module _ {H : Type 0} (step : H → (s : MemoryStep) → Returned s → H → Ty
 
       runs : (q q' : BlockQueueState) → slice_get w.queues w.turn ≡ Some q → qs ≡ slice_set w.queues w.turn q'
           → (v : Bool) → may_pop w.backend.rings w.turn ≡ v → MatchBool v
-          ((e : Option RingEvent) × HappensBy step way (terms_of w) q old e q' new × ((b, r) ≡ turn.told w.backend w.turn e))
+          ((e : Option RingEvent) × HappensIn step (terms_of w) way q old e q' new × ((b, r) ≡ turn.told w.backend w.turn e))
           ((r ≡ None) × (b ≡ w.backend) × (q' ≡ q) × (new ≡ old))
           → Sound (looked (record w { queues = qs; backend = b }) r)
       runs q q' found set true may (e, next, is) = told_something q q' found set may e next is

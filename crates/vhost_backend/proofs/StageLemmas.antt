@@ -40,26 +40,26 @@ IsQuiet _ = ⊥
 
 -- what a stage makes of a queue: a chain is popped, which may have no place, or the turn ends, or neither
 module _ {H : Type 0} (step : H → (s : MemoryStep) → Returned s → H → Type 0) where
-  abbrev Ends : BlockQueueState → Option RingEvent → BlockQueueState → H → Type 0
+  abbrev pub Ends : BlockQueueState → Option RingEvent → BlockQueueState → H → Type 0
   Ends q e q' new = (e ≡ Some Emptied) × (q'.asked ≡ q.asked) × (q'.queue ≡ q.queue)
       × (FoundNone step q' new ⊎ IsWaiting q')
 
-  abbrev Takes : BlockQueueState → Option RingEvent → BlockQueueState → Type 0
+  abbrev pub Takes : BlockQueueState → Option RingEvent → BlockQueueState → Type 0
   Takes q e q' = (buffer : PackedBuffer) × (request : Request) × (a : Asked) × (has_place q buffer.id ≡ true)
       × (q'.asked ≡ set q.asked buffer.id (Some a)) × (e ≡ event_of (popped buffer request))
 
-  abbrev Misfits : BlockQueueState → Option RingEvent → BlockQueueState → Type 0
+  abbrev pub Misfits : BlockQueueState → Option RingEvent → BlockQueueState → Type 0
   Misfits q e q' = (buffer : PackedBuffer) × (has_place q buffer.id ≡ false) × (q'.asked ≡ q.asked)
       × (e ≡ event_of (popped buffer (Refused 1)))
 
   abbrev pub Stage : BlockQueueState → Option RingEvent → BlockQueueState → H → Type 0
   Stage q e q' new = (IsQuiet e × (q'.asked ≡ q.asked)) ⊎ (Ends q e q' new ⊎ (Takes q e q' ⊎ Misfits q e q'))
 
-  quiet : (q q' : BlockQueueState) (x e : Option RingEvent) (new : H) → IsQuiet x → e ≡ x → q'.asked ≡ q.asked
+  pub quiet : (q q' : BlockQueueState) (x e : Option RingEvent) (new : H) → IsQuiet x → e ≡ x → q'.asked ≡ q.asked
       → Stage q e q' new
   quiet q q' x e new is same kept = inl (subst IsQuiet (sym same) is, kept)
 
-  refused_quiet : (e : QueueError) → IsQuiet (event_of (refused e))
+  pub refused_quiet : (e : QueueError) → IsQuiet (event_of (refused e))
   refused_quiet e = elim (refused_is e) [
     | inl later ↦ subst (λ p. IsQuiet (event_of p)) (sym later) tt
     | inr broken ↦ subst (λ p. IsQuiet (event_of p)) (sym broken) tt
@@ -173,14 +173,14 @@ module _ {H : Type 0} (step : H → (s : MemoryStep) → Returned s → H → Ty
     reaches_stage q old e q' new (Err error, forgets, (is, becomes)) =
         quiet q q' None e new tt is (ap (λ n. n.asked) becomes)
 
-    chain_stage : (q : BlockQueueState) (found : Found) (old : H) (e : Option RingEvent) (q' : BlockQueueState) (new : H)
+    pub chain_stage : (q : BlockQueueState) (found : Found) (old : H) (e : Option RingEvent) (q' : BlockQueueState) (new : H)
         → FetchesChain step terms q found old e q' new → Stage q e q' new
     chain_stage q found old e q' new (Ok done, forgets, (r, made, becomes)) =
         begins_fetch (with_reach q (rows_forgotten q.reach (Ok done))) r e q' new becomes
     chain_stage q found old e q' new (Err error, forgets, (is, becomes)) =
         quiet q q' None e new tt is (ap (λ n. n.asked) becomes)
 
-    row_stage : (q : BlockQueueState) (error : QueueError) (e : Option RingEvent) (q' : BlockQueueState) (new : H)
+    pub row_stage : (q : BlockQueueState) (error : QueueError) (e : Option RingEvent) (q' : BlockQueueState) (new : H)
         → FetchesRow q error e q' → Stage q e q' new
     row_stage q error e q' new = go (missed_by error)
       where

@@ -57,6 +57,8 @@ unfolding Keeps
 first_keeps w wanted.Nothing = tt
 first_keeps w wanted.Memory = refl
 first_keeps w (wanted.Log size offset) = refl
+first_keeps w (wanted.File asked) = refl
+first_keeps w (wanted.Region size offset) = refl
 first_keeps w (wanted.Descriptor purpose is) = refl
 first_keeps w (wanted.Base ring) = tt
 first_keeps w wanted.Table = refl
@@ -152,6 +154,8 @@ unfolding OnIdle
 first_idle w P wanted.Nothing = tt
 first_idle w P wanted.Memory = tt
 first_idle w P (wanted.Log size offset) = tt
+first_idle w P (wanted.File asked) = tt
+first_idle w P (wanted.Region size offset) = tt
 first_idle w P (wanted.Descriptor purpose is) = tt
 first_idle w P (wanted.Base ring) = tt
 first_idle w P wanted.Table = tt

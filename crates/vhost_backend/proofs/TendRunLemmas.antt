@@ -85,6 +85,8 @@ follow_tends c c' deed.UnmapAll is tend = same c' _ is (memory_tends c.backend t
 follow_tends c c' (deed.Map region descriptor) is tend = same c' _ is tend
 follow_tends c c' deed.Join (m, v, joins, is) tend = same c' _ is (answered_tends c.backend v tend)
 follow_tends c c' (deed.Log size offset) is tend = same c' _ is tend
+follow_tends c c' (deed.File size) is tend = same c' _ is tend
+follow_tends c c' (deed.Region size offset) is tend = same c' _ is tend
 follow_tends c c' (deed.Keep p v) is tend = same c' _ is tend
 follow_tends c c' (deed.Part ring id part left) (v, lies, is) tend =
     same c' _ is (open_tends c ring id part left v tend)

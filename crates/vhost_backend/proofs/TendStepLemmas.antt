@@ -14,10 +14,12 @@ use Rattle.vhost_message.specs.declared.header.Header.{Header}
 use Rattle.vhost_user.specs.Reply.{refused}
 use Rattle.vhost_user.specs.declared.vring.NotRunning.{NotRunning}
 use Rattle.vhost_user.specs.declared.vring.RunningVring.{RunningVring}
+use Rattle.vhost_backend.proofs.FlightLemmas.{gives_asked}
 use Rattle.vhost_backend.proofs.FitLemmas.{Fits, FitsIn}
 use Rattle.vhost_backend.proofs.TendAskLemmas.{sent_rings, sent_still}
 use Rattle.vhost_backend.proofs.TendLemmas.{came_keep, config_rings, end_keep, keeps, reached_fits, reached_more, same_count, told_keep}
 use Rattle.vhost_backend.proofs.TendTableLemmas.{all_kicked, asked_else, happened, hung_up_tends, kicked_more, queue_set, stale_tends, tends_by, unasked}
+use Rattle.vhost_backend.specs.declared.flight.FlightPlace.{FlightPlace}
 use Rattle.vhost_backend.specs.Backend.{BackendState, is_free, mapping_at, stopped_ring}
 use Rattle.vhost_backend.specs.Block.{status_of, written_of}
 use Rattle.vhost_backend.specs.BlockBackend.{Acts, ActsFirst, GivesBackAt, Returns, Steps, StepsFrom, after_reach, answered, answered_at, asked_by, asked_due, asked_first_by, asked_more_by, asked_next, broke_if, called_by, called_up, came, counted, ended_by, ended_with, finished_by, gone_on, hung_up, in_use, is_done, mapped, mapped_at, may_ask, messaged, placed_by, replied, resized, said_last, stepped_on_by, taken_by, told, with_change, with_channel}
@@ -33,7 +35,7 @@ use Rattle.vhost_backend.specs.Questions.{QuestionsState, has_miss, lost, stale,
 use Rattle.vhost_backend.specs.Reach.{moved_to, same_log, waited_for}
 use Rattle.vhost_backend.specs.Ring.{RingState, is_on}
 use Rattle.vhost_backend.specs.RingMemory.{MemoryStep, Returned, finishes}
-use Rattle.vhost_backend.specs.SetUp.{fresh_queue, is_set_up, log_of, moved_queue}
+use Rattle.vhost_backend.specs.SetUp.{fresh_queue, is_set_up, log_of, moved_queue, part_for}
 use Rattle.vhost_backend.specs.TableUse.{awaited}
 use Rattle.vhost_backend.specs.Wanted.{wanted_at, wanted_of}
 use Rattle.vhost_backend.specs.declared.backend.Finish.{Finish}
@@ -115,6 +117,8 @@ channel_tends w (wanted.Descriptor purpose.LogCall is) tend = tend
 channel_tends w wanted.Nothing tend = tend
 channel_tends w wanted.Memory tend = tend
 channel_tends w (wanted.Log size offset) tend = tend
+channel_tends w (wanted.File asked) tend = tend
+channel_tends w (wanted.Region size offset) tend = tend
 channel_tends w (wanted.Base ring) tend = tend
 channel_tends w wanted.Table tend = tend
 channel_tends w wanted.Finish tend = tend
@@ -173,6 +177,8 @@ base_request req.SetBackendReqFd i is = absurd (cc)
 base_request (req.IotlbMsg message) i is = absurd (cc)
 base_request (req.GetConfig space) i is = absurd (cc)
 base_request (req.SetConfig space) i is = absurd (cc)
+base_request (req.GetInflightFd region) i is = absurd (cc)
+base_request (req.SetInflightFd region) i is = absurd (cc)
 
 base_looked : (b : BackendState) (i : ℕ) → FitsIn b → wanted_at b.taken ≡ wanted.Base i → i < length b.rings.rings
     → IsSomeAnd (slice_get b.rings.rings i) (λ r. is_looked_at r ≡ true)
@@ -224,6 +230,8 @@ first_tends : (w : BlockBackend) (x : Wanted) → wanted_at w.backend.taken ≡ 
 first_tends w wanted.Nothing is tend = tend
 first_tends w wanted.Memory is tend = tend
 first_tends w (wanted.Log size offset) is tend = tend
+first_tends w (wanted.File asked) is tend = tend
+first_tends w (wanted.Region size offset) is tend = tend
 first_tends w (wanted.Descriptor p there) is tend = tend
 first_tends w (wanted.Base i) is tend =
     let t = based w.queues i (slice_get w.queues i) in
@@ -300,10 +308,10 @@ reach_tends : (w : BlockBackend) (r : Reached) → Tends w → Tends (after_reac
 reach_tends w reached.Fine tend = tend
 reach_tends w reached.Broken tend = tend
 
-began_waits : (p : BlockQueueState) (made : Result AnyQueue QueueError) (log : Option ℕ)
-    → is_some (waited_for (began p made log).0.reach.fetch) ≡ true → is_some (waited_for p.reach.fetch) ≡ true
-began_waits p (Ok queue) log waits = absurd (cc)
-began_waits p (Err e) log waits = waits
+began_waits : (p : BlockQueueState) (made : Result AnyQueue QueueError) (log : Option ℕ) (part : Option FlightPlace)
+    → is_some (waited_for (began p made log part).0.reach.fetch) ≡ true → is_some (waited_for p.reach.fetch) ≡ true
+began_waits p (Ok queue) log part waits = absurd (cc)
+began_waits p (Err e) log part waits = waits
 
 went_on_waits : (p : BlockQueueState) (made : Result AnyQueue QueueError) (log : Option ℕ)
     → is_some (waited_for (went_on p made log).0.reach.fetch) ≡ true → is_some (waited_for p.reach.fetch) ≡ true
@@ -315,12 +323,12 @@ went_on_waits p (Ok queue) log waits = go (is_same_place p.queue queue && same_l
     go true waits = waits
     go false waits = absurd (cc)
 
-set_up_waits : (p : BlockQueueState) (max_size : ℕ) (vring : RunningVring) (features : ℕ) (fresh : Bool)
-    → is_some (waited_for (set_up p max_size vring features fresh).0.reach.fetch) ≡ true
+set_up_waits : (p : BlockQueueState) (max_size : ℕ) (vring : RunningVring) (features : ℕ) (part : Option FlightPlace) (fresh : Bool)
+    → is_some (waited_for (set_up p max_size vring features part fresh).0.reach.fetch) ≡ true
     → is_some (waited_for p.reach.fetch) ≡ true
-set_up_waits p max_size vring features true waits =
-    began_waits p (fresh_queue max_size vring features) (log_of vring features) waits
-set_up_waits p max_size vring features false waits = go (not (is_set_up p.queue) || stays_at p vring log) waits
+set_up_waits p max_size vring features part true waits =
+    began_waits p (fresh_queue max_size vring features) (log_of vring features) part waits
+set_up_waits p max_size vring features part false waits = go (not (is_set_up p.queue) || stays_at p vring log) waits
   where
     log : Option ℕ
     log = log_of vring features
@@ -335,16 +343,19 @@ places_tend : (w : BlockBackend) (v : Result RunningVring NotRunning) (fresh : B
 places_tend w (Err e) fresh tend = tend
 places_tend w (Ok vring) fresh tend =
     let features = w.backend.connection.features in
-    let t = set_up_at w.queues w.todo.ring w.max_size vring features fresh (slice_get w.queues w.todo.ring) in
+    let t = set_up_at w.queues w.todo.ring w.max_size vring features part fresh (slice_get w.queues w.todo.ring) in
     reach_tends (record w { queues = t.0 }) t.1 (go (slice_get w.queues w.todo.ring) refl)
   where
+    part : Option FlightPlace
+    part = part_for w.backend.connection.features w.todo.ring w.backend.connection.inflight
+
     go : (o : Option BlockQueueState) → slice_get w.queues w.todo.ring ≡ o
-        → AreTended (set_up_at w.queues w.todo.ring w.max_size vring w.backend.connection.features fresh o).0 w.kicks
+        → AreTended (set_up_at w.queues w.todo.ring w.max_size vring w.backend.connection.features part fresh o).0 w.kicks
         w.questions w.backend
     go None found = tend
     go (Some p) found = queue_set w.queues w.kicks w.questions w.backend w.todo.ring p
-        (set_up p w.max_size vring w.backend.connection.features fresh).0 found
-        (set_up_waits p w.max_size vring w.backend.connection.features fresh) tend
+        (set_up p w.max_size vring w.backend.connection.features part fresh).0 found
+        (set_up_waits p w.max_size vring w.backend.connection.features part fresh) tend
 
 freed_tends : (w : BlockBackend) (i : ℕ) (before after : Option (ℕ × Permissions)) → awaited (slice_get w.queues i) ≡ after
     → Tends w → Tends (freed_by w i before after)
@@ -418,7 +429,7 @@ module _ {H : Type 0} (step : H → (s : MemoryStep) → Returned s → H → Ty
   gives_tend w t old w' new (r, qs, with, is) tend = subst Tends (sym is)
       (reach_tends (record w { returning = None; queues = qs }) r
       (with_tends (record w { returning = None }) qs t.ring reached.Fine old r new (Gives step t.chain t.len old new) with
-      (λ p p' made. ap (λ (v : BlockQueueState). v.reach) made.1.1) tend))
+      (λ p p' made. (gives_asked step p t.chain t.len old made.0 p' new made.1).1) tend))
 
   pub steps_tend : (w : BlockBackend) (old : H) (m : Made) (w' : BlockBackend) (new : H) → Steps step w old m w' new
       → Tends w → Tends w'

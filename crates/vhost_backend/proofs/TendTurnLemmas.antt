@@ -1,5 +1,5 @@
 -- Each ring that waits is asked for or looked at after a look, and none waits at the beginning.
-use Rattle.std.proofs.Common.{◌≡◌, ◌∙◌, ℕ, ◌<◌, ◌≤◌, not, Bool, true, false, List, [], length, replicate, Option, Some, None, is_some, Result, Ok, Err, IsSomeAnd, MatchBool, MatchOption, refl, ap, sym, subst, inl, inr, arith, ◌∷◌, ◌++◌}
+use Rattle.std.proofs.Common.{◌≡◌, ◌⊎◌, ◌∙◌, ℕ, ◌<◌, ◌≤◌, not, Bool, true, false, List, [], length, replicate, Option, Some, None, is_some, Result, Ok, Err, IsSomeAnd, MatchBool, MatchOption, refl, ap, sym, subst, inl, inr, arith, ◌∷◌, ◌++◌}
 use Rattle.std.specs.List.{slice_get, slice_set}
 use Rattle.std.specs.declared.alloc.Global.{Global}
 use Rattle.std.proofs.Math.ListN.{length-set}
@@ -18,6 +18,7 @@ use Rattle.virtio_blk.specs.declared.request.Request.{Request}
 use Rattle.virtio_blk.specs.declared.request.Request.TheVariants.{Refused}
 use Rattle.vhost_user.specs.Connection.{Connection, connected}
 use Rattle.vhost_user.specs.declared.backend_req_handler.Offer.{Offer}
+use Rattle.vhost_backend.proofs.FlightLemmas.{again_waits, resumes_is}
 use Rattle.vhost_backend.proofs.MissLemmas.{WaitsOnlyThen, behind_waits, read_waits}
 use Rattle.vhost_backend.proofs.OwnWayLemmas.{get-replicate, get-set_other}
 use Rattle.vhost_backend.proofs.TendAskLemmas.{wanted_has, wanted_rings, wanted_still, first_sent, wanted_due}
@@ -30,6 +31,7 @@ use Rattle.vhost_backend.specs.BlockQueue.{AfterAsk, AfterPop, AfterRead, BlockQ
 use Rattle.vhost_backend.specs.BlockQueues.{Turns}
 use Rattle.vhost_backend.specs.BlockTable.{asked_by, asked_for}
 use Rattle.vhost_backend.specs.BlockTurn as turn
+use Rattle.vhost_backend.specs.Flight.{Flies, HappensFirst, HappensIn, PopsAgain, Resumes, is_due, is_open}
 use Rattle.vhost_backend.specs.GoesOn.{AreTended, IsTended, Tends, happens, is_looked_at}
 use Rattle.vhost_backend.specs.Messages.{Happening, Told, stepped}
 use Rattle.vhost_backend.specs.Questions.{has_miss, wanted, QuestionsState, taken_due}
@@ -102,17 +104,48 @@ module _ {H : Type 0} (step : H → (s : MemoryStep) → Returned s → H → Ty
       go (Err error) (is, kept, still) = ap (λ (v : BlockQueueState). v.reach) kept
 
   -- nothing happened to the ring, and it waits only if it did
-  nothing_waits : (way : Option Sight) (q : BlockQueueState) (old : H) (q' : BlockQueueState) (new : H)
+  by_waits : (way : Option Sight) (q : BlockQueueState) (old : H) (q' : BlockQueueState) (new : H)
       → HappensBy step way terms q old None q' new → is_some (waited_for q'.reach.fetch) ≡ true
       → is_some (waited_for q.reach.fetch) ≡ true
-  nothing_waits None q old q' new next waits =
+  by_waits None q old q' new next waits =
       sym (ap (λ r. is_some (waited_for r.fetch)) (in_place_reach q old None q' new next)) ∙ waits
-  nothing_waits (Some way) q old q' new next waits =
+  by_waits (Some way) q old q' new next waits =
       go (behind_waits step terms (says way.table) way.can_ask q old None q' new next)
     where
       go : WaitsOnlyThen way.can_ask None q' → is_some (waited_for q.reach.fetch) ≡ true
       go (inl none) = let bad : false ≡ true = sym (ap (λ t. is_some t) none) ∙ waits in absurd (cc)
       go (inr (is, may)) = absurd (cc)
+
+  as_waited : (q q' : BlockQueueState) → q'.reach ≡ q.reach → is_some (waited_for q'.reach.fetch) ≡ true
+      → is_some (waited_for q.reach.fetch) ≡ true
+  as_waited q q' is waits = sym (ap (λ r. is_some (waited_for r.fetch)) is) ∙ waits
+
+  first_waits : (way : Option Sight) (q : BlockQueueState) (o : Option ℕ) (old : H) (q' : BlockQueueState) (new : H)
+      → HappensFirst step terms way q o old None q' new → is_some (waited_for q'.reach.fetch) ≡ true
+      → is_some (waited_for q.reach.fetch) ≡ true
+  first_waits way q None old q' new p waits = by_waits way q old q' new p waits
+  first_waits way q (Some head) old q' new p waits = go (is_open way q) refl p
+    where
+      on : (q'.reach ≡ q.reach) ⊎ (waited_for q'.reach.fetch ≡ None) → is_some (waited_for q.reach.fetch) ≡ true
+      on (inl is) = as_waited q q' is waits
+      on (inr none) = let bad : false ≡ true = sym (ap (λ t. is_some t) none) ∙ waits in absurd (cc)
+
+      go : (v : Bool) → is_open way q ≡ v → MatchBool v (PopsAgain step terms way q head old None q' new)
+          (HappensBy step way terms q old None q' new) → is_some (waited_for q.reach.fetch) ≡ true
+      go true opened p = on (again_waits step terms way q head old None q' new opened p)
+      go false opened p = by_waits way q old q' new p waits
+
+  nothing_waits : (way : Option Sight) (q : BlockQueueState) (old : H) (q' : BlockQueueState) (new : H)
+      → HappensIn step terms way q old None q' new → is_some (waited_for q'.reach.fetch) ≡ true
+      → is_some (waited_for q.reach.fetch) ≡ true
+  nothing_waits way q old q' new p waits = go (is_due way q) p
+    where
+      go : (v : Bool) → MatchBool v (Resumes step q old None q' new) (Flies step terms way q old None q' new)
+          → is_some (waited_for q.reach.fetch) ≡ true
+      go true p = as_waited q q' (resumes_is step q old None q' new p).2 waits
+      go false (mid_q, mid, first, (becomes, still)) =
+          first_waits way q (slice_get q.flight.again 0) old mid_q mid first
+          (as_waited mid_q q' (ap (λ (v : BlockQueueState). v.reach) becomes) waits)
 
 -- ---- an event of a turn
 
@@ -213,7 +246,7 @@ module _ {H : Type 0} (step : H → (s : MemoryStep) → Returned s → H → Ty
           (queue_set w.queues w.kicks w.questions w.backend w.turn q q' found only tend)
 
       told_something : (q q' : BlockQueueState) → slice_get w.queues w.turn ≡ Some q → qs ≡ slice_set w.queues w.turn q'
-          → (e : Option RingEvent) → HappensBy step way (terms_of w) q old e q' new
+          → (e : Option RingEvent) → HappensIn step (terms_of w) way q old e q' new
           → (b, r) ≡ turn.told w.backend w.turn e → Tends (looked (record w { queues = qs; backend = b }) r)
       told_something q q' found set None next is = still (ap (λ (t : BackendState × Option Todo). t.1) is)
           (ap (λ (t : BackendState × Option Todo). t.0) is)
@@ -226,7 +259,7 @@ module _ {H : Type 0} (step : H → (s : MemoryStep) → Returned s → H → Ty
 
       runs : (q q' : BlockQueueState) → slice_get w.queues w.turn ≡ Some q → qs ≡ slice_set w.queues w.turn q'
           → (v : Bool) → MatchBool v
-          ((e : Option RingEvent) × HappensBy step way (terms_of w) q old e q' new × ((b, r) ≡ turn.told w.backend w.turn e))
+          ((e : Option RingEvent) × HappensIn step (terms_of w) way q old e q' new × ((b, r) ≡ turn.told w.backend w.turn e))
           ((r ≡ None) × (b ≡ w.backend) × (q' ≡ q) × (new ≡ old))
           → Tends (looked (record w { queues = qs; backend = b }) r)
       runs q q' found set true (e, next, is) = told_something q q' found set e next is

@@ -12,7 +12,7 @@ use Rattle.vhost_backend.specs.BlockConnection.{as_negotiated, is_covered, looke
 use Rattle.vhost_backend.specs.BlockTable.{memory_lost}
 use Rattle.vhost_backend.specs.ConnectionMemory.{Joins, MemoryState, joined_memory_of, kept_table_of, marks_nothing, memory_of, memory_step, ring_memory_of, ring_table_of, table_step, way_of, with_behind, with_pages, emptied}
 use Rattle.vhost_backend.specs.PageList.{InAny, InRange, IsToMark, NoneToMark, Pages, TakesRange}
-use Rattle.vhost_backend.specs.RingMemory.{Logs, MemoryStep, Returned, adds_used, begins, enables, finishes, forgets, keeps, marks, marks_ring, needs, pops, reads_used}
+use Rattle.vhost_backend.specs.RingMemory.{Logs, MemoryStep, Returned, adds_used, begins, enables, finishes, forgets, keeps, marks, marks_ring, needs, pops, pops_again, reads_region, reads_used, tracks}
 use Rattle.vhost_backend.specs.Run.{Applies, Course, EventBy, Follows, GivesBy, LooksBy, MayStep, Move, MoveBy, Moves, StepsTo, after_sent, after_stop, does, end_of, end_taken, ends_of, gives_marks, gives_part, goes_on, looked, looks, loses, open_part, part_ended, takes_end, takes_turn, with_connection}
 use Rattle.vhost_backend.specs.Rings.{all_stopped}
 use Rattle.vhost_backend.specs.RunLaws.{GivesPage, IsGiven, Waits, is_marks}
@@ -65,6 +65,9 @@ grows_each m guest t old (finishes chain status moved) r new p = grows_same old 
 grows_each m guest t old (reads_used q) r new p = grows_same old new p.1
 grows_each m guest t old (keeps k) r new p = grows_same old new p.1
 grows_each m guest t old (forgets k) r new p = grows_same old new p.1
+grows_each m guest t old (pops_again q head ds) r new p = grows_same old new p.1
+grows_each m guest t old (reads_region offset n) r new p = grows_same old new p.2
+grows_each m guest t old (tracks s) r new p = grows_same old new p.1
 
 -- ---- a connection
 
@@ -95,6 +98,8 @@ sent_pages deed.UnmapAll c = refl
 sent_pages (deed.Map region descriptor) c = refl
 sent_pages deed.Join c = refl
 sent_pages (deed.Log size offset) c = refl
+sent_pages (deed.File size) c = refl
+sent_pages (deed.Region size offset) c = refl
 sent_pages (deed.Keep p is) c = refl
 sent_pages (deed.Part ring id part left) c = refl
 sent_pages (deed.Interrupt ring) c = refl
@@ -141,6 +146,8 @@ follow_keeps c c' (deed.Map region descriptor) is =
 follow_keeps c c' deed.Join (m, v, joins, is) = keeps_by c c' (ap (λ (v : BlockConnection). v.memory.logged.pages) is
     ∙ joined_pages c.memory m c.backend.backend.connection.memory v joins)
 follow_keeps c c' (deed.Log size offset) is = keeps_by c c' (ap (λ (v : BlockConnection). v.memory.logged.pages) is)
+follow_keeps c c' (deed.File size) is = keeps_by c c' (ap (λ (v : BlockConnection). v.memory.logged.pages) is)
+follow_keeps c c' (deed.Region size offset) is = keeps_by c c' (ap (λ (v : BlockConnection). v.memory.logged.pages) is)
 follow_keeps c c' (deed.Keep p v) is = keeps_by c c' (ap (λ (v : BlockConnection). v.memory.logged.pages) is)
 follow_keeps c c' (deed.Part ring id part left) (v, lies, is) =
     keeps_by c c' (ap (λ (v : BlockConnection). v.memory.logged.pages) is ∙ open_pages c ring id part left v)
@@ -301,6 +308,8 @@ sent_marks deed.UnmapAll c = refl
 sent_marks (deed.Map region descriptor) c = refl
 sent_marks deed.Join c = refl
 sent_marks (deed.Log size offset) c = refl
+sent_marks (deed.File size) c = refl
+sent_marks (deed.Region size offset) c = refl
 sent_marks (deed.Keep p is) c = refl
 sent_marks (deed.Part ring id part left) c = refl
 sent_marks (deed.Interrupt ring) c = refl
@@ -329,6 +338,8 @@ follow_marks c c' deed.UnmapAll is = ap (λ (v : BlockConnection). v.marks) is
 follow_marks c c' (deed.Map region descriptor) is = ap (λ (v : BlockConnection). v.marks) is
 follow_marks c c' deed.Join (m, v, joins, is) = ap (λ (v : BlockConnection). v.marks) is
 follow_marks c c' (deed.Log size offset) is = ap (λ (v : BlockConnection). v.marks) is
+follow_marks c c' (deed.File size) is = ap (λ (v : BlockConnection). v.marks) is
+follow_marks c c' (deed.Region size offset) is = ap (λ (v : BlockConnection). v.marks) is
 follow_marks c c' (deed.Keep p v) is = ap (λ (v : BlockConnection). v.marks) is
 follow_marks c c' (deed.Part ring id part left) (v, lies, is) = ap (λ (v : BlockConnection). v.marks) is
     ∙ open_marks c ring id part left v

@@ -5,6 +5,7 @@ use Rattle.vm_memory_base.specs.Table.{Table}
 use Rattle.vhost_backend.proofs.ChannelLemmas.{on_channel}
 use Rattle.vhost_backend.proofs.TableLemmas.{asking_kept, memory_kept, reply_kept, table_kept}
 use Rattle.vm_memory_base.specs.declared.iotlb.Permissions.{Permissions}
+use Rattle.vhost_backend.specs.SetUp.{part_for}
 use Rattle.vhost_backend.specs.BlockTable.{ChangesTable, freed_by, memory_lost}
 use Rattle.vhost_backend.specs.TableUse.{awaited}
 use Rattle.vhost_backend.specs.Questions.{QuestionsState, after_reply}
@@ -20,7 +21,7 @@ use Rattle.vhost_user.specs.declared.vring.RunningVring.{RunningVring}
 use Rattle.virtio_queue.specs.declared.error.QueueError.{QueueError}
 use Rattle.vhost_backend.specs.Backend.{BackendState, after_message, is_free, is_over, mapping_at}
 use Rattle.vhost_backend.specs.BlockBackend.{Acts, ActsFirst, GivesBackAt, Looks, Returns, Steps, StepsFrom, TakesTurn, after_reach, answered, answered_at, asked_by, asked_first_by, asked_more_by, broke_if, called_up, came, counted, ended_by, ended_with, finished_by, gone_on, hung_up, is_done, looked, mapped, mapped_at, messaged, placed_by, replied, said_last, stepped_on_by, terms_of, told, in_use, taken_by, with_change, reply_by, replied_to}
-use Rattle.vhost_backend.specs.Behind.{HappensBy}
+use Rattle.vhost_backend.specs.Flight.{HappensIn}
 use Rattle.vhost_backend.specs.BlockQueue.{BlockQueueState, HappensNext}
 use Rattle.vhost_backend.specs.BlockQueues.{Turns, based, set_up_at}
 use Rattle.vhost_backend.specs.BlockTurn as turn
@@ -150,6 +151,8 @@ first_leads : (w : BlockBackend) (x : Wanted) → Leads w.backend (asked_first_b
 first_leads w wanted.Nothing = stays w.backend
 first_leads w wanted.Memory = stays w.backend
 first_leads w (wanted.Log size offset) = stays w.backend
+first_leads w (wanted.File asked) = stays w.backend
+first_leads w (wanted.Region size offset) = stays w.backend
 first_leads w (wanted.Descriptor purpose is) = stays w.backend
 first_leads w (wanted.Base ring) = (Done (based w.queues ring (slice_get w.queues ring)).1 ∷ [], refl)
 first_leads w wanted.Table = stays w.backend
@@ -215,7 +218,8 @@ places_lead : (w : BlockBackend) (v : Result RunningVring NotRunning) (fresh : B
     → Leads w.backend (placed_by w v fresh).backend
 places_lead w (Err e) fresh = stays w.backend
 places_lead w (Ok vring) fresh =
-    let t = set_up_at w.queues w.todo.ring w.max_size vring w.backend.connection.features fresh
+    let s = w.backend.connection in
+    let t = set_up_at w.queues w.todo.ring w.max_size vring s.features (part_for s.features w.todo.ring s.inflight) fresh
     (slice_get w.queues w.todo.ring) in reach_leads (record w { queues = t.0 }) t.1
 
 freed_leads : (b : BackendState) (w : BlockBackend) (ring : ℕ) (before after : Option (ℕ × Permissions)) → Leads b w.backend
@@ -285,7 +289,7 @@ module _ {H : Type 0} (step : H → (s : MemoryStep) → Returned s → H → Ty
           (record w { queues = qs; backend = b; todo = todo }) w.turn refl
 
       runs : (q q' : BlockQueueState) (v : Bool) → MatchBool v
-          ((e : Option RingEvent) × HappensBy step way (terms_of w) q old e q' new × ((b, r) ≡ turn.told w.backend w.turn e))
+          ((e : Option RingEvent) × HappensIn step (terms_of w) way q old e q' new × ((b, r) ≡ turn.told w.backend w.turn e))
           ((r ≡ None) × (b ≡ w.backend) × (q' ≡ q) × (new ≡ old)) → Leads w.backend b
       runs q q' true (e, next, is) = turn_told w.backend b w.turn e r is
       runs q q' false p = leads_by p.1 (stays w.backend)

@@ -4,7 +4,7 @@ use Rattle.std.specs.Prelude.{ℕ, zero, suc, Bool, true, false, ◌&&◌, ◌==
 use Rattle.std.specs.List.{list_any}
 use Rattle.vhost_message.specs.FrontendReq.{descriptors_of, request_of}
 use Rattle.vhost_message.specs.declared.frontend_req.FrontendReq.{FrontendReq}
-use Rattle.vhost_message.specs.declared.frontend_req.FrontendReq.TheVariants.{SetFeatures, SetMemTable, SetLogBase, SetVringAddr, GetVringBase, IotlbMsg}
+use Rattle.vhost_message.specs.declared.frontend_req.FrontendReq.TheVariants.{GetVringBase, IotlbMsg, SetFeatures, SetInflightFd, SetLogBase, SetMemTable, SetVringAddr}
 use Rattle.vhost_message.specs.declared.header.Header.{Header}
 use Rattle.vhost_message.specs.declared.refusal.Refusal.{Refusal}
 use Rattle.vhost_message.specs.declared.refusal.Refusal.TheVariants.{Descriptors}
@@ -98,6 +98,7 @@ abbrev pub until_of : BackendState → Bool → FrontendReq → Until
 until_of b in_use (SetMemTable table) = AllRings
 until_of b in_use (SetFeatures features) = AllRings
 until_of b in_use (SetLogBase size offset) = AllRings
+until_of b in_use (SetInflightFd region) = AllRings
 until_of b in_use (SetVringAddr address) = if is_stopped_at b.rings address.index then Now else AllRings
 until_of b in_use (GetVringBase index) = if nat_lt index (length b.rings.rings) then Ring index else Now
 until_of b in_use (IotlbMsg message) = if in_use then AllRings else Now

@@ -12,7 +12,7 @@ use Rattle.vhost_message.specs.declared.refusal.Refusal.{Refusal}
 use Rattle.vhost_message.specs.declared.refusal.Refusal.TheVariants.{Direction}
 use Rattle.vhost_message.specs.declared.regions.MemoryRegion.{MemoryRegion}
 use Rattle.vhost_user.specs.Connection.{connected}
-use Rattle.vhost_user.specs.Reply.{refused}
+use Rattle.vhost_user.specs.Reply.{inflight_for, refused}
 use Rattle.vhost_user.specs.declared.backend_req_handler.Offer.{Offer}
 use Rattle.vhost_user.specs.declared.vring.NotRunning.{NotRunning}
 use Rattle.vhost_user.specs.declared.vring.RunningVring.{RunningVring}
@@ -26,6 +26,7 @@ use Rattle.vhost_backend.specs.Kicks.{TakesKick}
 use Rattle.vhost_backend.specs.PageList.{capped}
 use Rattle.vhost_backend.specs.Questions.{QuestionsState, after_reply, has_next, lost, no_questions, stale, taken_due}
 use Rattle.vhost_backend.specs.RingMemory.{MemoryStep, Returned}
+use Rattle.vhost_backend.specs.SetUp.{part_for}
 use Rattle.vhost_backend.specs.TableChange.{change_in}
 use Rattle.vhost_backend.specs.Wanted.{wanted_at}
 use Rattle.vhost_backend.specs.declared.backend.Finish.{Finish}
@@ -284,6 +285,8 @@ abbrev pub asked_first_by : BlockBackend → Wanted → BlockBackend × Made
 asked_first_by w wanted.Nothing = (record w { ask = ask.Nothing }, made.Again)
 asked_first_by w wanted.Memory = (record w { ask = ask.Mapped 1 }, made.Deed deed.UnmapAll)
 asked_first_by w (wanted.Log size offset) = (record w { ask = ask.Answer }, made.Deed (deed.Log size offset))
+asked_first_by w (wanted.File asked) = (record w { ask = ask.Answer }, made.Deed (deed.File (inflight_for w.backend.connection asked).mmap_size))
+asked_first_by w (wanted.Region size offset) = (record w { ask = ask.Answer }, made.Deed (deed.Region size offset))
 asked_first_by w (wanted.Descriptor purpose is) = (record w { ask = ask.Answer }, made.Deed (deed.Keep purpose is))
 asked_first_by w (wanted.Base ring) = let t = based w.queues ring (slice_get w.queues ring) in
     (finished_by (record w { queues = t.0; questions = stale w.questions ring }) t.1, made.Again)
@@ -357,7 +360,8 @@ after_reach w reached.Broken = record w { broken = true }
 
 abbrev pub set_up_by : BlockBackend → RunningVring → Bool → BlockBackend
 set_up_by w vring fresh =
-    let t = set_up_at w.queues w.todo.ring w.max_size vring w.backend.connection.features fresh
+    let s = w.backend.connection in
+    let t = set_up_at w.queues w.todo.ring w.max_size vring s.features (part_for s.features w.todo.ring s.inflight) fresh
     (slice_get w.queues w.todo.ring) in after_reach (record w { queues = t.0 }) t.1
 
 -- a queue is told where its ring lies, if that runs

@@ -18,7 +18,7 @@ use Rattle.vhost_user.specs.declared.backend_req_handler.OfferError.{OfferError}
 use Rattle.vhost_user.specs.declared.backend_req_handler.OfferError.TheVariants.{Invalid, Memory}
 use Rattle.vhost_backend.specs.BlockBackend.{answered, came, hung_up, mapped, new_block_backend, region_at, replied_to}
 use Rattle.vhost_backend.specs.ConnectionMemory as memory
-use Rattle.vhost_backend.specs.ConnectionMemory.{MemoryState, no_memory, with_behind, with_pages}
+use Rattle.vhost_backend.specs.ConnectionMemory.{MemoryState, no_memory, with_behind, with_pages, with_tracked}
 use Rattle.vhost_backend.specs.PageList.{capped}
 use Rattle.vhost_backend.specs.TableCounts.{no_table_counts}
 use Rattle.vhost_backend.specs.declared.block.BlockStep.{BlockStep}
@@ -137,6 +137,10 @@ reply_in message = if nat_lt (length message) 12 then Err PayloadSize else whole
 
 abbrev pub reply_came : BlockConnection → List ℕ → BlockConnection × Bool
 reply_came c message = let t = replied_to c.backend (reply_in message) in (with_backend c t.0, t.1)
+
+-- the region of requests in flight has these bytes
+abbrev pub tracking : BlockConnection → List ℕ → BlockConnection
+tracking c bytes = record c { memory = with_tracked c.memory bytes }
 
 abbrev pub ended : BlockConnection → BlockConnection
 ended c = with_backend c (hung_up c.backend HungUp)

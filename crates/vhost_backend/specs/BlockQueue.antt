@@ -20,6 +20,7 @@ use Rattle.vhost_backend.specs.Reach.{ReachState, moved_to, same_log, unreached}
 use Rattle.vhost_backend.specs.RingMemory.{MemoryStep, Returned, adds_used, begins, enables, finishes, pops, reads_used}
 use Rattle.vhost_backend.specs.SetUp.{is_split}
 use Rattle.vhost_backend.specs.Story.{busy, of_id, returned}
+use Rattle.vhost_inflight.specs.declared.split.SplitInFlight.{SplitInFlight}
 use Rattle.vhost_backend.specs.declared.block_queue.Asked.{Asked}
 use Rattle.vhost_backend.specs.declared.block_queue.Finished.{Finished}
 use Rattle.vhost_backend.specs.declared.block_queue.Finished.TheVariants as finished
@@ -27,9 +28,29 @@ use Rattle.vhost_backend.specs.declared.block_queue.GiveBack.{GiveBack}
 use Rattle.vhost_backend.specs.declared.block_queue.GiveBack.TheVariants as back
 use Rattle.vhost_backend.specs.declared.block_queue.Pop.{Pop}
 use Rattle.vhost_backend.specs.declared.block_queue.Pop.TheVariants as pop
+use Rattle.vhost_backend.specs.declared.flight.FlightPlace.{FlightPlace}
 use Rattle.vhost_backend.specs.declared.request.Chain.{Chain}
 use Rattle.vhost_backend.specs.declared.ring.RingEvent.{RingEvent}
 use Rattle.vhost_backend.specs.declared.ring.RingEvent.TheVariants.{Break, Popped, Emptied}
+
+-- what a ring has of a region that outlives the back end
+pub record FlightState : Type 0 where
+  -- its part of the region, if there is one
+  pub place : Option FlightPlace
+  -- the ring was started, and that part was not read since
+  pub is_unread : Bool
+  -- what is kept of it, if the ring stores there
+  pub kept : Option SplitInFlight
+  -- the heads that were in flight when the ring was started, and are popped again, in order
+  pub again : List ℕ
+
+-- of a ring that nobody started on its part, if it has one
+abbrev pub landed : Option FlightPlace → FlightState
+landed place = record { place = place; is_unread = false; kept = None; again = [] }
+
+-- of one that was started. That of a packed ring is not used
+abbrev pub flight_started : Option FlightPlace → Bool → FlightState
+flight_started place split = record (landed place) { is_unread = is_some place && split }
 
 pub record BlockQueueState : Type 0 where
   pub queue : AnyQueue
@@ -39,9 +60,11 @@ pub record BlockQueueState : Type 0 where
   pub asked : List (Option Asked)
   -- what is kept for its ring, and what is fetched
   pub reach : ReachState
+  -- what it has of the region of requests in flight
+  pub flight : FlightState
 
 abbrev pub new_queue : AnyQueue → ℕ → BlockQueueState
-new_queue queue ids = record { queue = queue; is_unread = false; asked = replicate ids None; reach = unreached }
+new_queue queue ids = record { queue = queue; is_unread = false; asked = replicate ids None; reach = unreached; flight = landed None }
 
 abbrev pub asked_at : BlockQueueState → ℕ → Option Asked
 asked_at q id = slice_index_or q.asked id None
@@ -53,9 +76,14 @@ abbrev pub with_queue : BlockQueueState → AnyQueue → BlockQueueState
 with_queue q queue = record q { queue = queue }
 
 -- the queue of a ring that was started
-abbrev pub started : BlockQueueState → AnyQueue → Option ℕ → BlockQueueState
-started q queue log =
-    record q { queue = queue; is_unread = is_split queue; reach = moved_to q.reach log }
+abbrev pub started : BlockQueueState → AnyQueue → Option ℕ → Option FlightPlace → BlockQueueState
+started q queue log place =
+    record q {
+      queue = queue;
+      is_unread = is_split queue;
+      reach = moved_to q.reach log;
+      flight = flight_started place (is_split queue);
+    }
 
 -- one that may lie elsewhere
 abbrev pub moved : BlockQueueState → AnyQueue → Option ℕ → BlockQueueState
@@ -66,7 +94,14 @@ moved q queue log = record q {
 
 -- one that is not set up from then on
 abbrev pub unset : BlockQueueState → BlockQueueState
-unset q = record q { queue = with_ready q.queue false; reach = record q.reach { fetch = None } }
+unset q = record q {
+  queue = with_ready q.queue false;
+  reach = record q.reach { fetch = None };
+  flight = landed q.flight.place;
+}
+
+abbrev pub with_flight : BlockQueueState → FlightState → BlockQueueState
+with_flight q flight = record q { flight = flight }
 
 -- a chain can be under way if its id has a place, and no other of this id is
 abbrev pub has_place : BlockQueueState → ℕ → Bool

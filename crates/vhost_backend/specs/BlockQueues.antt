@@ -11,8 +11,9 @@ use Rattle.virtio_queue.specs.declared.error.QueueError.{QueueError}
 use Rattle.vhost_user.specs.declared.vring.RunningVring.{RunningVring}
 use Rattle.vhost_backend.specs.Backend.{BackendState}
 use Rattle.vhost_backend.specs.Block.{block_parts, block_step}
-use Rattle.vhost_backend.specs.BlockQueue.{BlockQueueState, FinishesRequest, GivesBack, asked_at, moved, new_queue, started, unset, with_queue}
+use Rattle.vhost_backend.specs.BlockQueue.{BlockQueueState, FinishesRequest, asked_at, moved, new_queue, started, unset, with_queue}
 use Rattle.vhost_backend.specs.BlockTurn.{TakesStep}
+use Rattle.vhost_backend.specs.Flight.{GivesIn}
 use Rattle.vhost_backend.specs.RingMemory.{MemoryStep, Returned, needs}
 use Rattle.vhost_backend.specs.Reach.{same_log}
 use Rattle.vhost_backend.specs.SetUp.{base_of, fresh_queue, is_set_up, lies_at, log_of, moved_queue}
@@ -27,6 +28,7 @@ use Rattle.vhost_backend.specs.declared.block_queue.GiveBack.TheVariants as back
 use Rattle.vhost_backend.specs.Sight.{Sight}
 use Rattle.vhost_backend.specs.declared.block_queues.Reached.{Reached}
 use Rattle.vhost_backend.specs.declared.block_queues.Reached.TheVariants.{Fine, Broken}
+use Rattle.vhost_backend.specs.declared.flight.FlightPlace.{FlightPlace}
 use Rattle.vhost_backend.specs.declared.request.Chain.{Chain}
 
 -- ---- without memory
@@ -63,9 +65,10 @@ based qs ring None = (qs, Done)
 based qs ring (Some q) = let t = base_left q in (slice_set qs ring t.0, t.1)
 
 -- a ring begins with its queue, or goes on with it. It cannot be reached if there is no such queue
-abbrev pub began : BlockQueueState → Result AnyQueue QueueError → Option ℕ → BlockQueueState × Reached
-began q (Ok made) log = (started q made log, Fine)
-began q (Err e) log = (q, Broken)
+abbrev pub began : BlockQueueState → Result AnyQueue QueueError → Option ℕ → Option FlightPlace
+    → BlockQueueState × Reached
+began q (Ok made) log place = (started q made log place, Fine)
+began q (Err e) log place = (q, Broken)
 
 abbrev pub went_on : BlockQueueState → Result AnyQueue QueueError → Option ℕ → BlockQueueState × Reached
 went_on q (Ok made) log = (moved q made log, Fine)
@@ -76,16 +79,17 @@ abbrev pub stays_at : BlockQueueState → RunningVring → Option ℕ → Bool
 stays_at q vring log = lies_at q.queue vring && same_log q.reach.log log
 
 -- a ring that was started begins at its base, and another one goes on where it is, if it was set up
-abbrev pub set_up : BlockQueueState → ℕ → RunningVring → ℕ → Bool → BlockQueueState × Reached
-set_up q max_size vring features true = began q (fresh_queue max_size vring features) (log_of vring features)
-set_up q max_size vring features false = let log = log_of vring features in
+abbrev pub set_up : BlockQueueState → ℕ → RunningVring → ℕ → Option FlightPlace → Bool → BlockQueueState × Reached
+set_up q max_size vring features place true =
+    began q (fresh_queue max_size vring features) (log_of vring features) place
+set_up q max_size vring features place false = let log = log_of vring features in
     if not (is_set_up q.queue) || stays_at q vring log then (q, Fine) else went_on q (moved_queue q.queue vring) log
 
-abbrev pub set_up_at : List BlockQueueState → ℕ → ℕ → RunningVring → ℕ → Bool → Option BlockQueueState
-    → List BlockQueueState × Reached
-set_up_at qs ring max_size vring features fresh None = (qs, Fine)
-set_up_at qs ring max_size vring features fresh (Some q) =
-    let t = set_up q max_size vring features fresh in (slice_set qs ring t.0, t.1)
+abbrev pub set_up_at : List BlockQueueState → ℕ → ℕ → RunningVring → ℕ → Option FlightPlace → Bool
+    → Option BlockQueueState → List BlockQueueState × Reached
+set_up_at qs ring max_size vring features place fresh None = (qs, Fine)
+set_up_at qs ring max_size vring features place fresh (Some q) =
+    let t = set_up q max_size vring features place fresh in (slice_set qs ring t.0, t.1)
 
 -- ---- on memory
 
@@ -110,7 +114,7 @@ module _ {H : Type 0} (step : H → (s : MemoryStep) → Returned s → H → Ty
 
   -- a chain is given back
   abbrev pub Gives : Chain → ℕ → H → H → BlockQueueState → Reached → BlockQueueState → Type 0
-  Gives chain len old new q r q' = (a : GiveBack) × GivesBack step q chain len old a q' new × (r ≡ given_back a)
+  Gives chain len old new q r q' = (a : GiveBack) × GivesIn step q chain len old a q' new × (r ≡ given_back a)
 
   -- it is asked whether the driver has to be notified
   abbrev pub Asks : H → H → BlockQueueState → Result Bool QueueError → BlockQueueState → Type 0

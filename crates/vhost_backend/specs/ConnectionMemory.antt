@@ -23,7 +23,7 @@ use Rattle.vhost_backend.specs.declared.ring_memory.Logged.{Logged}
 pub record MemoryState : Type 0 where
   -- the regions, ascending
   pub layout : List PlacedBlock
-  -- the memory of the host, and the pages that are to be marked in the log
+  -- the memory of the host, the pages that are to be marked in the log, and the region of requests in flight
   pub logged : Logged (Unit {0})
   -- what the front end's messages say of I/O addresses
   pub table : Table
@@ -39,7 +39,7 @@ no_host = record { blocks = []; bitmaps = []; spaces = []; tables = [] }
 abbrev pub no_memory : ℕ → MemoryState
 no_memory limit = record {
   layout = [];
-  logged = record { host = no_host; pages = no_pages };
+  logged = record { host = no_host; pages = no_pages; region = [] };
   table = record { limit = Some (max limit 1); ranges = [] };
   is_joined = false;
   is_behind = false;
@@ -86,6 +86,10 @@ IsIoMemory layout host on (Some b) =
 
 abbrev pub with_pages : MemoryState → Pages → MemoryState
 with_pages m pages = record m { logged = record m.logged { pages = pages } }
+
+-- the region of requests in flight has these bytes
+abbrev pub with_tracked : MemoryState → List ℕ → MemoryState
+with_tracked m bytes = record m { logged = record m.logged { region = bytes } }
 
 abbrev pub with_behind : MemoryState → Bool → MemoryState
 with_behind m is = record m { is_behind = is }

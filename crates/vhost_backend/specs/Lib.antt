@@ -13,6 +13,7 @@ pub mod ConnectionMemory
 pub mod Current
 pub mod Examples
 pub mod Fetch
+pub mod Flight
 pub mod Given
 pub mod GoesOn
 pub mod KeptRanges
@@ -26,6 +27,7 @@ pub mod Parts
 pub mod Pieces
 pub mod Questions
 pub mod Reach
+pub mod Region
 pub mod Ring
 pub mod RingMarks
 pub mod RingMemory

@@ -104,6 +104,8 @@ row_of deed.UnmapAll n = Some (no_action 2)
 row_of (deed.Map region descriptor) n = Some (map_row region descriptor)
 row_of deed.Join n = None
 row_of (deed.Log size offset) n = Some (record (no_action 4) { place = offset; len = size })
+row_of (deed.File size) n = Some (record (no_action 13) { len = size })
+row_of (deed.Region size offset) n = Some (record (no_action 14) { place = offset; len = size })
 row_of (deed.Keep p is) n = Some (keep_row p is)
 row_of (deed.Part ring id part left) n = None
 row_of (deed.Interrupt ring) n = Some (on_ring 7 ring)

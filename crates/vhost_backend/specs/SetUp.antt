@@ -1,5 +1,5 @@
 -- Queues of rings, as the protocol's state has them.
-use Rattle.std.specs.Prelude.{◌≡◌, ℕ, ◌%◌, ◌/◌, ◌==◌, ◌&&◌, nat_lt, Bool, true, false, if◌then◌else◌, Option, Some, None, Result, Ok, Err}
+use Rattle.std.specs.Prelude.{◌≡◌, ℕ, ◌%◌, ◌/◌, ◌==◌, ◌&&◌, nat_lt, Bool, true, false, if◌then◌else◌, Option, Some, None, Result, Ok, Err, ◌*◌}
 use Rattle.vhost_user.specs.Features.{access_platform, event_idx, has, ring_packed}
 use Rattle.vhost_user.specs.declared.vring.RunningVring.{RunningVring}
 use Rattle.virtio_queue.specs.Packed.{is_packed_size, of_bits}
@@ -12,6 +12,9 @@ use Rattle.virtio_queue.specs.declared.error.QueueError.{QueueError}
 use Rattle.virtio_queue.specs.declared.error.QueueError.TheVariants.{InvalidAvailRingIndex, InvalidMaxSize, InvalidSize}
 use Rattle.virtio_queue.specs.declared.packed.state.PackedState.{PackedState}
 use Rattle.virtio_queue.specs.declared.state.QueueState.{QueueState}
+use Rattle.vhost_message.specs.declared.frontend_req.VhostUserInflight.{VhostUserInflight}
+use Rattle.vhost_user.specs.Inflight.{queue_len}
+use Rattle.vhost_backend.specs.declared.flight.FlightPlace.{FlightPlace}
 
 abbrev pub unset_queue : ℕ → Result AnyQueue QueueError
 unset_queue max_size =
@@ -111,3 +114,9 @@ lies_at (Packed q) vring = let s = q.state in
 -- where writes to its used ring are logged, if a table translates its addresses. If not, they are where they are made
 abbrev pub log_of : RunningVring → ℕ → Option ℕ
 log_of vring features = if has features access_platform then vring.log else None
+
+-- the part of a ring of the region of requests in flight: as many parts of one length as the region has rings
+abbrev pub part_for : ℕ → ℕ → Option VhostUserInflight → Option FlightPlace
+part_for features ring None = None
+part_for features ring (Some r) = let len = queue_len features r.queue_size in if nat_lt ring r.num_queues
+    then Some (record { base = ring * len; len = len; descriptors = r.queue_size }) else None

@@ -309,7 +309,8 @@ impl Backend {
         match request {
             FrontendReq::SetMemTable(_)
             | FrontendReq::SetFeatures(_)
-            | FrontendReq::SetLogBase { .. } => { Until::AllRings }
+            | FrontendReq::SetLogBase { .. }
+            | FrontendReq::SetInflightFd(_) => { Until::AllRings }
             FrontendReq::SetVringAddr(address) if !self.rings.is_stopped(address.index as usize) =>
                 { Until::AllRings }
             FrontendReq::GetVringBase { index } if (*index as usize) < self.rings.count() => {

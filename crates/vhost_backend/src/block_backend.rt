@@ -28,6 +28,7 @@ use crate::request::{Chain, PartEnd};
 use crate::ring::{RingAction, RingActions, RingEvent};
 use crate::ring_memory::RingMemory;
 use crate::rings::Event;
+use crate::set_up::part_for;
 use crate::table_change::{TableChange, change_in};
 use std::alloc::Global;
 use vhost_message::{FrontendReq, Header, MemoryRegion, Message};
@@ -385,11 +386,12 @@ impl BlockBackend {
     fn set_up(&mut self, vring: &RunningVring, fresh: bool)
         ensures { self.new ≡ set_up_by self.old vring.now fresh }
     {
-        let features = self.backend.connection().features();
-        let ring = self.todo.ring;
+        let connection = self.backend.connection();
+        let (features, ring) = (connection.features(), self.todo.ring);
+        let part = part_for(features, ring, connection.inflight());
         let reached = self
             .queues
-            .set_up(ring, self.max_size, vring, features, fresh);
+            .set_up(ring, self.max_size, vring, features, part, fresh);
         self.reach(reached);
     }
 

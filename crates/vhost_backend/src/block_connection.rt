@@ -4,7 +4,7 @@ ghost use Rattle.vhost_backend.specs.BlockBackend.{channel_lost, resized};
 ghost use Rattle.vhost_backend.specs.BlockConnection.{Connects, Maps, Opens, done, ended, failed, kicked};
 ghost use Rattle.vhost_backend.specs.BlockConnection.{limits_of, looked_after, as_negotiated, sent, taken};
 ghost use Rattle.vhost_backend.specs.BlockConnection.{taken_whole, with_backend, offered, reply_came, reply_in};
-ghost use Rattle.vhost_backend.specs.BlockConnection.{whole_reply};
+ghost use Rattle.vhost_backend.specs.BlockConnection.{tracking, whole_reply};
 ghost use Rattle.vm_memory_guest.specs.BlockBytes.{bytes_of};
 
 mod run;
@@ -247,6 +247,13 @@ impl BlockConnection {
         let is_done = self.memory.map(&region, bytes);
         self.backend.mapped(is_done);
         is_done
+    }
+
+    /// Takes the bytes of the region of requests in flight that is to be mapped. It is reported as done after that.
+    pub fn track(&mut self, bytes: BlockBytes)
+        ensures { self.new ≡ tracking self.old (bytes_of bytes) }
+    {
+        self.memory.track(bytes);
     }
 
     /// Takes note that what was asked for was done.

@@ -15,9 +15,10 @@ ghost use Rattle.virtio_queue.specs.declared.any.AnyQueue.TheVariants.{Split};
 ghost use Rattle.virtio_queue.specs.declared.packed.state.PackedBuffer.{PackedBuffer};
 ghost use Rattle.virtio_blk.specs.declared.request.DeviceLimits.{DeviceLimits};
 ghost use Rattle.vhost_iotlb.specs.Leads.{LeadsTo};
-ghost use Rattle.vhost_backend.specs.Behind.{HappensBy, IsWaiting};
+ghost use Rattle.vhost_backend.specs.Behind.{IsWaiting};
 ghost use Rattle.vhost_backend.specs.BlockQueue.{Agrees, BlockQueueState, FindsAll, FoundNone};
 ghost use Rattle.vhost_backend.specs.Fetch.{used_of};
+ghost use Rattle.vhost_backend.specs.Flight.{HappensIn};
 ghost use Rattle.vhost_backend.specs.Marks.{Covered, CoveredFrom, MarksRing, Stores, asking_marks, chain_marks};
 ghost use Rattle.vhost_backend.specs.Marks.{return_marks};
 ghost use Rattle.vhost_backend.specs.PageList.{IsToMark};
@@ -76,10 +77,10 @@ pub fn ring_marks_are_of_guest_pages<B: Bitmap>()
 /// for. The queue is as it was then, but that its first turn reads where it returns its next chain.
 pub fn turns_end_after_a_look<H, D: RingMemory<H>>()
     ensures looks { (mem : D) (way : Option Sight) (terms : DeviceLimits) (q new_q : BlockQueueState) (old new : H)
-        → HappensBy (D.steps mem) way terms q old (Some Emptied) new_q new
+        → HappensIn (D.steps mem) terms way q old (Some Emptied) new_q new
         → FoundNone (D.steps mem) new_q new ⊎ IsWaiting new_q }
     ensures stays { (mem : D) (way : Option Sight) (terms : DeviceLimits) (q new_q : BlockQueueState) (old new : H)
-        → HappensBy (D.steps mem) way terms q old (Some Emptied) new_q new → q.is_unread ≡ false
+        → HappensIn (D.steps mem) terms way q old (Some Emptied) new_q new → q.is_unread ≡ false
         → new_q.queue ≡ q.queue }
 {}
 
@@ -89,7 +90,7 @@ pub fn turns_end_after_a_look<H, D: RingMemory<H>>()
 pub fn each_return_finds_its_request<H, D: RingMemory<H>>()
     ensures turns { (mem : D) (way : Option Sight) (terms : DeviceLimits) (q new_q : BlockQueueState) (old new : H)
         (r : RingState) (e : RingEvent) → Agrees q r → length q.asked ≡ length r.requests → may_run r ≡ true
-        → HappensBy (D.steps mem) way terms q old (Some e) new_q new → FindsAll new_q (stepped r (On e)) }
+        → HappensIn (D.steps mem) terms way q old (Some e) new_q new → FindsAll new_q (stepped r (On e)) }
     ensures others { (q : BlockQueueState) (r : RingState) (s : RingStep) → Agrees q r → taken r s ≡ []
         → FindsAll q (stepped r s) }
 {}

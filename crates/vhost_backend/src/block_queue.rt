@@ -10,6 +10,7 @@ ghost use Rattle.vhost_backend.specs.RingMemory.{needs};
 
 mod behind;
 mod change;
+mod flight;
 mod limits;
 mod marks;
 
@@ -17,6 +18,7 @@ pub use self::behind::{Origin, Way};
 use self::marks::{mark_asking, mark_chain, publish};
 use crate::block::{block_parts, len_of, status_of, written_of};
 use crate::fetch::is_same_place;
+use crate::flight::{Flight, FlightPlace};
 use crate::reach::{KeptList, Reach, same_log};
 use crate::request::Chain;
 use crate::ring::RingEvent;
@@ -159,6 +161,7 @@ pub struct BlockQueue {
     is_unread: bool,
     asked: Vec<Option<Asked>>,
     reach: Reach,
+    flight: Flight,
     spare: SpareLists,
 }
 
@@ -167,7 +170,13 @@ impl Model for BlockQueue {
 
     ghost Value = { BlockQueueState };
 
-    ghost view = { λ q. record { queue = q.queue; is_unread = q.is_unread; asked = q.asked.items; reach = q.reach } };
+    ghost view = { λ q. record {
+      queue = q.queue;
+      is_unread = q.is_unread;
+      asked = q.asked.items;
+      reach = q.reach;
+      flight = q.flight;
+    } };
 
     ghost invariant = { λ q. AllShort q.asked.items };
 }
@@ -193,6 +202,7 @@ impl BlockQueue {
             is_unread: false,
             asked,
             reach: Reach::new(alloc),
+            flight: Flight::new(alloc),
             spare,
         })
     }
@@ -232,12 +242,15 @@ impl BlockQueue {
     }
 
     /// Sets the queue of a ring that was started. Where a split one returns its next chain is read in its first turn.
-    pub fn start(&mut self, queue: AnyQueue, log: Option<u64>)
-        ensures { self.new ≡ started self.old queue log }
+    /// Its part of the region of requests in flight lies there, if it has one.
+    pub fn start(&mut self, queue: AnyQueue, log: Option<u64>, part: Option<FlightPlace>)
+        ensures { self.new ≡ started self.old queue log part }
     {
-        self.is_unread = is_split(&queue);
+        let split = is_split(&queue);
+        self.is_unread = split;
         self.queue = queue;
         self.reach.move_to(log);
+        self.flight.start(part, split);
     }
 
     /// Makes the queue one that was not set up.
@@ -246,6 +259,7 @@ impl BlockQueue {
     {
         self.queue.set_ready(false);
         self.reach.set_fetch(None);
+        self.flight.stop();
     }
 
     /// The request with an id that is under way.

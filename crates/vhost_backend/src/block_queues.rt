@@ -15,6 +15,7 @@ mod table;
 use crate::backend::{Backend, Finish, Todo};
 use crate::block::{BlockStep, block_parts, block_step};
 use crate::block_queue::{BlockQueue, Finished, GiveBack, Way};
+use crate::flight::FlightPlace;
 use crate::request::Chain;
 use crate::ring_memory::RingMemory;
 use crate::set_up::{base_of, fresh_queue, is_set_up, lies_at, log_of, moved_queue, unset_queue};
@@ -60,12 +61,17 @@ fn given_back(given: GiveBack) -> Reached
 }
 
 // A ring begins with its queue, if there is one.
-fn begin(queue: &mut BlockQueue, made: Result<AnyQueue, QueueError>, log: Option<u64>) -> Reached
-    ensures { (queue.new, result) ≡ began queue.old made log }
+fn begin(
+    queue: &mut BlockQueue,
+    made: Result<AnyQueue, QueueError>,
+    log: Option<u64>,
+    part: Option<FlightPlace>,
+) -> Reached
+    ensures { (queue.new, result) ≡ began queue.old made log part }
 {
     match made {
         Ok(made) => {
-            queue.start(made, log);
+            queue.start(made, log, part);
             Reached::Fine
         }
         Err(_) => Reached::Broken,
@@ -98,13 +104,14 @@ fn set_up(
     max_size: u16,
     vring: &RunningVring,
     features: u64,
+    part: Option<FlightPlace>,
     fresh: bool,
 ) -> Reached
-    ensures { (queue.new, result) ≡ set_up queue.old max_size vring.now features fresh }
+    ensures { (queue.new, result) ≡ set_up queue.old max_size vring.now features part fresh }
 {
     let log = log_of(vring, features);
     if fresh {
-        return begin(queue, fresh_queue(max_size, vring, features), log);
+        return begin(queue, fresh_queue(max_size, vring, features), log, part);
     }
     if !is_set_up(queue.queue()) || stays_at(queue, vring, log) {
         return Reached::Fine;
@@ -201,13 +208,14 @@ impl BlockQueues {
         max_size: u16,
         vring: &RunningVring,
         features: u64,
+        part: Option<FlightPlace>,
         fresh: bool,
     ) -> Reached
         ensures { (self.new, result)
-            ≡ set_up_at self.old ring max_size vring.now features fresh (slice_get self.old ring) }
+            ≡ set_up_at self.old ring max_size vring.now features part fresh (slice_get self.old ring) }
     {
         match self.queues.get_mut(ring) {
-            Some(queue) => set_up(queue, max_size, vring, features, fresh),
+            Some(queue) => set_up(queue, max_size, vring, features, part, fresh),
             None => Reached::Fine,
         }
     }
@@ -248,7 +256,7 @@ impl BlockQueues {
         ensures held { D.held mem.now host.new }
     {
         match self.queues.get_mut(ring) {
-            Some(queue) => given_back(queue.give_back(mem, host, chain, len)),
+            Some(queue) => given_back(queue.give_back_in(mem, host, chain, len)),
             None => Reached::Fine,
         }
     }

@@ -11,7 +11,7 @@ ghost use Rattle.vhost_backend.specs.BlockBackend.{Looks, Steps};
 ghost use Rattle.vhost_backend.specs.ConnectionMemory.{IsBlockAt, Joins, LiesOver, Maps, block_of, forgotten};
 ghost use Rattle.vhost_backend.specs.ConnectionMemory.{io_memory_in, io_view, memory_step, no_memory, place_of};
 ghost use Rattle.vhost_backend.specs.ConnectionMemory.{table_step};
-ghost use Rattle.vhost_backend.specs.ConnectionMemory.{with_behind, with_first_table, with_pages};
+ghost use Rattle.vhost_backend.specs.ConnectionMemory.{with_behind, with_first_table, with_pages, with_tracked};
 ghost use Rattle.vhost_backend.specs.BlockTable.{ChangesTable};
 ghost use Rattle.vhost_backend.specs.ConnectionMemory.{emptied, first_emptied, way_of};
 ghost use Rattle.vhost_backend.specs.PageList.{TakesPages};
@@ -22,6 +22,7 @@ use crate::block_queue::Way;
 use crate::deeds::Made;
 use crate::page_list::{PageList, PageRange};
 use crate::pieces::Piece;
+use crate::region::Region;
 use crate::ring_memory::{Lent, Logged};
 use std::alloc::{AllocError, Global};
 use std::marker::Model;
@@ -189,6 +190,7 @@ impl ConnectionMemory {
             logged: Logged {
                 host: HostMemory::new(alloc),
                 pages: PageList::new(alloc)?,
+                region: Region::none(),
             },
             table: Iotlb::with_limit(alloc, table_limit.max(1)),
             behind: None,
@@ -250,6 +252,13 @@ impl ConnectionMemory {
             Ok(_) => true,
             Err(_) => false,
         }
+    }
+
+    /// Takes the bytes of the region of requests in flight, in place of those before.
+    pub fn track(&mut self, bytes: BlockBytes)
+        ensures { self.new ≡ with_tracked self.old (bytes_of bytes) }
+    {
+        self.logged.region.set(bytes);
     }
 
     /// Makes guest memory of these regions, each of the bytes that came with its number, and a table for rings. Returns

@@ -12,7 +12,7 @@ ghost use Rattle.vhost_iotlb.specs.declared.kept.Change.TheVariants.{Unmap};
 ghost use Rattle.vhost_iotlb.specs.declared.kept.Kept.{Kept};
 ghost use Rattle.vhost_backend.specs.BlockBackend.{channel_lost, resized};
 ghost use Rattle.vhost_backend.specs.BlockConnection.{Connects, Maps, done, ended, failed, kicked, reply_came, sent};
-ghost use Rattle.vhost_backend.specs.BlockConnection.{taken, with_backend};
+ghost use Rattle.vhost_backend.specs.BlockConnection.{taken, tracking, with_backend};
 ghost use Rattle.vhost_backend.specs.BlockQueue.{BlockQueueState};
 ghost use Rattle.vhost_backend.specs.Current.{Current, IsForgotten, LeadsNowhere, NoneUnderWay, after_changes};
 ghost use Rattle.vhost_backend.specs.Current.{changes_of, maps, run_changes};
@@ -60,6 +60,7 @@ pub fn nothing_leads_elsewhere()
         → Current f (with_backend c (channel_lost c.backend)) }
     ensures maps { (f : Says) (c new_c : BlockConnection) (is : Bool) → Maps c is new_c → Current f c
         → Current f new_c }
+    ensures tracks { (f : Says) (c : BlockConnection) (bytes : List ℕ) → Current f c → Current f (tracking c bytes) }
     ensures does { (f : Says) (c : BlockConnection) → Current f c → Current f (done c) }
     ensures fails { (f : Says) (c : BlockConnection) → Current f c → Current f (failed c) }
     ensures ends { (f : Says) (c : BlockConnection) → Current f c → Current f (ended c) }

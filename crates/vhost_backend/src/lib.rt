@@ -15,6 +15,7 @@ mod deeds;
 pub mod examples;
 mod fetch;
 pub mod fetch_laws;
+mod flight;
 mod given;
 pub mod goes_on_laws;
 mod kept_ranges;
@@ -27,6 +28,7 @@ mod parts;
 mod pieces;
 mod questions;
 mod reach;
+mod region;
 mod request;
 mod ring;
 mod ring_memory;
@@ -52,6 +54,7 @@ pub use fetch::{
     Fetch, Found, Goal, State, chain_wants, drop_changed, guest_chain, has_gap, resume, ring_wants,
     status_want,
 };
+pub use flight::{Flight, FlightPlace};
 pub use kept_ranges::{forget_all, keep_all};
 pub use kicks::Kicks;
 pub use mapping::Mapping;
@@ -60,6 +63,7 @@ pub use parts::{PART, Part, next_part, parts_are_the_data_in_order, parts_of};
 pub use pieces::{Piece, piece_from};
 pub use questions::{Miss, Questions, SentMiss};
 pub use reach::{KeptList, Reach};
+pub use region::{Region, RegionBytes};
 pub use request::{Chain, PartEnd};
 pub use ring::{RingAction, RingActions, RingEvent};
 pub use ring_memory::{Lent, Logged, Looked, Marks, RingMemory};

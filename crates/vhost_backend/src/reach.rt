@@ -202,7 +202,7 @@ impl Reach {
     }
 
     // Whether something is fetched.
-    fn is_fetching(&self) -> bool
+    pub fn is_fetching(&self) -> bool
         ensures { result ≡ is_some self.now.fetch }
     {
         self.fetch.is_some()

@@ -8,13 +8,15 @@ ghost use Rattle.vhost_iotlb.specs.Kept.{IsReal};
 ghost use Rattle.vhost_backend.specs.RingMarks.{marked_through, range_marked};
 ghost use Rattle.vhost_backend.specs.RingMemory.{ByLooks, ChangesTable, HoldsAll, Logs, MemoryStep, Returned};
 ghost use Rattle.vhost_backend.specs.RingMemory.{adds_used, begins, enables, finishes, forgets, keeps, marks};
-ghost use Rattle.vhost_backend.specs.RingMemory.{marks_ring, needs, pops, reads_used};
+ghost use Rattle.vhost_backend.specs.RingMemory.{marks_ring, needs, pops, pops_again, reads_region, reads_used, tracks};
 
 use crate::page_list::PageList;
+use crate::region::{Region, RegionBytes};
 use std::alloc::{AllocError, Global};
+use vhost_inflight::Store;
 use vhost_iotlb::Kept;
 use virtio_blk::{DeviceLimits, Fetches, Puts, Request, begin, begin_from, finish, finish_from};
-use virtio_queue::{AnyQueue, Looks, PackedBuffer, Queue, QueueError, Stores};
+use virtio_queue::{AnyQueue, Looks, PackedBuffer, PackedDescriptor, Queue, QueueError, Stores};
 use vm_memory_base::{Bitmap, GuestAddress, Iotlb, IotlbIterator, MappedRange, Permissions};
 use vm_memory_device::{Chain, Segment};
 use vm_memory_guest::{GuestMemory, GuestMemoryResult, HostMemory, TlbId};
@@ -42,6 +44,14 @@ pub trait Marks {
     fn forget(&mut self, k: Kept) -> Result<(), AllocError>
         requires { IsReal k }
         ensures { logs self.old (forgets k) result self.new };
+
+    /// A copy of at most so many bytes of the region of requests in flight.
+    fn read_region(&mut self, alloc: Global, offset: usize, len: usize) -> Result<RegionBytes, AllocError>
+        ensures { logs self.old (reads_region offset len) result self.new };
+
+    /// Stores to the region.
+    fn track(&mut self, store: Store)
+        ensures { logs self.old (tracks store) tt self.new };
 }
 
 /// Guest memory on which a ring takes its steps.
@@ -146,6 +156,39 @@ pub trait RingMemory<H> {
         requires real { IsReal k }
         ensures step { steps self.now host.old (forgets k) result host.new }
         ensures held { held self.now host.new };
+
+    /// A chain that was in flight when the back end was started, in a list that is used again: that of a head of a split
+    /// queue, and that of these descriptors of a packed one. The queue stays where it is.
+    fn pop_again(
+        &self,
+        host: &mut H,
+        alloc: Global,
+        list: &mut Vec<Segment>,
+        queue: &AnyQueue,
+        head: u16,
+        descriptors: &[PackedDescriptor],
+    ) -> Result<Chain, QueueError>
+        requires { held self.now host.old }
+        ensures step { steps self.now host.old (pops_again queue.now head descriptors.now) result host.new }
+        ensures held { held self.now host.new };
+
+    /// A copy of at most so many bytes of the region of requests in flight, each read once.
+    fn read_region(
+        &self,
+        host: &mut H,
+        alloc: Global,
+        offset: usize,
+        len: usize,
+    ) -> Result<RegionBytes, AllocError>
+        requires { held self.now host.old }
+        ensures step { steps self.now host.old (reads_region offset len) result host.new }
+        ensures held { held self.now host.new };
+
+    /// Stores to the region, after what was stored before and before what is stored later.
+    fn track(&self, host: &mut H, store: Store)
+        requires { held self.now host.old }
+        ensures step { steps self.now host.old (tracks store) tt host.new }
+        ensures held { held self.now host.new };
 }
 
 /// Host memory, and the pages that were changed and are to be marked in the log.
@@ -155,6 +198,8 @@ pub struct Logged<B> {
     pub host: HostMemory<B>,
     /// The pages.
     pub pages: PageList,
+    /// The region of requests in flight.
+    pub region: Region,
 }
 
 // Marks the pages of a range of guest addresses, which goes on at 0 after the last address.
@@ -334,6 +379,32 @@ impl<M: GuestMemory, P: GuestMemory, K: GuestMemory, B: Bitmap> RingMemory<Logge
             None => Ok(()),
         }
     }
+
+    fn pop_again(
+        &self,
+        logged: &mut Logged<B>,
+        alloc: Global,
+        list: &mut Vec<Segment>,
+        queue: &AnyQueue,
+        head: u16,
+        descriptors: &[PackedDescriptor],
+    ) -> Result<Chain, QueueError> {
+        queue.chain_again(alloc, list, self.ring, &logged.host, head, descriptors)
+    }
+
+    fn read_region(
+        &self,
+        logged: &mut Logged<B>,
+        alloc: Global,
+        offset: usize,
+        len: usize,
+    ) -> Result<RegionBytes, AllocError> {
+        logged.region.read(alloc, offset, len)
+    }
+
+    fn track(&self, logged: &mut Logged<B>, store: Store) {
+        logged.region.store(store);
+    }
 }
 
 /// Guest memory at which the calls look, to which they store, and in which they mark, while a guest may write it. This
@@ -415,5 +486,31 @@ impl<L: Looks + Fetches + Puts + Marks, S: Stores<L>> RingMemory<L> for Looked<'
 
     fn forget(&self, guest: &mut L, k: Kept) -> Result<(), AllocError> {
         guest.forget(k)
+    }
+
+    fn pop_again(
+        &self,
+        guest: &mut L,
+        alloc: Global,
+        list: &mut Vec<Segment>,
+        queue: &AnyQueue,
+        head: u16,
+        descriptors: &[PackedDescriptor],
+    ) -> Result<Chain, QueueError> {
+        queue.chain_again_from(alloc, list, guest, head, descriptors)
+    }
+
+    fn read_region(
+        &self,
+        guest: &mut L,
+        alloc: Global,
+        offset: usize,
+        len: usize,
+    ) -> Result<RegionBytes, AllocError> {
+        guest.read_region(alloc, offset, len)
+    }
+
+    fn track(&self, guest: &mut L, store: Store) {
+        guest.track(store);
     }
 }

@@ -112,6 +112,10 @@ pub mod kind {
     pub const STOPPED: u32 = 11;
 
     pub const ASK: u32 = 12;
+
+    pub const FILE: u32 = 13;
+
+    pub const REGION: u32 = 14;
 }
 
 /// The ways of parts.
@@ -318,6 +322,25 @@ fn log_row(size: u64, offset: u64) -> ActionRow
     }
 }
 
+fn file_row(size: u64) -> ActionRow
+    ensures { result ≡ record (no_action 13) { len = size } }
+{
+    ActionRow {
+        len: size,
+        ..no_action(kind::FILE)
+    }
+}
+
+fn region_row(size: u64, offset: u64) -> ActionRow
+    ensures { result ≡ record (no_action 14) { place = offset; len = size } }
+{
+    ActionRow {
+        place: offset,
+        len: size,
+        ..no_action(kind::REGION)
+    }
+}
+
 fn way_of_access(access: Permissions) -> u32
     ensures { result ≡ way_of_access access }
 {
@@ -349,6 +372,8 @@ pub(crate) fn row_of(deed: Deed, bytes: usize) -> Option<ActionRow>
         Deed::UnmapAll => Some(no_action(kind::UNMAP_ALL)),
         Deed::Map(region, descriptor) => Some(map_row(region, descriptor)),
         Deed::Log { size, offset } => Some(log_row(size, offset)),
+        Deed::File { size } => Some(file_row(size)),
+        Deed::Region { size, offset } => Some(region_row(size, offset)),
         Deed::Keep(purpose, is_there) => Some(keep_row(purpose, is_there)),
         Deed::Interrupt(ring) => Some(on_ring(kind::INTERRUPT, ring)),
         Deed::Tell(ring) => Some(on_ring(kind::ERROR, ring)),

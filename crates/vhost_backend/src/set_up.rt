@@ -1,10 +1,12 @@
 //! Queues of rings, as the protocol's state has them.
 ghost use Rattle.std.specs.Prelude.{◌≡◌};
 ghost use Rattle.vhost_backend.specs.SetUp.{any_split, base_of, fresh_queue, is_set_up, is_split, lies_at, log_of};
-ghost use Rattle.vhost_backend.specs.SetUp.{moved_queue, packed_queue, split_queue, unset_queue};
+ghost use Rattle.vhost_backend.specs.SetUp.{moved_queue, packed_queue, part_for, split_queue, unset_queue};
 
+use crate::flight::FlightPlace;
+use vhost_message::VhostUserInflight;
 use vhost_user::{
-    RunningVring, VIRTIO_F_ACCESS_PLATFORM, VIRTIO_F_RING_EVENT_IDX, VIRTIO_F_RING_PACKED,
+    inflight_queue_len, RunningVring, VIRTIO_F_ACCESS_PLATFORM, VIRTIO_F_RING_EVENT_IDX, VIRTIO_F_RING_PACKED,
 };
 use virtio_queue::{
     AnyQueue, PackedQueue, PackedState, Queue, QueueError, QueueState, RingPosition,
@@ -175,4 +177,24 @@ pub(crate) fn log_of(vring: &RunningVring, features: u64) -> Option<u64>
     } else {
         None
     }
+}
+
+// The part of a ring of the region of requests in flight: as many parts of one length as the region has rings.
+pub(crate) fn part_for(
+    features: u64,
+    ring: usize,
+    region: Option<VhostUserInflight>,
+) -> Option<FlightPlace>
+    ensures { result ≡ part_for features ring region }
+{
+    let region = region?;
+    if ring >= usize::from(region.num_queues) {
+        return None;
+    }
+    let len = inflight_queue_len(features, region.queue_size) as usize;
+    Some(FlightPlace {
+        base: ring * len,
+        len,
+        descriptors: region.queue_size,
+    })
 }

@@ -33,7 +33,7 @@ pub fn take_step<H, D: RingMemory<H>>(
     if !backend.rings().may_pop(ring) {
         return false;
     }
-    match queue.next_event(alloc, mem, host, terms, way) {
+    match queue.next_in(alloc, mem, host, terms, way) {
         Some(event) => {
             backend.handle(Event::Ring(ring, event), todo);
             true

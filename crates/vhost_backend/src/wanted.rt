@@ -2,7 +2,7 @@
 ghost use Rattle.std.specs.Prelude.{◌≡◌};
 ghost use Rattle.vhost_backend.specs.Wanted.{wanted_of};
 
-use vhost_message::FrontendReq;
+use vhost_message::{FrontendReq, VhostUserInflight};
 
 /// What a descriptor that comes with a message is for.
 #[derive(Clone, Copy, Debug, PartialEq, Eq)]
@@ -28,6 +28,10 @@ pub enum Wanted {
     Memory,
     /// The log is mapped: so many bytes of a file, from an offset on.
     Log { size: u64, offset: u64 },
+    /// A file is made for a region of requests in flight, which goes with the reply.
+    File(VhostUserInflight),
+    /// The region of requests in flight is mapped: so many bytes of a file, from an offset on.
+    Region { size: u64, offset: u64 },
     /// A descriptor is kept for a use in place of the one before, or none is.
     Descriptor(Purpose, bool),
     /// The base of a ring is replied.
@@ -46,6 +50,11 @@ pub(crate) fn wanted_of(request: &FrontendReq) -> Wanted
         FrontendReq::SetLogBase { size, offset } => Wanted::Log {
             size: *size,
             offset: *offset,
+        },
+        FrontendReq::GetInflightFd(asked) => Wanted::File(*asked),
+        FrontendReq::SetInflightFd(region) => Wanted::Region {
+            size: region.mmap_size,
+            offset: region.mmap_offset,
         },
         FrontendReq::SetVringKick { index, descriptor } => {
             Wanted::Descriptor(Purpose::Kick(*index), *descriptor)

@@ -4,7 +4,7 @@ ghost use Rattle.std.specs.Prelude.{◌≡◌, ◌⊎◌, Some, None, IsSome, tr
 ghost use Rattle.vhost_calls.specs.Values.{connection_state};
 ghost use Rattle.vhost_backend.specs.BlockBackend.{channel_lost, resized};
 ghost use Rattle.vhost_backend.specs.BlockConnection.{Maps, done, ended, failed, kicked, reply_came, sent, taken};
-ghost use Rattle.vhost_backend.specs.BlockConnection.{with_backend};
+ghost use Rattle.vhost_backend.specs.BlockConnection.{tracking, with_backend};
 ghost use Rattle.vhost_backend.specs.Run.{RunsBy};
 ghost use Rattle.vm_memory_c.specs.Block.{OpensAt, Stays};
 
@@ -94,6 +94,23 @@ pub extern "C" fn vmm_backend_mapped(
     let is_done = held.mapped(BlockBytes::at(place));
     put(connection, held);
     u32::from(!is_done)
+}
+
+/// Takes the place of the region of requests in flight that is to be mapped. It stays the connection's until that
+/// closes or takes another one. vmm_backend_done comes after it.
+#[unsafe(no_mangle)]
+pub extern "C" fn vmm_backend_track(
+    alloc: Global,
+    connection: &mut BlockHandle,
+    place: HostPlace,
+)
+    requires { IsSome connection.old.state }
+    ensures { Stays connection.old.state connection.new.state
+        (λ old new. new ≡ tracking old place.bytes) }
+{
+    let mut held = take(alloc, connection);
+    held.track(BlockBytes::at(place));
+    put(connection, held);
 }
 
 /// Takes note that what was asked for was done.

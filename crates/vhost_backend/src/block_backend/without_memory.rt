@@ -74,6 +74,15 @@ impl BlockBackend {
                 self.ask = Ask::Answer;
                 Made::Deed(Deed::Log { size, offset })
             }
+            Wanted::File(asked) => {
+                let size = self.backend.connection().inflight_for(&asked).mmap_size;
+                self.ask = Ask::Answer;
+                Made::Deed(Deed::File { size })
+            }
+            Wanted::Region { size, offset } => {
+                self.ask = Ask::Answer;
+                Made::Deed(Deed::Region { size, offset })
+            }
             Wanted::Descriptor(purpose, is_there) => {
                 self.ask = Ask::Answer;
                 Made::Deed(Deed::Keep(purpose, is_there))

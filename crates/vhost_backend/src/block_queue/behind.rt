@@ -456,7 +456,7 @@ impl BlockQueue {
     }
 
     // Nothing was found after the driver was asked to notify, or something was.
-    fn after_look<H, D: RingMemory<H>>(
+    pub(super) fn after_look<H, D: RingMemory<H>>(
         &mut self,
         alloc: Global,
         mem: &D,

@@ -1,6 +1,6 @@
 use Rattle.std.proofs.Common.{[], refl, subst}
 use Rattle.vm_memory_base.specs.Table.{Says}
-use Rattle.vhost_backend.proofs.CurrentCallLemmas.{done_now, ended_now, failed_now, kicked_now, lost_now, mapped_now, new_now, reply_now, resized_now, sent_now, taken_now}
+use Rattle.vhost_backend.proofs.CurrentCallLemmas.{done_now, ended_now, failed_now, kicked_now, lost_now, mapped_now, new_now, reply_now, resized_now, sent_now, taken_now, tracking_now}
 use Rattle.vhost_backend.proofs.CurrentRunLemmas.{fills_now, moves_now, same_now}
 use Rattle.vhost_backend.specs.Current.{Current, after_changes, run_changes}
 use Rattle.vhost_backend.specs.Given.{no_counts}
@@ -32,6 +32,7 @@ returns c =
       resizes = resized_now;
       loses = lost_now;
       maps = λ f old new is. mapped_now f old is new;
+      tracks = tracking_now;
       does = done_now;
       fails = failed_now;
       ends = ended_now;

@@ -8,7 +8,7 @@ pub returns-in-Ok-clause-fetches : goal.returns-in-Ok-clause-fetches
 returns-in-Ok-clause-fetches g c =
     let fields = c.self.inside in
     let with : ReachState → BlockQueueState = λ r.
-    record { queue = fields.queue; is_unread = fields.is_unread; asked = fields.asked.items; reach = r } in
+    record { queue = fields.queue; is_unread = fields.is_unread; asked = fields.asked.items; reach = r; flight = fields.flight } in
     let count : c.len.result ≡ length fields.asked.items = omega (arith, c.len.ensures, fields.asked.ok.0) in
     let bad : c.is_refused-bad.result ≡ is_refused c.args.terms (length fields.asked.items) c.args.found.chain =
     rw (count, c.segments.ensures) at c.is_refused-bad.ensures in
@@ -27,7 +27,7 @@ pub returns-in-Err-clause-fetches : goal.returns-in-Err-clause-fetches
 returns-in-Err-clause-fetches g c =
     let fields = c.self.inside in
     let with : ReachState → BlockQueueState = λ r.
-    record { queue = fields.queue; is_unread = fields.is_unread; asked = fields.asked.items; reach = r } in
+    record { queue = fields.queue; is_unread = fields.is_unread; asked = fields.asked.items; reach = r; flight = fields.flight } in
     rw (← c.self.view_is) (
       Err c.in-Err.field-0,
       c.in-Err.ensures.forgets,

@@ -7,7 +7,7 @@ pub returns-clause-keeps : goal.returns-clause-keeps
 returns-clause-keeps g c =
     let fields = c.self.inside in
     let with : ReachState → BlockQueueState = λ r.
-    record { queue = fields.queue; is_unread = fields.is_unread; asked = fields.asked.items; reach = r } in
+    record { queue = fields.queue; is_unread = fields.is_unread; asked = fields.asked.items; reach = r; flight = fields.flight } in
     rw (← c.self.view_is) (
       c.keep_areas.result,
       c.keep_areas.ensures.keeps,

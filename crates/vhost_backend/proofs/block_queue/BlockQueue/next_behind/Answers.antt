@@ -10,7 +10,7 @@ pub returns-in-None-clause-next : goal.returns-in-None-clause-next
 returns-in-None-clause-next g c =
     let fields = c.self.inside in
     let with : ReachState → BlockQueueState = λ r.
-    record { queue = fields.queue; is_unread = fields.is_unread; asked = fields.asked.items; reach = r } in
+    record { queue = fields.queue; is_unread = fields.is_unread; asked = fields.asked.items; reach = r; flight = fields.flight } in
     let none : fields.reach.fetch ≡ None = sym c.take_fetch.ensures.taken ∙ c.in-None.is in
     subst (λ (q : BlockQueueState). HappensBehind (g.D.RingMemory.steps c.args.mem.now) (says c.args.way.table.now)
     c.args.way.can_ask c.args.terms q c.args.host.now c.fetch_next.result c.fetch_next.new.self c.fetch_next.new.host)

@@ -9,7 +9,7 @@ pub returns-in-Ok-Some-clause-pops : goal.returns-in-Ok-Some-clause-pops
 returns-in-Ok-Some-clause-pops g c =
     let fields = c.self.inside in
     let q : BlockQueueState =
-    record { queue = fields.queue; is_unread = fields.is_unread; asked = fields.asked.items; reach = fields.reach } in
+    record { queue = fields.queue; is_unread = fields.is_unread; asked = fields.asked.items; reach = fields.reach; flight = fields.flight } in
     let p = c.in-Ok-Some.popped in
     let moved : c.pop.new.queue ≡ past fields.queue p.0 = rw c.in-Ok-Some.field-0-is at c.in-Ok-Some.ensures.moved in
     let back : at_next c.pop.new.queue c.next_avail-next.result ≡ fields.queue =
@@ -27,7 +27,7 @@ pub returns-in-Ok-None-clause-pops : goal.returns-in-Ok-None-clause-pops
 returns-in-Ok-None-clause-pops g c =
     let fields = c.self.inside in
     let with_queue : AnyQueue → BlockQueueState = λ u.
-    record { queue = u; is_unread = fields.is_unread; asked = fields.asked.items; reach = fields.reach } in
+    record { queue = u; is_unread = fields.is_unread; asked = fields.asked.items; reach = fields.reach; flight = fields.flight } in
     let moved : c.pop.new.queue ≡ fields.queue = rw c.in-Ok-None.field-0-is at c.in-Ok-None.ensures.moved in
     rw (← c.self.view_is) (
       Ok None,
