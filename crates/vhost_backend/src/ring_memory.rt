@@ -46,7 +46,12 @@ pub trait Marks {
         ensures { logs self.old (forgets k) result self.new };
 
     /// A copy of at most so many bytes of the region of requests in flight.
-    fn read_region(&mut self, alloc: Global, offset: usize, len: usize) -> Result<RegionBytes, AllocError>
+    fn read_region(
+        &mut self,
+        alloc: Global,
+        offset: usize,
+        len: usize,
+    ) -> Result<RegionBytes, AllocError>
         ensures { logs self.old (reads_region offset len) result self.new };
 
     /// Stores to the region.

@@ -6,7 +6,8 @@ ghost use Rattle.vhost_backend.specs.SetUp.{moved_queue, packed_queue, part_for,
 use crate::flight::FlightPlace;
 use vhost_message::VhostUserInflight;
 use vhost_user::{
-    inflight_queue_len, RunningVring, VIRTIO_F_ACCESS_PLATFORM, VIRTIO_F_RING_EVENT_IDX, VIRTIO_F_RING_PACKED,
+    RunningVring, VIRTIO_F_ACCESS_PLATFORM, VIRTIO_F_RING_EVENT_IDX, VIRTIO_F_RING_PACKED,
+    inflight_queue_len,
 };
 use virtio_queue::{
     AnyQueue, PackedQueue, PackedState, Queue, QueueError, QueueState, RingPosition,

@@ -157,9 +157,9 @@ level-mark g w heads h out small above bound s =
           | inr new ↦ rw (sym (eqb-true h k new)) bound
         ]);
         order = rises-append (changed es h f) heads h
-        (λ k a. rw (count k, count h) (let up = above k a in let l = s.base.below k a in
-        let fits = g.fits in let few = g.small in omega arith))
-        (rises-same es (changed es h f) heads (λ k a. count k) s.base.order);
+            (λ k a. rw (count k, count h) (let up = above k a in let l = s.base.below k a in
+            let fits = g.fits in let few = g.small in omega arith))
+            (rises-same es (changed es h f) heads (λ k a. count k) s.base.order);
         next = rw (length-append heads (h ∷ [])) (let n = s.base.next in omega arith);
       };
       version = s.version;
@@ -200,8 +200,8 @@ ahead-used g w heads entry out s = record {
     ];
     order = rises-without w.region.entries w.entry heads s.base.order;
     next =
-      let shorter = length-without w.region.entries w.entry heads s.base.order out in
-      let n = s.base.next in omega arith;
+        let shorter = length-without w.region.entries w.entry heads s.base.order out in
+        let n = s.base.next in omega arith;
   };
   version = s.version;
   desc_num = s.desc_num;
@@ -223,27 +223,29 @@ ahead-mark g w heads s =
     let h : ℕ = w.region.last_batch_head in
     let count : (k : ℕ) → counter_of (changed es h f) k ≡ counter_of es k =
     λ k. kept_field (λ e. e.counter) f (λ e. refl) es h k in
-    let there : h < length es = rw s.base.len (let fits = g.fits in let l = s.head in omega arith) in
-    (record {
-      base = record {
-        seen = s.base.seen;
-        ring = s.base.ring;
-        len = length-set es h (f (entry_of es h)) ∙ s.base.len;
-        marks = any-changed (λ e. nat_lt 1 e.in_flight) f (λ e none. refl) es h s.base.marks;
-        below = s.base.below;
-        counts = λ k a. rw (count k) (s.base.counts k a);
-        order = rises-same es (changed es h f) heads (λ k a. count k) s.base.order;
-        next = s.base.next;
-      };
-      version = s.version;
-      desc_num = s.desc_num;
-      range = s.range;
-      index = s.index;
-      head = s.head;
-      gone = s.gone;
-      each = λ k other. s.each k other
-      ∙ sym (ap (λ (e : SplitEntry). e.in_flight == 1) (other_entry f es h k other));
-    }, rw (this_entry f es h there) refl)
+    let there : h < length es = rw s.base.len (let fits = g.fits in let l = s.head in omega arith) in (
+      record {
+        base = record {
+          seen = s.base.seen;
+          ring = s.base.ring;
+          len = length-set es h (f (entry_of es h)) ∙ s.base.len;
+          marks = any-changed (λ e. nat_lt 1 e.in_flight) f (λ e none. refl) es h s.base.marks;
+          below = s.base.below;
+          counts = λ k a. rw (count k) (s.base.counts k a);
+          order = rises-same es (changed es h f) heads (λ k a. count k) s.base.order;
+          next = s.base.next;
+        };
+        version = s.version;
+        desc_num = s.desc_num;
+        range = s.range;
+        index = s.index;
+        head = s.head;
+        gone = s.gone;
+        each = λ k other. s.each k other
+            ∙ sym (ap (λ (e : SplitEntry). e.in_flight == 1) (other_entry f es h k other));
+      },
+      rw (this_entry f es h there) refl,
+    )
 
 -- the region's used index
 level-index : (g : Given) (w : World) (heads : List ℕ)
@@ -415,18 +417,19 @@ pop_runs g w heads kept h s above count few small out =
     λ k a. rw (old k a, new) (let l = above k a in omega arith) in
     let bound : counter_of fs h ≤ w.popped + 1 = rw new (omega arith) in
     let at_end : Level g (done v (Region (InFlight h true))) (heads ++ h ∷ []) =
-    level-mark g v heads h out small rises bound at_v in
-    ((from_level g w heads s, (from_level g v heads at_v, from_level g (done v (Region (InFlight h true))) (heads ++ h ∷ []) at_end)),
-    record {
-      heads = heads ++ h ∷ [];
-      level = at_end;
-      above = λ k a. rw (kept_field (λ e. e.counter) m (λ e. refl) fs h k)
-      (elim (or_cases (is_among k heads) (h == k) (sym (among-append k h heads) ∙ a)) [
-        | inl before ↦ rw (old k before) (let l = above k before in omega arith)
-        | inr now ↦ rw (sym (eqb-true h k now)) (rw new (omega arith))
-      ]);
-      count = omega arith;
-    })
+    level-mark g v heads h out small rises bound at_v in (
+      (from_level g w heads s, (from_level g v heads at_v, from_level g (done v (Region (InFlight h true))) (heads ++ h ∷ []) at_end)),
+      record {
+        heads = heads ++ h ∷ [];
+        level = at_end;
+        above = λ k a. rw (kept_field (λ e. e.counter) m (λ e. refl) fs h k)
+            (elim (or_cases (is_among k heads) (h == k) (sym (among-append k h heads) ∙ a)) [
+              | inl before ↦ rw (old k before) (let l = above k before in omega arith)
+              | inr now ↦ rw (sym (eqb-true h k now)) (rw new (omega arith))
+            ]);
+        count = omega arith;
+      },
+    )
 
 -- ---- a return
 
@@ -453,29 +456,42 @@ return_runs g w heads kept h s above count out =
     let v5 : World = done v4 (Region (InFlight h false)) in
     let s5 = ahead-mark g v4 left s4 in
     let v6 : World = done v5 (Region (UsedIdx (next_used w.used))) in
-    let s6 : Level g v6 left = level-index g v5 left s5.1 s5.0 in
-    ((from_level g w heads s, (from_level g v1 heads s1, (from_level g v2 heads s2, (from_level g v3 heads s3,
-    (from_ahead g v4 left s4, (from_ahead g v5 left s5.0, from_level g v6 left s6)))))),
-    record {
-      heads = left;
-      level = s6;
-      above = λ k a. rw (kept_field (λ e. e.counter) m (λ e. refl) fs h k)
-      (rw (kept_field (λ e. e.counter) f (λ e. refl) es h k)
-      (elim (cases_eq k h) [
-        | inl is ↦ absurd (both_ways (is_among h left) (gone-without h heads) (rw is at a))
-        | inr isnt ↦ above k (sym (among-without h k heads isnt) ∙ a)
-      ]));
-      count = count;
-    })
+    let s6 : Level g v6 left = level-index g v5 left s5.1 s5.0 in (
+      (
+        from_level g w heads s,
+        (
+          from_level g v1 heads s1,
+          (
+            from_level g v2 heads s2,
+            (
+              from_level g v3 heads s3,
+              (from_ahead g v4 left s4, (from_ahead g v5 left s5.0, from_level g v6 left s6)),
+            ),
+          ),
+        ),
+      ),
+      record {
+        heads = left;
+        level = s6;
+        above = λ k a. rw (kept_field (λ e. e.counter) m (λ e. refl) fs h k)
+            (rw (kept_field (λ e. e.counter) f (λ e. refl) es h k)
+            (elim (cases_eq k h) [
+              | inl is ↦ absurd (both_ways (is_among h left) (gone-without h heads) (rw is at a))
+              | inr isnt ↦ above k (sym (among-without h k heads isnt) ∙ a)
+            ]));
+        count = count;
+      },
+    )
 
 -- ---- a start
 
 -- the greatest count is one of a head in flight
 greatest-bounds : (g : Given) (popped : ℕ) (es : List SplitEntry) (heads : List ℕ) → Holds g popped es heads
     → ((h : ℕ) → is_among h heads ≡ true → counter_of es h ≤ greatest es) × (greatest es ≤ popped)
-greatest-bounds g popped es heads s =
-    ((λ h a. most-above 0 es h (sym (s.each h) ∙ a)),
-    most-below 0 popped es (omega arith) (λ h is. s.counts h (s.each h ∙ is)))
+greatest-bounds g popped es heads s = (
+  (λ h a. most-above 0 es h (sym (s.each h) ∙ a)),
+  most-below 0 popped es (omega arith) (λ h is. s.counts h (s.each h ∙ is)),
+)
 
 start_from_fresh : (g : Given) (w : World) (heads : List ℕ) → Fresh g w heads
     → Each (Sound g) w (map Region (start_stores g.descriptors w.region w.used))
@@ -494,14 +510,15 @@ start_from_fresh g w heads s =
     ≡ DescNum g.descriptors ∷ UsedIdx w.used ∷ Version 1 ∷ [] = rw s.version refl in
     let P : List SplitStore → Type 0 = λ stores. Each (Sound g) w (map Region stores)
     × Runs g (all_done w (map Region stores)) (started w.region w.used) in
-    subst P (sym stores)
-    ((from_fresh g w heads s, (from_fresh g v1 heads s1, (from_fresh g v2 heads s2, from_level g v3 heads s3))),
-    record {
-      heads = heads;
-      level = s3;
-      above = λ h a. absurd (both_ways (is_among h []) refl (rw s.none at a));
-      count = bounds.1;
-    })
+    subst P (sym stores) (
+      (from_fresh g w heads s, (from_fresh g v1 heads s1, (from_fresh g v2 heads s2, from_level g v3 heads s3))),
+      record {
+        heads = heads;
+        level = s3;
+        above = λ h a. absurd (both_ways (is_among h []) refl (rw s.none at a));
+        count = bounds.1;
+      },
+    )
 
 start_from_level : (g : Given) (w : World) (heads : List ℕ) → Level g w heads
     → Each (Sound g) w (map Region (start_stores g.descriptors w.region w.used))
@@ -514,15 +531,16 @@ start_from_level g w heads s =
     rw s.version (rw (eq-eqb w.region.used_idx w.used s.index) refl) in
     let P : List SplitStore → Type 0 = λ stores. Each (Sound g) w (map Region stores)
     × Runs g (all_done w (map Region stores)) (started w.region w.used) in
-    subst P (sym stores)
-    (from_level g w heads s,
-    record {
-      heads = heads;
-      level = s;
-      above = λ h a. subst (λ (es : List SplitEntry). counter_of es h ≤ greatest (settled w.region w.used))
-      (settled-level g w heads s) (bounds.0 h a);
-      count = bounds.1;
-    })
+    subst P (sym stores) (
+      from_level g w heads s,
+      record {
+        heads = heads;
+        level = s;
+        above = λ h a. subst (λ (es : List SplitEntry). counter_of es h ≤ greatest (settled w.region w.used))
+            (settled-level g w heads s) (bounds.0 h a);
+        count = bounds.1;
+      },
+    )
 
 start_from_ahead : (g : Given) (w : World) (heads : List ℕ) → Ahead g w heads
     → Each (Sound g) w (map Region (start_stores g.descriptors w.region w.used))
@@ -542,15 +560,16 @@ start_from_ahead g w heads s =
     rw s.version (rw (ne_eqb w.region.used_idx w.used apart) (rw (ahead-difference g w heads s) refl)) in
     let P : List SplitStore → Type 0 = λ stores. Each (Sound g) w (map Region stores)
     × Runs g (all_done w (map Region stores)) (started w.region w.used) in
-    subst P (sym stores)
-    ((from_ahead g w heads s, (from_ahead g v1 heads s1.0, from_level g v2 heads s2)),
-    record {
-      heads = heads;
-      level = s2;
-      above = λ k a. subst (λ (es : List SplitEntry). counter_of es k ≤ greatest (settled w.region w.used))
-      (settled-ahead g w heads s) (bounds.0 k a);
-      count = bounds.1;
-    })
+    subst P (sym stores) (
+      (from_ahead g w heads s, (from_ahead g v1 heads s1.0, from_level g v2 heads s2)),
+      record {
+        heads = heads;
+        level = s2;
+        above = λ k a. subst (λ (es : List SplitEntry). counter_of es k ≤ greatest (settled w.region w.used))
+            (settled-ahead g w heads s) (bounds.0 k a);
+        count = bounds.1;
+      },
+    )
 
 -- ---- what the guest sees
 
@@ -562,26 +581,42 @@ seen_in h view heads e = rw e refl
 level-kept : (g : Given) (w : World) (heads : List ℕ) (kept : Option SplitInFlight) → Level g w heads
     → Level g (record w { kept = kept }) heads
 level-kept g w heads kept s = record {
-  base = s.base; version = s.version; desc_num = s.desc_num; index = s.index; each = s.each;
+  base = s.base;
+  version = s.version;
+  desc_num = s.desc_num;
+  index = s.index;
+  each = s.each;
 }
 
 sound-kept : (g : Given) (w : World) (kept : Option SplitInFlight) → Sound g w → Sound g (record w { kept = kept })
 unfolding Sound
-sound-kept g w kept (heads, s) = (heads, elim s [
-  | inl s ↦ inl (record { base = s.base; version = s.version; none = s.none; each = s.each })
-  | inr s ↦ inr (elim s [
-    | inl s ↦ inl (level-kept g w heads kept s)
-    | inr s ↦ inr (record {
-      base = s.base; version = s.version; desc_num = s.desc_num; range = s.range; index = s.index; head = s.head;
-      gone = s.gone; each = s.each;
-    })
-  ])
-])
+sound-kept g w kept (heads, s) = (
+  heads,
+  elim s [
+    | inl s ↦ inl (record { base = s.base; version = s.version; none = s.none; each = s.each })
+    | inr s ↦ inr (elim s [
+      | inl s ↦ inl (level-kept g w heads kept s)
+      | inr s ↦ inr (record {
+        base = s.base;
+        version = s.version;
+        desc_num = s.desc_num;
+        range = s.range;
+        index = s.index;
+        head = s.head;
+        gone = s.gone;
+        each = s.each;
+      })
+    ])
+  ],
+)
 
 runs-kept : (g : Given) (w : World) (new : Option SplitInFlight) (kept : SplitInFlight) → Runs g w kept
     → Runs g (record w { kept = new }) kept
 runs-kept g w new kept s = record {
-  heads = s.heads; level = level-kept g w s.heads new s.level; above = s.above; count = s.count;
+  heads = s.heads;
+  level = level-kept g w s.heads new s.level;
+  above = s.above;
+  count = s.count;
 }
 
 -- by whether the back end runs

@@ -91,29 +91,34 @@ pub rises-same : (es fs : List SplitEntry) (xs : List ℕ)
     → ((k : ℕ) → is_among k xs ≡ true → counter_of fs k ≡ counter_of es k) → Rises es xs → Rises fs xs
 rises-same es fs [] same r = tt
 rises-same es fs (x ∷ xs) same (first, rest) =
-    let here : counter_of fs x ≡ counter_of es x = same x (or_left (x == x) (is_among x xs) (eq-eqb x x refl)) in
-    ((λ y a. let there : counter_of fs y ≡ counter_of es y = same y (or_right (x == y) (is_among y xs) a) in
-    rw (here, there) (first y a)),
-    rises-same es fs xs (λ k a. same k (or_right (x == k) (is_among k xs) a)) rest)
+    let here : counter_of fs x ≡ counter_of es x = same x (or_left (x == x) (is_among x xs) (eq-eqb x x refl)) in (
+      (λ y a. let there : counter_of fs y ≡ counter_of es y = same y (or_right (x == y) (is_among y xs) a) in
+          rw (here, there) (first y a)),
+      rises-same es fs xs (λ k a. same k (or_right (x == k) (is_among k xs) a)) rest,
+    )
 
 pub rises-append : (es : List SplitEntry) (xs : List ℕ) (h : ℕ)
     → ((k : ℕ) → is_among k xs ≡ true → rank es k < rank es h) → Rises es xs → Rises es (xs ++ h ∷ [])
 rises-append es [] h below r = ((λ y a. absurd cc), tt)
-rises-append es (x ∷ xs) h below (first, rest) =
-    ((λ y a. elim (or_cases (is_among y xs) (h == y) (sym (among-append y h xs) ∙ a)) [
-      | inl old ↦ first y old
-      | inr new ↦ rw (sym (eqb-true h y new)) (below x (or_left (x == x) (is_among x xs) (eq-eqb x x refl)))
-    ]),
-    rises-append es xs h (λ k a. below k (or_right (x == k) (is_among k xs) a)) rest)
+rises-append es (x ∷ xs) h below (first, rest) = (
+  (λ y a. elim (or_cases (is_among y xs) (h == y) (sym (among-append y h xs) ∙ a)) [
+    | inl old ↦ first y old
+    | inr new ↦ rw (sym (eqb-true h y new)) (below x (or_left (x == x) (is_among x xs) (eq-eqb x x refl)))
+  ]),
+  rises-append es xs h (λ k a. below k (or_right (x == k) (is_among k xs) a)) rest,
+)
 
 pub rises-without : (es : List SplitEntry) (h : ℕ) (xs : List ℕ) → Rises es xs → Rises es (without h xs)
 rises-without es h [] r = tt
 rises-without es h (x ∷ xs) (first, rest) = elim (cases_eq x h) [
   | inl is ↦ rw (eq-eqb x h is) (rises-without es h xs rest)
-  | inr isnt ↦ rw (ne_eqb x h isnt) ((λ y a. elim (cases_eq y h) [
-    | inl same ↦ absurd (both_ways (is_among h (without h xs)) (gone-without h xs) (rw same at a))
-    | inr other ↦ first y (sym (among-without h y xs other) ∙ a)
-  ]), rises-without es h xs rest)
+  | inr isnt ↦ rw (ne_eqb x h isnt) (
+    (λ y a. elim (cases_eq y h) [
+      | inl same ↦ absurd (both_ways (is_among h (without h xs)) (gone-without h xs) (rw same at a))
+      | inr other ↦ first y (sym (among-without h y xs other) ∙ a)
+    ]),
+    rises-without es h xs rest,
+  )
 ]
 
 -- a list in order has a head once

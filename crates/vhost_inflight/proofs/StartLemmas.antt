@@ -181,13 +181,15 @@ sorted_rises es (p ∷ q ∷ ps) sorted s once =
     (λ k d l u. let e : suc k + 1 ≡ suc (k + 1) = omega arith in rw e at (sorted (suc k) d (omega arith) (omega arith)))
     (rest_of es p (q ∷ ps) s) fewer in
     let strict : rank es p.1 < rank es q.1 =
-    rw (sym first.0, sym second.0) (omega arith) in
-    ((λ y a. elim (cases_Bool (q.1 == y)) [
-      | inl is ↦ rw (sym (eqb-true q.1 y is)) strict
-      | inr isnt ↦
-          let later : is_among y (map (λ p. p.1) ps) ≡ true = rw isnt at a in
-          let far : rank es q.1 < rank es y = rises.0 y later in omega arith
-    ]), rises)
+    rw (sym first.0, sym second.0) (omega arith) in (
+      (λ y a. elim (cases_Bool (q.1 == y)) [
+        | inl is ↦ rw (sym (eqb-true q.1 y is)) strict
+        | inr isnt ↦
+            let later : is_among y (map (λ p. p.1) ps) ≡ true = rw isnt at a in
+            let far : rank es q.1 < rank es y = rises.0 y later in omega arith
+      ]),
+      rises,
+    )
 
 -- the heads of sorted pairs are those in flight, in order
 pub pairs_in_order : (es : List SplitEntry) (n : ℕ) (before after : List (ℕ × ℕ)) → length es ≡ n
@@ -202,14 +204,15 @@ pairs_in_order es n before after len counts of moved sorted =
         | inr off ↦ rw (off, and_right (nat_lt h n) false refl) refl
       ]));
       order = sorted_rises es after sorted
-      (record { each = All-permutation (λ p. (p.0 ≡ counter_of es p.1) × (p.1 < 2 ^ 16)) before after moved of.each })
-      (λ h. rw (same h, counts h) (at_most_one (nat_lt h n && is_in_flight es h)));
+          (record { each = All-permutation (λ p. (p.0 ≡ counter_of es p.1) × (p.1 < 2 ^ 16)) before after moved of.each })
+          (λ h. rw (same h, counts h) (at_most_one (nat_lt h n && is_in_flight es h)));
     }
   where
     in_range : (es : List SplitEntry) (n h : ℕ) → length es ≡ n → is_in_flight es h ≡ true → h < n
     in_range [] n h len on = absurd cc
     in_range (e ∷ es) n zero len on = omega arith
     in_range (e ∷ es) n (suc h) len on = let rest = in_range es (length es) h refl on in omega arith
+
     at_most_one : (b : Bool) → one_if b ≤ 1
     at_most_one true = omega arith
     at_most_one false = omega arith
@@ -231,9 +234,11 @@ pub returned_ok : (h : SplitHeader) (es : List SplitEntry) (n size used : ℕ) (
     × (header_fault n size (region_with h es) used ≡ None)
 returned_ok h es n size used hs version desc_num few fits is below =
     let tests : list_any (λ h. nat_le size h) (batch es (difference used h.used_idx) h.last_batch_head) ≡ false =
-    ap (λ (hs : List ℕ). list_any (λ h. nat_le size h) hs) (sym is) ∙ below in
-    (rw version is, any_weaker size (length es) hs fits below,
-    rw version (rw (desc_num, eq-eqb n n refl) (rw (le-ltb size (difference used h.used_idx) few) (rw tests refl))))
+    ap (λ (hs : List ℕ). list_any (λ h. nat_le size h) hs) (sym is) ∙ below in (
+      rw version is,
+      any_weaker size (length es) hs fits below,
+      rw version (rw (desc_num, eq-eqb n n refl) (rw (le-ltb size (difference used h.used_idx) few) (rw tests refl))),
+    )
 
 pub returned_err : (h : SplitHeader) (es : List SplitEntry) (n size used : ℕ) → h.version ≡ 1 → h.desc_num ≡ n
     → difference used h.used_idx ≤ size

@@ -162,7 +162,11 @@ fn greatest(entries: &[SplitEntry]) -> u64
     ensures { result ≡ greatest entries.now }
 {
     entries.iter().fold(0, |most, entry| {
-        most.max(if entry.in_flight == 1 { entry.counter } else { 0 })
+        most.max(if entry.in_flight == 1 {
+            entry.counter
+        } else {
+            0
+        })
     })
 }
 

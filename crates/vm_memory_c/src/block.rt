@@ -99,11 +99,7 @@ pub extern "C" fn vmm_backend_mapped(
 /// Takes the place of the region of requests in flight that is to be mapped. It stays the connection's until that
 /// closes or takes another one. vmm_backend_done comes after it.
 #[unsafe(no_mangle)]
-pub extern "C" fn vmm_backend_track(
-    alloc: Global,
-    connection: &mut BlockHandle,
-    place: HostPlace,
-)
+pub extern "C" fn vmm_backend_track(alloc: Global, connection: &mut BlockHandle, place: HostPlace)
     requires { IsSome connection.old.state }
     ensures { Stays connection.old.state connection.new.state
         (λ old new. new ≡ tracking old place.bytes) }

@@ -34,7 +34,12 @@ pub(super) fn mark_chain<H, D: RingMemory<H>>(mem: &D, host: &mut H, chain: &Des
 }
 
 // Marks a range of a used ring, also where its writes are logged.
-pub(super) fn mark_logged<H, D: RingMemory<H>>(mem: &D, host: &mut H, log: Option<u64>, piece: Piece)
+pub(super) fn mark_logged<H, D: RingMemory<H>>(
+    mem: &D,
+    host: &mut H,
+    log: Option<u64>,
+    piece: Piece,
+)
     requires { D.held mem.now host.old }
     ensures marks { MarksRing (D.steps mem.now) (logged_at log piece) host.old host.new }
     ensures held { D.held mem.now host.new }

@@ -16,6 +16,6 @@ returns-clause-err c =
     (λ e is. elim is [
       | inl memory ↦ inl memory
       | inr head ↦ inr (returned_err c.args.header c.args.entries.now c.args.descriptors c.args.size c.args.used_idx
-        c.in-1.is c.if-header-descriptors.false c.if-count-size.false head.1 ∙ ap Some (sym head.0))
+          c.in-1.is c.if-header-descriptors.false c.if-count-size.false head.1 ∙ ap Some (sym head.0))
     ])
     c.batch.ensures.err
