@@ -1,3 +1,4 @@
+pub mod AgainLemmas
 pub mod CrashLemmas
 pub mod EntryLemmas
 pub mod StartLemmas

@@ -1,4 +1,5 @@
 pub mod Split
+pub mod SplitAgain
 pub mod SplitBytes
 pub mod SplitCrash
 pub mod SplitStart

@@ -1,8 +1,9 @@
 //! What holds of the region of a split queue, whenever its back end is cut off: each function here is a theorem, and
 //! does nothing.
-ghost use Rattle.std.specs.Prelude.{◌≡◌, ◌^◌, ◌<◌, ◌≤◌, ℕ, List};
+ghost use Rattle.std.specs.Prelude.{◌≡◌, ◌^◌, ◌<◌, ◌≤◌, ℕ, List, None};
 ghost use Rattle.vhost_inflight.specs.Split.{SplitRegion};
-ghost use Rattle.vhost_inflight.specs.SplitStart.{Flies};
+ghost use Rattle.vhost_inflight.specs.SplitAgain.{Settles, all_put};
+ghost use Rattle.vhost_inflight.specs.SplitStart.{Flies, fault, start_stores};
 ghost use Rattle.vhost_inflight.specs.SplitCrash.{Event, GoesOn, IsFresh, at_first, run};
 
 /// After every history from a fresh region on, of calls that are made and of calls that a crash cuts after any of their
@@ -19,4 +20,12 @@ pub fn every_crash_leaves_what_was_popped()
 /// What a start serves again has one order.
 pub fn one_list_is_served_again()
     ensures { (r : SplitRegion) (used : ℕ) (xs ys : List ℕ) → Flies r used xs → Flies r used ys → xs ≡ ys }
+{}
+
+/// After all stores of a start, the region has the ring's used index, and exactly what is served again is marked as in
+/// flight. Another start goes through, serves the same heads again, goes on with the same count, and stores nothing.
+pub fn starts_settle_what_was_returned()
+    ensures { (descriptors size used : ℕ) (r : SplitRegion) → used < 2 ^ 16
+        → fault descriptors size r used ≡ None
+        → Settles descriptors size used r (all_put r (start_stores descriptors r used)) }
 {}
