@@ -1,8 +1,11 @@
 //! What holds of the region of a split queue, whenever its back end is cut off: each function here is a theorem, and
 //! does nothing.
-ghost use Rattle.std.specs.Prelude.{◌≡◌, ◌^◌, ◌<◌, ◌≤◌, ℕ, List, None};
-ghost use Rattle.vhost_inflight.specs.Split.{SplitRegion};
+ghost use Rattle.std.specs.Prelude.{◌≡◌, ◌^◌, ◌<◌, ◌≤◌, ℕ, List, None, length};
+ghost use Rattle.vhost_inflight.specs.Split.{SplitRegion, entry_offset, place, put};
 ghost use Rattle.vhost_inflight.specs.SplitAgain.{Settles, all_put};
+ghost use Rattle.vhost_inflight.specs.SplitBytes.{IsWithin, region_of};
+ghost use Rattle.vhost_inflight.specs.Store.{stored};
+ghost use Rattle.vhost_inflight.specs.declared.split.SplitStore.{SplitStore};
 ghost use Rattle.vhost_inflight.specs.SplitStart.{Flies, fault, start_stores};
 ghost use Rattle.vhost_inflight.specs.SplitCrash.{Event, GoesOn, IsFresh, at_first, run};
 
@@ -28,4 +31,13 @@ pub fn starts_settle_what_was_returned()
     ensures { (descriptors size used : ℕ) (r : SplitRegion) → used < 2 ^ 16
         → fault descriptors size r used ≡ None
         → Settles descriptors size used r (all_put r (start_stores descriptors r used)) }
+{}
+
+/// The bytes of a region after a store, read again, say what the region says after the store, and there are as many:
+/// each store changes the field that it is for, and no other.
+pub fn stores_change_their_field()
+    ensures field { (descriptors : ℕ) (bytes : List ℕ) (store : SplitStore)
+        → entry_offset descriptors ≤ length bytes → IsWithin descriptors store
+        → region_of descriptors (stored bytes (place store)) ≡ put (region_of descriptors bytes) store }
+    ensures len { (bytes : List ℕ) (store : SplitStore) → length (stored bytes (place store)) ≡ length bytes }
 {}
