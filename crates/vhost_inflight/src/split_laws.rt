@@ -13,6 +13,8 @@ ghost use Rattle.vhost_inflight.specs.SplitCrash.{Event, GoesOn, IsFresh, at_fir
 /// stores, starts among them: a start goes through. It serves again the chains that the guest sees as popped and not
 /// returned, each of them, in the order of the pops, and none else; and the next available index is the one behind all
 /// that were popped. No chain was popped twice, or returned without a pop or twice.
+///
+/// Witness: vhost_inflight::an_example_is_cut_off
 pub fn every_crash_leaves_what_was_popped()
     ensures { (descriptors size used : ℕ) (r : SplitRegion) (events : List Event) → IsFresh descriptors r
         → size ≤ descriptors → descriptors < 2 ^ 16 → used < 2 ^ 16
@@ -21,12 +23,16 @@ pub fn every_crash_leaves_what_was_popped()
 {}
 
 /// What a start serves again has one order.
+///
+/// Witness: vhost_inflight::an_example_is_cut_off
 pub fn one_list_is_served_again()
     ensures { (r : SplitRegion) (used : ℕ) (xs ys : List ℕ) → Flies r used xs → Flies r used ys → xs ≡ ys }
 {}
 
 /// After all stores of a start, the region has the ring's used index, and exactly what is served again is marked as in
 /// flight. Another start goes through, serves the same heads again, goes on with the same count, and stores nothing.
+///
+/// Witness: vhost_inflight::a_start_is_whole
 pub fn starts_settle_what_was_returned()
     ensures { (descriptors size used : ℕ) (r : SplitRegion) → used < 2 ^ 16
         → fault descriptors size r used ≡ None
@@ -35,6 +41,8 @@ pub fn starts_settle_what_was_returned()
 
 /// The bytes of a region after a store, read again, say what the region says after the store, and there are as many:
 /// each store changes the field that it is for, and no other.
+///
+/// Witness: vhost_inflight::a_link_has_two_bytes
 pub fn stores_change_their_field()
     ensures field { (descriptors : ℕ) (bytes : List ℕ) (store : SplitStore)
         → entry_offset descriptors ≤ length bytes → IsWithin descriptors store
