@@ -1,10 +1,10 @@
 -- A start after all stores of a start.
-use Rattle.std.proofs.Common.{◌≡◌, ℕ, ◌+◌, ◌-◌, ◌%◌, ◌^◌, ◌<◌, Bool, true, false, List, [], ◌∷◌, ◌++◌, Option, Some, None, refl, sym, ap, ap₂, subst, ◌∙◌, inl, inr, arith}
+use Rattle.std.proofs.Common.{◌≡◌, ℕ, ◌^◌, ◌<◌, Bool, true, false, List, [], ◌∷◌, ◌++◌, Option, Some, None, refl, sym, ap, ap₂, subst, ◌∙◌, inl, inr, arith}
 use Rattle.std.proofs.lemmas.Bool.{cases_Bool, eq-eqb, eqb-true, le-ltb, not-false}
-use Rattle.std.specs.Prelude.{◌==◌, ◌↔◌, drop, map, nat_lt, nat_le, not, if◌then◌else◌}
+use Rattle.std.specs.Prelude.{◌==◌, map, nat_lt, not, if◌then◌else◌}
 use Rattle.std.specs.List.{list_any}
 use Rattle.vhost_inflight.specs.Split.{SplitRegion, changed, put}
-use Rattle.vhost_inflight.specs.SplitStart.{Flies, IsInFlight, cleared, difference, entries_fault, fault, greatest, header_fault, or_else, returned, settled, settled_fault, start_stores, started}
+use Rattle.vhost_inflight.specs.SplitStart.{IsInFlight, cleared, difference, entries_fault, fault, greatest, header_fault, or_else, returned, settled, settled_fault, start_stores}
 use Rattle.vhost_inflight.specs.SplitAgain.{Settles, all_put}
 use Rattle.vhost_inflight.specs.declared.split.SplitStore.{SplitStore}
 use Rattle.vhost_inflight.specs.declared.split.SplitStore.TheVariants.{InFlight, UsedIdx, DescNum, Version}

@@ -1,5 +1,5 @@
 -- A back end that is cut off, on a ring of four.
-use Rattle.std.specs.Prelude.{ℕ, List, [], ◌∷◌, replicate}
+use Rattle.std.specs.Prelude.{List, [], ◌∷◌, replicate}
 use Rattle.vhost_inflight.specs.Split.{SplitRegion}
 use Rattle.vhost_inflight.specs.SplitCrash.{Cut, Event, Pop, Return, Start, Whole, World, at_first, run}
 
