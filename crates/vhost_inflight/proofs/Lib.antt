@@ -1,3 +1,5 @@
+pub mod AgainLemmas
+pub mod ByteLemmas
 pub mod CrashLemmas
 pub mod EntryLemmas
 pub mod StartLemmas
