@@ -19,6 +19,7 @@ use Rattle.vhost_inflight.specs.declared.split_start.SplitStart.{SplitStart}
 use Rattle.vhost_inflight.specs.declared.split_start.StartError.{StartError}
 use Rattle.vhost_inflight.specs.declared.split_start.StartError.TheVariants as start
 use Rattle.vhost_backend.proofs.InFlightLemmas.{first_same}
+use Rattle.vhost_backend.proofs.QueueAtLemmas.{none_some}
 use Rattle.vhost_backend.specs.BlockQueue.{BlockQueueState, FlightState, GivesBack, Publishes, buffer_by, gave}
 use Rattle.vhost_backend.specs.Crash.{GoesOnAs, PopsBy, ReturnsBy, StartsAs, stores_to}
 use Rattle.vhost_backend.specs.Flight.{AfterRegion, AfterStart, Flies as FliesIn, FliesAt, GivesIn, HappensIn, Lands, Resumes, StartsBy, Tracks, TracksAt, is_due, is_open, next_used_of, size_of, start_refused, with_kept}
@@ -71,10 +72,6 @@ no_fault descriptors size bytes used long fits is =
     else fault descriptors size (region_of descriptors bytes) used)) (le-ltb (length bytes) (entry_offset descriptors) long)
     ∙ (ap (λ (v : Bool). if v then Some start.RingSize else fault descriptors size (region_of descriptors bytes) used)
     (le-ltb descriptors size fits) ∙ is)
-
-none_some : {A R : Type 0} (o : Option A) (a : A) → o ≡ None → o ≡ Some a → R
-none_some None a none some = absurd (cc)
-none_some (Some b) a none some = absurd (cc)
 
 module _ {H : Type 0} (step : H → (s : MemoryStep) → Returned s → H → Type 0) where
   -- ---- pops
