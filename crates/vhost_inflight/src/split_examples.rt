@@ -43,7 +43,6 @@ pub fn a_start_is_whole()
     ensures stores { start_stores 4 cut_off.region 0 ≡ InFlight 0 false ∷ UsedIdx 0 ∷ [] }
     ensures settles { Settles 4 4 0 cut_off.region (all_put cut_off.region (InFlight 0 false ∷ UsedIdx 0 ∷ [])) }
 {
-    every_crash_leaves_what_was_popped();
     starts_settle_what_was_returned();
 }
 
