@@ -1,11 +1,10 @@
 -- Heads that a start serves again, and starts that are cut off.
-use Rattle.std.proofs.Common.{◌≡◌, ℕ, zero, suc, ◌+◌, ◌-◌, ◌%◌, ◌^◌, ◌<◌, ◌≤◌, ◌⊎◌, Bool, true, false, List, [], ◌∷◌, ◌++◌, length, get_or, take, drop, Some, None, refl, sym, ap, subst, ◌∙◌, inl, inr, arith, length-set}
-use Rattle.std.proofs.lemmas.Bool.{and_parts, both_ways, cases_Bool, cases_eq, cases_lt, eq-eqb, eqb-true, ne_eqb, not-false, or_cases, or_left, or_parts, or_right}
-use Rattle.std.proofs.lemmas.List.{ext_get_or}
-use Rattle.std.specs.Prelude.{◌==◌, ◌↔◌, All, map, nat_lt, nat_le, not, if◌then◌else◌}
+use Rattle.std.proofs.Common.{◌≡◌, ℕ, zero, suc, ◌^◌, ◌<◌, ◌≤◌, ◌⊎◌, Bool, true, false, List, [], ◌∷◌, ◌++◌, length, get_or, take, drop, None, refl, sym, ap, subst, ◌∙◌, inl, inr, arith}
+use Rattle.std.proofs.lemmas.Bool.{both_ways, cases_Bool, cases_lt, eq-eqb, or_left, or_parts, or_right}
+use Rattle.std.specs.Prelude.{◌==◌, All, map, nat_lt}
 use Rattle.std.specs.List.{list_any}
 use Rattle.vhost_inflight.specs.Split.{SplitRegion, changed, entry_of, is_in_flight, put}
-use Rattle.vhost_inflight.specs.SplitStart.{Flies, IsInFlight, batch, cleared, difference, entries_fault, fault, header_fault, is_among, or_else, returned, settled, settled_fault, start_stores}
+use Rattle.vhost_inflight.specs.SplitStart.{Flies, IsInFlight, batch, cleared, difference, entries_fault, fault, header_fault, is_among, returned, settled, settled_fault, start_stores}
 use Rattle.vhost_inflight.specs.SplitAgain.{Remains, all_put}
 use Rattle.vhost_inflight.specs.declared.split.SplitStore.{SplitStore}
 use Rattle.vhost_inflight.specs.declared.split.SplitStore.TheVariants.{InFlight, UsedIdx, DescNum, Version}
