@@ -1,5 +1,5 @@
 -- What a ring stores of its requests in flight is what the theorem on crashes has.
-use Rattle.std.proofs.Common.{◌≡◌, ◌⊎◌, ◌∙◌, ℕ, ◌+◌, ◌%◌, ◌^◌, ◌<◌, ◌≤◌, Bool, true, false, not, ◌&&◌, List, [], ◌∷◌, ◌++◌, drop, length, Option, Some, None, Result, Ok, Err, MatchBool, MatchOption, refl, ap, sym, subst, inl, inr}
+use Rattle.std.proofs.Common.{◌≡◌, ◌⊎◌, ◌∙◌, ℕ, ◌+◌, ◌%◌, ◌^◌, ◌≤◌, Bool, true, false, not, ◌&&◌, List, [], ◌∷◌, ◌++◌, drop, length, Option, Some, None, Result, Ok, Err, MatchBool, MatchOption, refl, ap, sym, subst, inl, inr}
 use Rattle.std.proofs.lemmas.Bool.{le-ltb}
 use Rattle.std.specs.Prelude.{nat_lt, map, if◌then◌else◌}
 use Rattle.std.specs.List.{slice_get}
@@ -11,7 +11,7 @@ use Rattle.virtio_queue.specs.declared.error.QueueError.{QueueError}
 use Rattle.virtio_queue.specs.declared.packed.state.PackedBuffer.{PackedBuffer}
 use Rattle.vhost_inflight.specs.Split.{SplitRegion, after_pop, after_return, begin_return_stores, end_return_stores, entry_offset, pop_stores}
 use Rattle.vhost_inflight.specs.SplitBytes.{region_of}
-use Rattle.vhost_inflight.specs.SplitCrash.{Effect, Entry, GoesOn, Pop, Region, Return, Start, UsedIndex, World, effect, in_view, next_used, return_deeds}
+use Rattle.vhost_inflight.specs.SplitCrash.{Entry, GoesOn, Pop, Region, Return, Start, UsedIndex, World, effect, in_view, next_used, return_deeds}
 use Rattle.vhost_inflight.specs.SplitStart.{Flies, Starts, fault, start_fault, start_stores, started}
 use Rattle.vhost_inflight.specs.declared.split.SplitInFlight.{SplitInFlight}
 use Rattle.vhost_inflight.specs.declared.split.SplitStore.{SplitStore}
@@ -19,18 +19,18 @@ use Rattle.vhost_inflight.specs.declared.split_start.SplitStart.{SplitStart}
 use Rattle.vhost_inflight.specs.declared.split_start.StartError.{StartError}
 use Rattle.vhost_inflight.specs.declared.split_start.StartError.TheVariants as start
 use Rattle.vhost_backend.proofs.InFlightLemmas.{first_same}
+use Rattle.vhost_backend.proofs.QueueAtLemmas.{none_some}
 use Rattle.vhost_backend.specs.BlockQueue.{BlockQueueState, FlightState, GivesBack, Publishes, buffer_by, gave}
 use Rattle.vhost_backend.specs.Crash.{GoesOnAs, PopsBy, ReturnsBy, StartsAs, stores_to}
-use Rattle.vhost_backend.specs.Flight.{AfterRegion, AfterStart, Flies as FliesIn, FliesAt, GivesIn, HappensIn, Lands, Resumes, StartsBy, Tracks, TracksAt, gone_on_by, is_due, is_open, next_used_of, size_of, start_refused, with_kept}
+use Rattle.vhost_backend.specs.Flight.{AfterRegion, AfterStart, Flies as FliesIn, FliesAt, GivesIn, HappensIn, Lands, Resumes, StartsBy, Tracks, TracksAt, is_due, is_open, next_used_of, size_of, start_refused, with_kept}
 use Rattle.vhost_backend.specs.RingMemory.{MemoryStep, Returned}
 use Rattle.vhost_backend.specs.SetUp.{is_split}
 use Rattle.vhost_backend.specs.Sight.{Sight}
-use Rattle.vhost_backend.specs.declared.block_queue.GiveBack.{GiveBack}
 use Rattle.vhost_backend.specs.declared.block_queue.GiveBack.TheVariants as back
 use Rattle.vhost_backend.specs.declared.flight.FlightPlace.{FlightPlace}
 use Rattle.vhost_backend.specs.declared.request.Chain.{Chain}
 use Rattle.vhost_backend.specs.declared.ring.RingEvent.{RingEvent}
-use Rattle.vhost_backend.specs.declared.ring.RingEvent.TheVariants.{Kick, Popped}
+use Rattle.vhost_backend.specs.declared.ring.RingEvent.TheVariants.{Popped}
 
 -- ---- effects
 
@@ -72,10 +72,6 @@ no_fault descriptors size bytes used long fits is =
     else fault descriptors size (region_of descriptors bytes) used)) (le-ltb (length bytes) (entry_offset descriptors) long)
     ∙ (ap (λ (v : Bool). if v then Some start.RingSize else fault descriptors size (region_of descriptors bytes) used)
     (le-ltb descriptors size fits) ∙ is)
-
-none_some : {A R : Type 0} (o : Option A) (a : A) → o ≡ None → o ≡ Some a → R
-none_some None a none some = absurd (cc)
-none_some (Some b) a none some = absurd (cc)
 
 module _ {H : Type 0} (step : H → (s : MemoryStep) → Returned s → H → Type 0) where
   -- ---- pops

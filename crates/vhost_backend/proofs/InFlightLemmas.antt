@@ -17,7 +17,7 @@ use Rattle.vhost_backend.specs.BlockQueue.{AfterAsk, AfterPop, AfterRead, Begins
 use Rattle.vhost_backend.specs.Fetch.{FetchState, guest_chain, has_gap}
 use Rattle.vhost_backend.specs.Flight.{HappensFirst, PopsAgain, found_again, is_open, kept_at}
 use Rattle.vhost_backend.specs.Reach.{forgotten, rows_forgotten}
-use Rattle.vhost_backend.specs.RingMemory.{MemoryStep, Returned, begins}
+use Rattle.vhost_backend.specs.RingMemory.{MemoryStep, Returned}
 use Rattle.vhost_backend.specs.Sight.{Sight}
 use Rattle.vhost_backend.specs.declared.block_queue.Pop.{Pop}
 use Rattle.vhost_backend.specs.declared.block_queue.Pop.TheVariants as pop

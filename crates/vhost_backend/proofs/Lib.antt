@@ -46,6 +46,7 @@ pub mod PartLemmas
 pub mod PieceLemmas
 pub mod PlaceLemmas
 pub mod PopLemmas
+pub mod QueueAtLemmas
 pub mod QuestionLemmas
 pub mod QueueLemmas
 pub mod RefuseLemmas

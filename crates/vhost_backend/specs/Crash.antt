@@ -1,7 +1,7 @@
 -- The stores of a ring to its part of a region, as those that the theorem on crashes has.
 use Rattle.std.specs.Prelude.{◌≡◌, ◌⊎◌, ℕ, ◌+◌, ◌%◌, ◌^◌, false, List, [], ◌∷◌, ◌++◌, length, map, Option, Some, None}
 use Rattle.virtio_queue.specs.Any.{next_avail_of}
-use Rattle.vhost_inflight.specs.SplitCrash.{Deed, Effect, Entry, Region, UsedIndex, World}
+use Rattle.vhost_inflight.specs.SplitCrash.{Effect, Entry, Region, UsedIndex, World}
 use Rattle.vhost_inflight.specs.declared.split.SplitInFlight.{SplitInFlight}
 use Rattle.vhost_inflight.specs.declared.split.SplitStore.{SplitStore}
 use Rattle.vhost_backend.specs.BlockQueue.{BlockQueueState, FlightState, GivesBack}

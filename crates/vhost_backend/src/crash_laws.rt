@@ -1,10 +1,12 @@
-//! What a ring stores of its requests in flight is what the theorem on crashes speaks of: each function here is a theorem,
-//! and does nothing.
-ghost use Rattle.std.specs.Prelude.{◌≡◌, ◌∷◌, ◌^◌, ◌<◌, ◌≤◌, ℕ, List, [], Ok, Option, Some, None, false, length, nat_lt, true};
+//! What a ring stores of its requests in flight is what the theorem on crashes speaks of: each function here is a
+//! theorem, and does nothing.
+ghost use Rattle.std.specs.Prelude.{◌≡◌, ◌∷◌, ◌^◌, ◌<◌, ◌≤◌, ℕ, List, [], Ok, Option, Some, None, false, length};
+ghost use Rattle.std.specs.Prelude.{nat_lt, true};
 ghost use Rattle.virtio_blk.specs.declared.request.DeviceLimits.{DeviceLimits};
 ghost use Rattle.vhost_inflight.specs.Split.{SplitRegion, entry_offset};
 ghost use Rattle.vhost_inflight.specs.SplitBytes.{region_of};
-ghost use Rattle.vhost_inflight.specs.SplitCrash.{Event, IsFresh, Pop, Return, Start, World, at_first, effect, in_view, run};
+ghost use Rattle.vhost_inflight.specs.SplitCrash.{Event, IsFresh, Pop, Return, Start, World, at_first, effect};
+ghost use Rattle.vhost_inflight.specs.SplitCrash.{in_view, run};
 ghost use Rattle.vhost_inflight.specs.declared.split.SplitInFlight.{SplitInFlight};
 ghost use Rattle.vhost_backend.specs.BlockQueue.{BlockQueueState};
 ghost use Rattle.vhost_backend.specs.Crash.{GoesOnAs, PopsBy, ReturnsBy, stores_to};

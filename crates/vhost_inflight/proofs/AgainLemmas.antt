@@ -19,7 +19,7 @@ all_put-cleared : (hs : List ℕ) (r : SplitRegion) (used : ℕ)
 all_put-cleared [] r used = refl
 all_put-cleared (h ∷ hs) r used = all_put-cleared hs (put r (InFlight h false)) used
 
-any-cleared : (p : SplitEntry → Bool) → ((e : SplitEntry) → p (record e { in_flight = 0 }) ≡ false)
+pub any-cleared : (p : SplitEntry → Bool) → ((e : SplitEntry) → p (record e { in_flight = 0 }) ≡ false)
     → (hs : List ℕ) (es : List SplitEntry) → list_any p es ≡ false → list_any p (cleared es hs) ≡ false
 any-cleared p off [] es none = none
 any-cleared p off (h ∷ hs) es none =
@@ -28,15 +28,15 @@ any-cleared p off (h ∷ hs) es none =
 
 -- ---- what is not refused
 
-first_none : (a b : Option StartError) → or_else a b ≡ None → a ≡ None
+pub first_none : (a b : Option StartError) → or_else a b ≡ None → a ≡ None
 first_none None b none = refl
 first_none (Some e) b none = none
 
-second_none : (a b : Option StartError) → or_else a b ≡ None → b ≡ None
+pub second_none : (a b : Option StartError) → or_else a b ≡ None → b ≡ None
 second_none None b none = none
 second_none (Some e) b none = absurd cc
 
-unless_none : (b : Bool) (e : StartError) (o : Option StartError) → (if b then Some e else o) ≡ None
+pub unless_none : (b : Bool) (e : StartError) (o : Option StartError) → (if b then Some e else o) ≡ None
     → (b ≡ false) × (o ≡ None)
 unless_none true e o none = absurd cc
 unless_none false e o none = (refl, none)

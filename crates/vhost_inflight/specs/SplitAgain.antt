@@ -9,6 +9,11 @@ abbrev pub all_put : SplitRegion → List SplitStore → SplitRegion
 all_put r [] = r
 all_put r (s ∷ ss) = all_put (put r s) ss
 
+-- a region on which a start goes on as on another
+pub record Remains (descriptors size used : ℕ) (r new : SplitRegion) : Type 0 where
+  pub again : (heads : List ℕ) → Flies r used heads ↔ Flies new used heads
+  pub accepted : fault descriptors size new used ≡ None
+
 -- the region after all stores of a start on another: nothing is left to do, and another start goes on at the same place
 pub record Settles (descriptors size used : ℕ) (r new : SplitRegion) : Type 0 where
   pub version : new.version ≡ 1

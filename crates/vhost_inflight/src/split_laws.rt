@@ -1,8 +1,8 @@
 //! What holds of the region of a split queue, whenever its back end is cut off: each function here is a theorem, and
 //! does nothing.
-ghost use Rattle.std.specs.Prelude.{◌≡◌, ◌^◌, ◌<◌, ◌≤◌, ℕ, List, None, length};
+ghost use Rattle.std.specs.Prelude.{◌≡◌, ◌^◌, ◌<◌, ◌≤◌, ℕ, List, All, None, length, take};
 ghost use Rattle.vhost_inflight.specs.Split.{SplitRegion, entry_offset, place, put};
-ghost use Rattle.vhost_inflight.specs.SplitAgain.{Settles, all_put};
+ghost use Rattle.vhost_inflight.specs.SplitAgain.{Remains, Settles, all_put};
 ghost use Rattle.vhost_inflight.specs.SplitBytes.{IsWithin, region_of};
 ghost use Rattle.vhost_inflight.specs.Store.{stored};
 ghost use Rattle.vhost_inflight.specs.declared.split.SplitStore.{SplitStore};
@@ -27,6 +27,24 @@ pub fn every_crash_leaves_what_was_popped()
 /// Witness: vhost_inflight::an_example_is_cut_off
 pub fn one_list_is_served_again()
     ensures { (r : SplitRegion) (used : ℕ) (xs ys : List ℕ) → Flies r used xs → Flies r used ys → xs ≡ ys }
+{}
+
+/// Whatever a region says: no head that a start serves again is outside of the ring.
+///
+/// Witness: vhost_inflight::an_example_is_cut_off
+pub fn no_head_is_outside_of_the_ring()
+    ensures { (descriptors size used : ℕ) (r : SplitRegion) (heads : List ℕ)
+        → fault descriptors size r used ≡ None → Flies r used heads → All (λ head. head < size) heads }
+{}
+
+/// A start that is cut off after any of its stores changes nothing for the next one, also if several heads were
+/// returned at once.
+///
+/// Witness: vhost_inflight::a_start_is_cut_off
+pub fn cut_starts_change_nothing()
+    ensures { (descriptors size used stores : ℕ) (r : SplitRegion) → used < 2 ^ 16
+        → fault descriptors size r used ≡ None
+        → Remains descriptors size used r (all_put r (take stores (start_stores descriptors r used))) }
 {}
 
 /// After all stores of a start, the region has the ring's used index, and exactly what is served again is marked as in
