@@ -135,6 +135,11 @@ impl<'a> Actions<'a> {
             10 => Action::End(over_of(raw)),
             11 => Action::Stopped(raw.ring),
             12 => ask_of(raw),
+            13 => Action::File { len: raw.len },
+            14 => Action::Region {
+                offset: raw.place,
+                len: raw.len,
+            },
             kind => unreachable!("the library has no action of the kind {kind}"),
         }
     }
