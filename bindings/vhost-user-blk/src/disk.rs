@@ -93,9 +93,7 @@ fn lock(file: &File, path: &Path, read_only: bool) -> io::Result<()> {
         }
         if number == MOMENT {
             let (image, seconds) = (path.display(), (PAUSE * (TRIES - MOMENT)).as_secs());
-            eprintln!(
-                "vhost-user-blk: {image}: another program has locked it: waiting {seconds} s for its end"
-            );
+            eprintln!("vhost-user-blk: {image}: another program has locked it: waiting {seconds} s for its end");
         }
         thread::sleep(PAUSE);
         done = system::lock(file, !read_only);

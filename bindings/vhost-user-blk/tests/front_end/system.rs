@@ -152,7 +152,9 @@ pub fn receive(socket: &UnixStream, bytes: &mut [u8]) -> Option<OwnedFd> {
             return None;
         }
         assert_eq!((*header).cmsg_len as usize, libc::CMSG_LEN(4) as usize);
-        Some(OwnedFd::from_raw_fd(libc::CMSG_DATA(header).cast::<RawFd>().read_unaligned()))
+        Some(OwnedFd::from_raw_fd(
+            libc::CMSG_DATA(header).cast::<RawFd>().read_unaligned(),
+        ))
     }
 }
 
