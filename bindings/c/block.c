@@ -143,10 +143,8 @@ static void region(uint32_t number, uint64_t place) {
     put(16, 2);
 }
 
-/* A region of requests in flight is made for the front end, and then it gives one, twice. */
-static int in_flight(void) {
-    static uint8_t regions[2][320];
-    vmm_place place;
+/* A region of requests in flight is made for the front end. */
+static int made(void) {
     const uint32_t failed = opened();
     if (failed) {
         return (int)failed;
@@ -166,6 +164,13 @@ static int in_flight(void) {
         return 62;
     }
     vmm_backend_sent(&connection, 32);
+    return 0;
+}
+
+/* The front end gives one, twice, and then no other can be made. */
+static int given(void) {
+    static uint8_t regions[2][320];
+    vmm_place place;
     for (size_t i = 0; i < 2; i++) {
         region(SET_INFLIGHT_FD, 0x7000);
         if (tell(1) != 0 || !gives(VMM_BACKEND_REGION) || actions[0].len != 320 || actions[0].place != 0x7000) {
@@ -240,6 +245,7 @@ int main(void) {
     failed = failed ? failed : ring();
     vmm_backend_close(&connection);
     failed = failed ? failed : hung_up();
-    failed = failed ? failed : in_flight();
+    failed = failed ? failed : made();
+    failed = failed ? failed : given();
     return failed ? failed : unasked();
 }

@@ -856,8 +856,8 @@ typedef struct vmm_backend_disk {
  * `way`, which `ring` needs. Each has a reply, for vmm_backend_answered.
  * FILE: a shared file of `len` zeros is made, for a region of requests in flight. Then comes vmm_backend_done or
  * vmm_backend_failed. The next SEND has its descriptor, which is closed after it.
- * REGION: the region of requests in flight is mapped, shared, from the descriptor of the message: `len` bytes of its file
- * from `place` on, which the file has. Then come vmm_backend_track and vmm_backend_done, or vmm_backend_failed. */
+ * REGION: the region of requests in flight is mapped, shared, from the descriptor of the message: `len` bytes of its
+ * file from `place` on, which the file has. Then come vmm_backend_track and vmm_backend_done, or vmm_backend_failed. */
 typedef struct vmm_backend_action {
     uint32_t kind, ring, id, way, count, more, left;
     uint64_t place, len, guest, user;

@@ -77,8 +77,8 @@ pub(crate) fn send(socket: &UnixStream, bytes: &[u8], descriptor: Option<Borrowe
     let control = control.as_mut().map_or(&mut [][..], |it| it);
     let message = system::Message::new(&mut part, control);
     let flags = system::MSG_DONTWAIT | system::MSG_NOSIGNAL;
-    // SAFETY: the declaration fits the function, which reads the message: one part, which is `bytes`, and as much beside
-    // it as it says.
+    // SAFETY: the declaration fits the function, which reads the message: one part, which is `bytes`, and as much
+    // beside it as it says.
     let count = unsafe { system::sendmsg(socket.as_raw_fd(), &message, flags) };
     match usize::try_from(count) {
         Ok(count) if count == bytes.len() => Ok(()),

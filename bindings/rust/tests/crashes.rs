@@ -1,5 +1,5 @@
-//! A back end is cut off before each store of a run, and another one takes its place over what it left: the requests that
-//! are out are served once, in the order of their pops, and none that came back.
+//! A back end is cut off before each store of a run, and another one takes its place over what it left: the requests
+//! that are out are served once, in the order of their pops, and none that came back.
 
 mod crash;
 mod guest;

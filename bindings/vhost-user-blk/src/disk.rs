@@ -12,9 +12,9 @@ use std::thread;
 use std::time::Duration;
 use vm_memory_proved::block::SECTOR_LEN;
 
-// How often the lock is tried, and how long each try waits. Who looks at a device has it for a moment, and a program that
-// was killed until the last of its reads and writes has ended: nobody may write to guest memory or the image before. It
-// is said when it is no moment any more.
+// How often the lock is tried, and how long each try waits. Who looks at a device has it for a moment, and a program
+// that was killed until the last of its reads and writes has ended: with those a successor would share guest memory and
+// the image. After a moment it is said.
 const TRIES: u32 = 210;
 const MOMENT: u32 = 10;
 const PAUSE: Duration = Duration::from_millis(50);

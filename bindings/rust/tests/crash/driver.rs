@@ -86,10 +86,22 @@ impl Driver {
             self.free.swap_remove(place)
         };
         let ids: Vec<_> = (0..count).map(|_| take()).collect();
-        let (own, sector) = (own(ids[0]), self.next_sector);
+        self.put(shared, &ids, is_indirect);
+        let slot = AVAIL + 4 + 2 * usize::from(self.next_avail % self.size);
+        shared.ram.write(slot, &ids[0].to_le_bytes());
+        self.next_avail = self.next_avail.wrapping_add(1);
+        shared.ram.write(AVAIL + 2, &self.next_avail.to_le_bytes());
+        let sector = self.next_sector;
         self.next_sector += 1;
+        self.out.push(Out { ids, sector });
+        true
+    }
+
+    // Puts the descriptors of the next request, and its header.
+    fn put(&self, shared: &Shared, ids: &[u16], is_indirect: bool) {
+        let own = own(ids[0]);
         let mut header = [0; 17];
-        header[8..16].copy_from_slice(&sector.to_le_bytes());
+        header[8..16].copy_from_slice(&self.next_sector.to_le_bytes());
         // No device writes this status.
         header[16] = 0xa5;
         shared.ram.write(own, &header);
@@ -110,12 +122,6 @@ impl Driver {
                 shared.ram.write(desc(*id), &row);
             }
         }
-        let slot = AVAIL + 4 + 2 * usize::from(self.next_avail % self.size);
-        shared.ram.write(slot, &ids[0].to_le_bytes());
-        self.next_avail = self.next_avail.wrapping_add(1);
-        shared.ram.write(AVAIL + 2, &self.next_avail.to_le_bytes());
-        self.out.push(Out { ids, sector });
-        true
     }
 
     /// Takes at most so many requests that came back. Each has to be out.

@@ -1,6 +1,6 @@
-//! Stops before each store to some memory, and keeps what this has then. The memory can only be read meanwhile, so that a
-//! store has the system raise a signal. Its handler keeps the bytes, lets one instruction through, and then the memory
-//! can only be read again.
+//! Stops before each store to some memory, and keeps what this has then. The memory can only be read meanwhile, so that
+//! a store has the system raise a signal. Its handler keeps the bytes, lets one instruction through, and then the
+//! memory can only be read again.
 
 use super::{KEPT, REGION};
 use crate::guest::Guest;

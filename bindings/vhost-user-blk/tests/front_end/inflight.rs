@@ -1,6 +1,10 @@
 //! The region of requests in flight that a front end keeps.
 
+use super::log::SHIFT;
 use super::*;
+
+/// How many descriptors the rings have.
+pub const SIZE: u16 = 64;
 
 #[derive(Debug)]
 pub struct Region {
@@ -88,4 +92,30 @@ impl FrontEnd {
         let file = again(&region.file);
         self.is_done(SET_INFLIGHT_FD, &region.payload(), &[&file])
     }
+}
+
+/// Gives a region before the rings are started, as QEMU does.
+pub fn set_up(front: &mut FrontEnd, features: u64, region: Option<&Region>) {
+    if let Some(region) = region {
+        assert!(front.give_region(region));
+    }
+    front.set_memory();
+    if features & ACCESS_PLATFORM != 0 {
+        front.translate(SHIFT);
+    }
+}
+
+/// A front end with a region and a ring that begins at an index.
+pub fn started(program: &Program, features: u64, base: u16) -> (FrontEnd, Region) {
+    let mut front = program.connect();
+    front.negotiate(features);
+    let region = front.new_region(1, SIZE);
+    set_up(&mut front, features, Some(&region));
+    front.start_ring(SIZE, base);
+    (front, region)
+}
+
+/// What the disk has from a sector on.
+pub fn read_of(sector: u64, len: usize) -> Vec<u8> {
+    image_of(1 << 20)[512 * sector as usize..][..len].to_vec()
 }
