@@ -198,7 +198,7 @@ fn each_request_comes_back_once_over_many_kills() {
     let folder = program.folder.clone();
     let mut load = Load::new(&program);
     let (begun, mut caught) = (Instant::now(), 0);
-    while caught < 20 && begun.elapsed() < LONG {
+    while caught < 10 && begun.elapsed() < LONG {
         load.work();
         kill(program);
         caught += u32::from(!load.region.in_flight(0).is_empty());

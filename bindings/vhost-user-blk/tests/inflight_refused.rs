@@ -220,9 +220,9 @@ fn a_region_that_goes_away_ends_the_connection() {
         assert_eq!(front.read_disk(0, 2, 512), read_of(2, 512));
         program.rest();
         File::from(again(&region.file)).set_len(len).unwrap();
-        // The entry of the last descriptors lies in the last page.
-        front.put_segments(1000, &[(HEADERS, 16, false), (HEADERS + 0x800, 1, true)]);
-        front.publish(0, if len == 0 { 0 } else { 1000 });
+        // The entry of this head lies in the last page.
+        front.put_request(0, 999, 0, 2, 512);
+        front.publish(0, if len == 0 { 0 } else { 999 });
         front.kick(0);
         assert!(front.is_let_go());
         assert!(program.lives());
