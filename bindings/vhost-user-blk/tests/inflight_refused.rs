@@ -231,3 +231,19 @@ fn a_region_that_goes_away_ends_the_connection() {
     let (mut front, _region) = started(&program, USUAL, 0);
     assert_eq!(front.read_disk(0, 2, 512), read_of(2, 512));
 }
+
+#[test]
+fn a_region_that_cannot_be_made_ends_the_connection() {
+    let mut program = Program::start("inflight_no_room", LEN, &[]);
+    let mut front = program.connect();
+    front.negotiate(USUAL);
+    program.rest();
+    let before = program.limit(libc::RLIMIT_NOFILE, 3);
+    front.send(GET_INFLIGHT_FD, 0, &inflight(0, 0, 1, SIZE), &[]);
+    assert!(front.is_let_go());
+    program.limit(libc::RLIMIT_NOFILE, before);
+    program.expect_said("the region of requests in flight: Too many open files");
+    assert!(program.lives());
+    let (mut front, _region) = started(&program, USUAL, 0);
+    assert_eq!(front.read_disk(0, 2, 512), read_of(2, 512));
+}
