@@ -258,12 +258,17 @@ fn a_region_lies_where_the_front_end_says() {
     }
 }
 
-// The crash may lie between a store to the used ring and its mark.
+// The crash may lie between a store to the used ring and its mark. This ring has three pages, and what is served now
+// lies in the first one.
 #[test]
 fn the_used_ring_is_marked_after_a_start() {
     let program = Program::start("inflight_log", LEN, &[]);
     let folder = program.folder.clone();
-    let (mut front, region) = started(&program, USUAL, 0);
+    let mut front = program.connect();
+    front.negotiate(USUAL);
+    let region = front.new_region(1, 1024);
+    set_up(&mut front, USUAL, Some(&region));
+    front.start_ring(1024, 0);
     front.read_disk(0, 1, 512);
     kill(program);
     let program = Program::start_again(&folder, &[]);
@@ -273,18 +278,16 @@ fn the_used_ring_is_marked_after_a_start() {
     let rings = std::mem::take(&mut front.rings);
     let log = begin(&mut front, USUAL, LOG_LEN);
     front.rings = rings;
+    let (number, kick) = (u64::to_le_bytes(0), again(&front.rings[0].kick));
+    assert!(front.is_done(SET_VRING_NUM, &two(0, 1024), &[]));
+    assert!(front.is_done(SET_VRING_BASE, &two(0, 1), &[]));
     let logged = front.addresses(0, true);
     assert!(front.is_done(SET_VRING_ADDR, &logged, &[]));
-    // A start sends the addresses without the log.
-    let number = u64::to_le_bytes(0);
-    assert!(front.is_done(SET_VRING_NUM, &two(0, SIZE.into()), &[]));
-    assert!(front.is_done(SET_VRING_BASE, &two(0, 1), &[]));
-    let kick = again(&front.rings[0].kick);
     assert!(front.is_done(SET_VRING_KICK, &number, &[&kick]));
     assert!(front.is_done(SET_VRING_ENABLE, &two(0, 1), &[]));
     program.rest();
-    let page = front.used_ring(0) / PAGE;
-    assert!(taken(&log).contains(&page), "the page {page} is not marked");
+    let (page, taken) = (front.used_ring(0) / PAGE, taken(&log));
+    assert!((page..page + 3).all(|it| taken.contains(&it)), "{taken:?}, not {page}");
 }
 
 // Without a region, and with one for fewer rings, a ring is served as before.

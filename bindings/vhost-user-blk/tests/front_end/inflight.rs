@@ -102,6 +102,9 @@ pub fn set_up(front: &mut FrontEnd, features: u64, region: Option<&Region>) {
     front.set_memory();
     if features & ACCESS_PLATFORM != 0 {
         front.translate(SHIFT);
+        // In one range.
+        let all = iotlb(SHIFT, RAM as u64, USER, READ | WRITE, 2);
+        assert!(front.is_done(IOTLB_MSG, &all, &[]));
     }
 }
 
