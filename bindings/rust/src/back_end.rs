@@ -295,13 +295,10 @@ struct FilePart {
 }
 
 impl FilePart {
-    // A part of a regular file that has all of its bytes.
+    // A part of a file that has all of its bytes. What is no regular file says it has none, or cannot be mapped.
     fn of(file: BorrowedFd<'_>, offset: u64, len: u64) -> Result<FilePart, SharedBlockError> {
         let file = file.try_clone_to_owned().map(File::from);
         let data = file.and_then(|it| it.metadata()).map_err(SharedBlockError::NotMapped)?;
-        if !data.is_file() {
-            return Err(SharedBlockError::NoFile);
-        }
         if data.len().checked_sub(offset).is_none_or(|left| left < len) {
             return Err(SharedBlockError::FileShort);
         }

@@ -77,7 +77,7 @@ fn expect_served_again(name: &str, words: &[&str], features: u64, base: u16) {
     let program = Program::start_on_a_hole(name, 4 << 30, words);
     let folder = program.folder.clone();
     let (mut front, region) = started(&program, features, base);
-    front.put_endless(0);
+    front.put_long(0, 0, 0, &[(8 << 20, 4 << 20); 512]);
     front.publish(0, 0);
     front.put_long(1, UNSUPPORTED, 0, &[(9 << 20, 16)]);
     front.publish(0, 1);
