@@ -5,6 +5,7 @@ pub mod BackendLemmas
 pub mod BoundLemmas
 pub mod ChannelLemmas
 pub mod ConnectionLemmas
+pub mod CrashLemmas
 pub mod CurrentCallLemmas
 pub mod CurrentChangeLemmas
 pub mod CurrentForgetLemmas
@@ -23,6 +24,7 @@ pub mod GivenLemmas
 pub mod GoneLemmas
 pub mod HoldLemmas
 pub mod IdleLemmas
+pub mod InFlightLemmas
 pub mod IoMemoryLemmas
 pub mod KeepLemmas
 pub mod KeptLemmas
@@ -44,6 +46,7 @@ pub mod PartLemmas
 pub mod PieceLemmas
 pub mod PlaceLemmas
 pub mod PopLemmas
+pub mod QueueAtLemmas
 pub mod QuestionLemmas
 pub mod QueueLemmas
 pub mod RefuseLemmas

@@ -37,7 +37,7 @@ use Rattle.vhost_backend.specs.declared.fetch.Goal.TheVariants as goal
 use Rattle.vhost_backend.specs.declared.fetch.State.{State}
 use Rattle.vhost_backend.specs.declared.fetch.State.TheVariants.{Begun, Waits, Stops, Whole}
 use Rattle.vhost_backend.specs.declared.ring.RingEvent.{RingEvent}
-use Rattle.vhost_backend.specs.declared.ring.RingEvent.TheVariants.{Break, Emptied, Kick, Popped}
+use Rattle.vhost_backend.specs.declared.ring.RingEvent.TheVariants.{Break, Emptied, Kick}
 
 -- ---- without memory
 

@@ -47,6 +47,7 @@ use Rattle.vhost_backend.specs.declared.block_backend.Returning.{Returning}
 use Rattle.vhost_backend.specs.declared.block_queue.Finished.{Finished}
 use Rattle.vhost_backend.specs.declared.block_queue.Finished.TheVariants as finished
 use Rattle.vhost_backend.specs.Sight.{Sight}
+use Rattle.vhost_backend.specs.declared.deeds.Deed.{Deed}
 use Rattle.vhost_backend.specs.declared.deeds.Deed.TheVariants as deed
 use Rattle.vhost_backend.specs.declared.deeds.Limits.{Limits}
 use Rattle.vhost_backend.specs.declared.deeds.Made.{Made}
@@ -280,17 +281,21 @@ messaged w outcome.Begins = record w { ask = ask.First }
 messaged w (outcome.Refused e h) =
     hung_up (record w { reply = refused w.backend.connection h }) (why.Refused e)
 
+-- the last thing that a message asks for
+abbrev pub asked_last : BlockBackend → Deed → BlockBackend × Made
+asked_last w d = (record w { ask = ask.Answer }, made.Deed d)
+
 -- what a message that took effect asks for first
 abbrev pub asked_first_by : BlockBackend → Wanted → BlockBackend × Made
 asked_first_by w wanted.Nothing = (record w { ask = ask.Nothing }, made.Again)
 asked_first_by w wanted.Memory = (record w { ask = ask.Mapped 1 }, made.Deed deed.UnmapAll)
-asked_first_by w (wanted.Log size offset) = (record w { ask = ask.Answer }, made.Deed (deed.Log size offset))
-asked_first_by w (wanted.File asked) = (record w { ask = ask.Answer }, made.Deed (deed.File (inflight_for w.backend.connection asked).mmap_size))
-asked_first_by w (wanted.Region size offset) = (record w { ask = ask.Answer }, made.Deed (deed.Region size offset))
-asked_first_by w (wanted.Descriptor purpose is) = (record w { ask = ask.Answer }, made.Deed (deed.Keep purpose is))
+asked_first_by w (wanted.Log size offset) = asked_last w (deed.Log size offset)
+asked_first_by w (wanted.File asked) = asked_last w (deed.File (inflight_for w.backend.connection asked).mmap_size)
+asked_first_by w (wanted.Region size offset) = asked_last w (deed.Region size offset)
+asked_first_by w (wanted.Descriptor purpose is) = asked_last w (deed.Keep purpose is)
 asked_first_by w (wanted.Base ring) = let t = based w.queues ring (slice_get w.queues ring) in
     (finished_by (record w { queues = t.0; questions = stale w.questions ring }) t.1, made.Again)
-asked_first_by w wanted.Table = (record w { ask = ask.Answer }, made.Deed deed.Table)
+asked_first_by w wanted.Table = asked_last w deed.Table
 asked_first_by w wanted.Finish = (finished_by w finish.Done, made.Again)
 
 abbrev pub asked_first : BlockBackend → BlockBackend × Made

@@ -1,5 +1,5 @@
 -- The requests of a ring in a region that outlives the back end: what a ring stores there, and how it goes on by it.
-use Rattle.std.specs.Prelude.{◌≡◌, ◌⊎◌, ℕ, ◌+◌, ◌*◌, Bool, true, false, ◌&&◌, List, [], ◌∷◌, drop, slice_get, Option, Some, None, is_none, is_some, Result, Ok, Err, MatchBool, MatchOption}
+use Rattle.std.specs.Prelude.{◌≡◌, ◌⊎◌, ℕ, ◌+◌, ◌*◌, Bool, true, false, ◌&&◌, List, [], ◌∷◌, drop, slice_get, Option, Some, None, is_none, Result, Ok, Err, MatchBool, MatchOption}
 use Rattle.std.specs.declared.alloc.AllocError.{AllocError}
 use Rattle.vm_memory_device.specs.declared.chain.Segment.{Segment}
 use Rattle.virtio_blk.specs.declared.request.DeviceLimits.{DeviceLimits}
@@ -17,7 +17,7 @@ use Rattle.vhost_inflight.specs.declared.split_start.StartError.{StartError}
 use Rattle.vhost_inflight.specs.declared.split_start.StartError.TheVariants as start
 use Rattle.vhost_inflight.specs.declared.store.Store.{Store}
 use Rattle.vhost_backend.specs.Behind.{AfterLook, HappensBy}
-use Rattle.vhost_backend.specs.BlockQueue.{Begins, BlockQueueState, FlightState, GivesBack, Reads, event_of, refused, with_flight}
+use Rattle.vhost_backend.specs.BlockQueue.{Begins, BlockQueueState, GivesBack, Reads, event_of, refused, with_flight}
 use Rattle.vhost_backend.specs.Marks.{MarksRing, logged_at}
 use Rattle.vhost_backend.specs.PageList.{capped}
 use Rattle.vhost_backend.specs.RingMemory.{MemoryStep, Returned, pops_again, reads_region, tracks}

@@ -10,6 +10,7 @@ pub mod BlockTable
 pub mod BlockTurn
 pub mod Config
 pub mod ConnectionMemory
+pub mod Crash
 pub mod Current
 pub mod Examples
 pub mod Fetch

@@ -58,8 +58,8 @@ pub enum Deed {
     Log { size: u64, offset: u64 },
     /// A file of so many zeros is made. It is told whether that was done, and then the file goes with the reply.
     File { size: u64 },
-    /// The region of requests in flight is mapped: so many bytes of its file, from an offset on. It is told whether that
-    /// was done.
+    /// The region of requests in flight is mapped: so many bytes of its file, from an offset on. It is told whether
+    /// that was done.
     Region { size: u64, offset: u64 },
     /// A descriptor is kept for a purpose, or none is. It is told whether that was done.
     Keep(Purpose, bool),

@@ -1,5 +1,5 @@
-//! What a ring has of the region of requests in flight: where its part lies, and which chains were in flight when it was
-//! started.
+//! What a ring has of the region of requests in flight: where its part lies, and which chains were in flight when it
+//! was started.
 ghost use Rattle.std.specs.Prelude.{◌≡◌, None, Some, drop, false, slice_get, true};
 ghost use Rattle.vhost_backend.specs.BlockQueue.{flight_started, landed};
 ghost use Rattle.vhost_backend.specs.Flight.{Tracks, TracksAt, store_at};

@@ -10,6 +10,7 @@ pub mod block_laws;
 mod block_queue;
 mod block_queues;
 mod connection_memory;
+pub mod crash_laws;
 pub mod current_laws;
 mod deeds;
 pub mod examples;

@@ -162,8 +162,8 @@ pub trait RingMemory<H> {
         ensures step { steps self.now host.old (forgets k) result host.new }
         ensures held { held self.now host.new };
 
-    /// A chain that was in flight when the back end was started, in a list that is used again: that of a head of a split
-    /// queue, and that of these descriptors of a packed one. The queue stays where it is.
+    /// A chain that was in flight when the back end was started, in a list that is used again: that of a head of a
+    /// split queue, and that of these descriptors of a packed one. The queue stays where it is.
     fn pop_again(
         &self,
         host: &mut H,

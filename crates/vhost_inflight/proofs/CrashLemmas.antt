@@ -1,12 +1,12 @@
 -- What holds after each store of a back end, and so after every history.
-use Rattle.std.proofs.Common.{◌≡◌, ◌≢◌, ℕ, zero, suc, ◌+◌, ◌*◌, ◌-◌, ◌%◌, ◌^◌, ◌<◌, ◌≤◌, Bool, true, false, not, ◌&&◌, ◌||◌, cond, List, [], ◌∷◌, ◌++◌, length, get_or, set, Option, Some, None, refl, sym, ap, subst, ◌∙◌, ◌⊎◌, inl, inr, arith, length-append, length-set}
+use Rattle.std.proofs.Common.{◌≡◌, ℕ, zero, suc, ◌+◌, ◌%◌, ◌^◌, ◌<◌, ◌≤◌, true, false, not, ◌&&◌, List, [], ◌∷◌, ◌++◌, length, Option, Some, None, refl, sym, ap, subst, ◌∙◌, ◌⊎◌, inl, inr, arith, length-append, length-set}
 use Rattle.std.proofs.lemmas.List.{get_or_past}
-use Rattle.std.proofs.lemmas.Bool.{cases_Bool, cases_lt, cases_eq, eq-eqb, ne_eqb, eqb-true, eqb-false, or_cases, or_parts, or_left, or_right, or_from, le-ltb, and_left, and_right, and_parts, both_ways, lt-leb, ltb-true, not-true}
-use Rattle.std.specs.Prelude.{filter, drop, max, min, map, take, nat_lt, nat_le, fold, ◌==◌, if◌then◌else◌}
+use Rattle.std.proofs.lemmas.Bool.{cases_Bool, cases_lt, cases_eq, eq-eqb, ne_eqb, eqb-true, or_cases, or_right, or_from, le-ltb, and_left, and_right, and_parts, both_ways, lt-leb, ltb-true, not-true}
+use Rattle.std.specs.Prelude.{drop, map, take, nat_lt, nat_le, ◌==◌}
 use Rattle.std.specs.List.{list_any}
 use Rattle.vhost_inflight.specs.Split.{SplitRegion, after_pop, after_return, changed, counter_of, entry_of, is_in_flight, next_count, pop_stores, put}
-use Rattle.vhost_inflight.specs.SplitStart.{Flies, IsInFlight, fault, or_else, Rises, batch, cleared, difference, entries_fault, greatest, header_fault, is_among, rank, returned, settled, start_stores, started}
-use Rattle.vhost_inflight.specs.SplitCrash.{Call, Cut, Deed, Effect, Entry, Event, GoesOn, IsFresh, Pop, Region, Return, Start, UsedIndex, Whole, World, all_done, at_first, cut, done, effect, happens, in_view, next_used, popped_too, return_deeds, returned_too, run, stored_too, whole, without}
+use Rattle.vhost_inflight.specs.SplitStart.{Flies, Rises, batch, cleared, difference, entries_fault, greatest, header_fault, is_among, returned, settled, start_stores, started}
+use Rattle.vhost_inflight.specs.SplitCrash.{Call, Cut, Deed, Effect, Entry, Event, GoesOn, IsFresh, Pop, Region, Return, Start, UsedIndex, Whole, World, all_done, at_first, cut, done, effect, happens, in_view, next_used, return_deeds, run, stored_too, whole, without}
 use Rattle.vhost_inflight.specs.declared.split.SplitInFlight.{SplitInFlight}
 use Rattle.vhost_inflight.specs.declared.split.SplitStore.{SplitStore}
 use Rattle.vhost_inflight.specs.declared.split.SplitStore.TheVariants.{Counter, InFlight, Next, LastBatchHead, UsedIdx, DescNum, Version}

@@ -1,10 +1,10 @@
 -- Entries after a store, and lists of heads in their order.
-use Rattle.std.proofs.Common.{◌≡◌, ◌≢◌, ℕ, zero, suc, ◌+◌, ◌*◌, ◌-◌, ◌%◌, ◌^◌, ◌<◌, ◌≤◌, Bool, true, false, not, ◌&&◌, ◌||◌, cond, List, [], ◌∷◌, ◌++◌, length, get_or, set, refl, sym, ap, subst, ◌∙◌, ◌⊎◌, inl, inr, arith, get_or-set_other, get_or-set_same}
-use Rattle.std.proofs.lemmas.Bool.{cases_Bool, cases_eq, eq-eqb, ne_eqb, eqb-true, eqb-false, or_cases, or_parts, or_left, or_right, or_from, ltb-false, le-ltb, and_left, and_right, and_cases, both_ways, lt-leb}
-use Rattle.std.specs.Prelude.{filter, drop, max, nat_lt, nat_le, fold, ◌==◌, if◌then◌else◌}
+use Rattle.std.proofs.Common.{◌≡◌, ℕ, zero, suc, ◌+◌, ◌<◌, ◌≤◌, Bool, true, false, ◌||◌, List, [], ◌∷◌, ◌++◌, length, refl, sym, ap, ◌∙◌, inl, inr, arith, get_or-set_other, get_or-set_same}
+use Rattle.std.proofs.lemmas.Bool.{cases_Bool, cases_eq, eq-eqb, ne_eqb, eqb-true, or_cases, or_parts, or_left, or_right, or_from, both_ways}
+use Rattle.std.specs.Prelude.{drop, max, fold, ◌==◌, if◌then◌else◌}
 use Rattle.std.specs.List.{list_any}
 use Rattle.vhost_inflight.specs.Split.{changed, counter_of, entry_of, is_in_flight}
-use Rattle.vhost_inflight.specs.SplitStart.{Rises, greatest, is_among, rank}
+use Rattle.vhost_inflight.specs.SplitStart.{Rises, is_among, rank}
 use Rattle.vhost_inflight.specs.SplitCrash.{without}
 use Rattle.vhost_inflight.specs.declared.split_region.SplitEntry.{SplitEntry}
 

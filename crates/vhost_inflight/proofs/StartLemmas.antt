@@ -1,14 +1,14 @@
 -- Steps of a start: the batch that was returned, what is in flight, and its order.
-use Rattle.std.proofs.Common.{◌≡◌, ◌≢◌, ℕ, zero, suc, ◌+◌, ◌*◌, ◌-◌, ◌%◌, ◌^◌, ◌<◌, ◌≤◌, Bool, true, false, not, ◌&&◌, ◌||◌, cond, List, [], ◌∷◌, ◌++◌, length, get_or, set, Some, None, refl, sym, ap, subst, ◌∙◌, ◌⊎◌, inl, inr, arith, length-append}
-use Rattle.std.proofs.lemmas.Bool.{and_parts, and_right, cases_Bool, cases_eq, cases_order, eq-eqb, eqb-true, le-leb, leb-false, leb-true, le-ltb, lt-leb, lt-ltb, ltb-true, ltb-false, ne_eqb, or_from, or_left, or_parts, or_right, both_ways}
+use Rattle.std.proofs.Common.{◌≡◌, ℕ, zero, suc, ◌+◌, ◌*◌, ◌-◌, ◌^◌, ◌<◌, ◌≤◌, Bool, true, false, ◌&&◌, ◌||◌, cond, List, [], ◌∷◌, ◌++◌, length, get_or, Some, None, refl, sym, ap, ◌∙◌, inl, inr, arith}
+use Rattle.std.proofs.lemmas.Bool.{and_right, cases_Bool, cases_eq, cases_order, eq-eqb, eqb-true, le-leb, leb-false, le-ltb, lt-leb, lt-ltb, ltb-false, ne_eqb, or_from, or_left, or_parts, or_right, both_ways}
 use Rattle.std.proofs.lemmas.List.Folds.{list_any-append}
 use Rattle.std.proofs.lemmas.List.Sums.{sum_by-cons, sum_by_push}
-use Rattle.std.proofs.lemmas.List.Sorted.{All-permutation, IsPermutation-map, length_permutation, sum_by-IsPermutation}
-use Rattle.std.specs.Prelude.{filter, drop, max, map, nat_lt, nat_le, take, ◌==◌, if◌then◌else◌, All}
-use Rattle.std.specs.List.{count_by, list_any, sum_by}
-use Rattle.std.specs.List.Sorted.{IsPermutation, IsSorted, IsSortedBy}
+use Rattle.std.proofs.lemmas.List.Sorted.{All-permutation, sum_by-IsPermutation}
+use Rattle.std.specs.Prelude.{map, nat_lt, nat_le, ◌==◌, All}
+use Rattle.std.specs.List.{count_by, list_any}
+use Rattle.std.specs.List.Sorted.{IsPermutation, IsSortedBy}
 use Rattle.std.specs.Ordering.{is_lt, nat_cmp, ordering_then}
-use Rattle.vhost_inflight.specs.Split.{changed, counter_of, entry_of, is_in_flight}
+use Rattle.vhost_inflight.specs.Split.{counter_of, entry_of, is_in_flight}
 use Rattle.vhost_inflight.specs.SplitBytes.{region_with}
 use Rattle.vhost_inflight.specs.SplitStart.{IsInFlight, Rises, batch, difference, header_fault, is_among, rank, returned}
 use Rattle.vhost_inflight.specs.declared.split_region.SplitEntry.{SplitEntry}

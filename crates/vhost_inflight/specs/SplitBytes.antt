@@ -1,8 +1,10 @@
 -- The region of a split queue, as bytes: each number has its lowest byte first.
-use Rattle.std.specs.Prelude.{ℕ, ◌+◌, ◌*◌, ◌/◌, List, drop, map, slice_index, take}
+use Rattle.std.specs.Prelude.{ℕ, ◌+◌, ◌*◌, ◌/◌, ◌^◌, ◌<◌, List, drop, map, slice_index, take}
 use Rattle.std.specs.Int.{w16, w64, from_le_bytes}
 use Rattle.std.specs.List.{range_with_len}
 use Rattle.vhost_inflight.specs.Split.{SplitRegion, entry_offset}
+use Rattle.vhost_inflight.specs.declared.split.SplitStore.{SplitStore}
+use Rattle.vhost_inflight.specs.declared.split.SplitStore.TheVariants.{Counter, InFlight, Next, LastBatchHead, UsedIdx, DescNum, Version}
 use Rattle.vhost_inflight.specs.declared.split_region.SplitEntry.{SplitEntry}
 use Rattle.vhost_inflight.specs.declared.split_region.SplitHeader.{SplitHeader}
 
@@ -46,3 +48,13 @@ region_of descriptors bytes = region_with (header_in bytes) (entries_in descript
 -- how many bytes such a region has, a multiple of 64
 abbrev pub region_len : ℕ → ℕ
 region_len descriptors = (entry_offset descriptors + 63) / 64 * 64
+
+-- a store to a region with so many descriptors: the head is one of them, and the number has the size of its field
+abbrev pub IsWithin : ℕ → SplitStore → Type 0
+IsWithin descriptors (Counter head count) = (head < descriptors) × (count < 2 ^ 64)
+IsWithin descriptors (InFlight head is) = head < descriptors
+IsWithin descriptors (Next head next) = (head < descriptors) × (next < 2 ^ 16)
+IsWithin descriptors (LastBatchHead head) = head < 2 ^ 16
+IsWithin descriptors (UsedIdx used) = used < 2 ^ 16
+IsWithin descriptors (DescNum count) = count < 2 ^ 16
+IsWithin descriptors (Version version) = version < 2 ^ 16

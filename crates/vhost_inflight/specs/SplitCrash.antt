@@ -1,11 +1,10 @@
 -- Crashes of a back end at any store: what it stores, what the guest sees, and every history of the two.
-use Rattle.std.specs.Prelude.{◌≡◌, ℕ, zero, suc, ◌+◌, ◌%◌, ◌^◌, ◌<◌, ◌≤◌, Bool, true, false, not, ◌&&◌, ◌==◌, nat_lt, if◌then◌else◌, List, [], ◌∷◌, ◌++◌, All, filter, length, map, take, Option, Some, None}
+use Rattle.std.specs.Prelude.{◌≡◌, ℕ, ◌+◌, ◌%◌, ◌^◌, Bool, true, false, not, ◌&&◌, ◌==◌, nat_lt, if◌then◌else◌, List, [], ◌∷◌, ◌++◌, All, filter, length, map, take, Option, Some, None}
 use Rattle.vhost_inflight.specs.Split.{SplitRegion, after_pop, after_return, begin_return_stores, end_return_stores, pop_stores, put}
 use Rattle.vhost_inflight.specs.SplitStart.{Flies, fault, is_among, start_stores, started}
 use Rattle.vhost_inflight.specs.declared.split.SplitInFlight.{SplitInFlight}
 use Rattle.vhost_inflight.specs.declared.split.SplitStore.{SplitStore}
-use Rattle.vhost_inflight.specs.declared.split.SplitStore.TheVariants.{Counter, InFlight, Next, LastBatchHead, UsedIdx, DescNum, Version}
-use Rattle.vhost_inflight.specs.declared.split_region.SplitEntry.{SplitEntry}
+use Rattle.vhost_inflight.specs.declared.split.SplitStore.TheVariants.{InFlight}
 
 -- one store of a back end: to the region, the head in the ring's next used entry, or the ring's used index
 pub data Deed : Type 0 where

@@ -4,6 +4,7 @@
 #![tactic(auto)]
 
 mod split;
+pub mod split_examples;
 pub mod split_laws;
 mod split_region;
 mod split_start;

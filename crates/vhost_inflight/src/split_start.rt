@@ -1,5 +1,6 @@
 //! Where a split queue goes on.
-ghost use Rattle.std.specs.Prelude.{◌≡◌, ◌⊎◌, ◌^◌, ◌≤◌, ◌&&◌, ◌==◌, false, nat_le, nat_lt, true, IfErr, IfOk, List, None, OnOk, Some, length, map};
+ghost use Rattle.std.specs.Prelude.{◌≡◌, ◌⊎◌, ◌^◌, ◌≤◌, ◌&&◌, ◌==◌, false, true, nat_le, nat_lt};
+ghost use Rattle.std.specs.Prelude.{IfErr, IfOk, List, None, OnOk, Some, length, map};
 ghost use Rattle.std.specs.List.{list_any};
 ghost use Rattle.vhost_inflight.specs.SplitBytes.{region_of, region_with};
 ghost use Rattle.vhost_inflight.specs.SplitStart.{IsInFlight, Starts, batch, cleared, fault, greatest, header_fault};

@@ -1,7 +1,7 @@
 //! What is to be done without guest memory: what becomes of a message, what it asks for, and what is said at last.
 ghost use Rattle.std.specs.Prelude.{◌≡◌};
-ghost use Rattle.vhost_backend.specs.BlockBackend.{asked_first, asked_more, broke_if, messaged, replied, said_last};
-ghost use Rattle.vhost_backend.specs.BlockBackend.{stepped_on};
+ghost use Rattle.vhost_backend.specs.BlockBackend.{asked_first, asked_last, asked_more, broke_if, messaged, replied};
+ghost use Rattle.vhost_backend.specs.BlockBackend.{said_last, stepped_on};
 
 use crate::backend::{Finish, Outcome};
 use crate::block_backend::BlockBackend;
@@ -57,6 +57,14 @@ impl BlockBackend {
         }
     }
 
+    // The last thing that a message asks for. It is told whether that was done.
+    fn ask_last(&mut self, deed: Deed) -> Made
+        ensures { (self.new, result) ≡ asked_last self.old deed }
+    {
+        self.ask = Ask::Answer;
+        Made::Deed(deed)
+    }
+
     // What a message that took effect asks for first.
     fn ask_first(&mut self) -> Made
         ensures { (self.new, result) ≡ asked_first self.old }
@@ -70,33 +78,20 @@ impl BlockBackend {
                 self.ask = Ask::Mapped(1);
                 Made::Deed(Deed::UnmapAll)
             }
-            Wanted::Log { size, offset } => {
-                self.ask = Ask::Answer;
-                Made::Deed(Deed::Log { size, offset })
-            }
+            Wanted::Log { size, offset } => self.ask_last(Deed::Log { size, offset }),
             Wanted::File(asked) => {
                 let size = self.backend.connection().inflight_for(&asked).mmap_size;
-                self.ask = Ask::Answer;
-                Made::Deed(Deed::File { size })
+                self.ask_last(Deed::File { size })
             }
-            Wanted::Region { size, offset } => {
-                self.ask = Ask::Answer;
-                Made::Deed(Deed::Region { size, offset })
-            }
-            Wanted::Descriptor(purpose, is_there) => {
-                self.ask = Ask::Answer;
-                Made::Deed(Deed::Keep(purpose, is_there))
-            }
+            Wanted::Region { size, offset } => self.ask_last(Deed::Region { size, offset }),
+            Wanted::Descriptor(purpose, is_there) => self.ask_last(Deed::Keep(purpose, is_there)),
             Wanted::Base(ring) => {
                 let end = self.queues.base(ring as usize);
                 self.questions.stale(ring as usize);
                 self.finish(end);
                 Made::Again
             }
-            Wanted::Table => {
-                self.ask = Ask::Answer;
-                Made::Deed(Deed::Table)
-            }
+            Wanted::Table => self.ask_last(Deed::Table),
             Wanted::Finish => {
                 self.finish(Finish::Done);
                 Made::Again

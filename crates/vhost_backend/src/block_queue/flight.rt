@@ -297,9 +297,9 @@ impl BlockQueue {
         }
     }
 
-    /// What happens to the ring next in its turn, as `next_event`. If its requests in flight are stored in a region, that
-    /// is read first, once the ring's areas can be, what was in flight is popped again, and what is popped anew is in
-    /// flight before it is served.
+    /// What happens to the ring next in its turn, as `next_event`. If its requests in flight are stored in a region,
+    /// that is read first, once the ring's areas can be, what was in flight is popped again, and what is popped anew is
+    /// in flight before it is served.
     pub fn next_in<H, D: RingMemory<H>>(
         &mut self,
         alloc: Global,
@@ -310,7 +310,8 @@ impl BlockQueue {
     ) -> Option<RingEvent>
         requires held { D.held mem.now host.old }
         requires small { terms.sectors < 2 ^ 55 }
-        ensures next { HappensIn (D.steps mem.now) terms (sight_of way.entry) self.old host.old result self.new host.new }
+        ensures next { HappensIn (D.steps mem.now) terms (sight_of way.entry) self.old host.old result self.new
+            host.new }
         ensures held { D.held mem.now host.new }
     {
         if self.is_due(way) {
@@ -342,8 +343,8 @@ impl BlockQueue {
         }
     }
 
-    /// Returns a chain whose request was ended, as `give_back`. If its ring's requests in flight are stored in a region,
-    /// that names it before the ring does, and has it in flight until after that.
+    /// Returns a chain whose request was ended, as `give_back`. If its ring's requests in flight are stored in a
+    /// region, that names it before the ring does, and has it in flight until after that.
     pub fn give_back_in<H, D: RingMemory<H>>(
         &mut self,
         mem: &D,

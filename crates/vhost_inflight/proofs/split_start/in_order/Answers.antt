@@ -1,4 +1,4 @@
-use Rattle.std.proofs.Common.{◌≡◌, ◌∙◌, sym, arith}
+use Rattle.std.proofs.Common.{◌≡◌, ◌∙◌, arith}
 use Rattle.vhost_inflight.proofs.StartLemmas.{pairs_in_order}
 use Rattle.vhost_inflight.proofs.split_start.in_order.Goals as goal
 
