@@ -46,6 +46,7 @@ pub fn messages(case: &Case, base: u16) -> VecDeque<(Vec<u8>, usize)> {
         of(SET_VRING_NUM, &two(case.size.into()), 0),
         of(SET_VRING_BASE, &two(base.into()), 0),
         of(SET_VRING_ADDR, &addresses(case.ring, 0, parts), 0),
+        of(SET_VRING_CALL, &longs(&[case.ring.into()]), 1),
         of(SET_VRING_KICK, &longs(&[case.ring.into()]), 1),
         of(SET_VRING_ENABLE, &two(1), 0),
     ])
