@@ -10,7 +10,8 @@
 # which is named, or memory is missing, and 4 if none failed but one was too slow. More variants run only if they are
 # named: quick does a part of the work of default, two-queues and move in 3 GiB of memory, soak works for
 # REAL_GUEST_SOAK seconds (an hour by default) behind a lazy IOMMU and watches the memory and the descriptors of the
-# back end, and qemu, qemu-lazy, qemu-move and qemu-quick have QEMU's own device in place of ours.
+# back end, qemu, qemu-lazy, qemu-move and qemu-quick have QEMU's own device in place of ours, and packed-sigterm and
+# packed-sigkill fail: of a packed ring nothing is kept over an end of the back end.
 #
 # The guest is Debian's kernel with an initial RAM disk of busybox, made here: tools/real_guest_init.sh is its first
 # process. QEMU emulates the processor, so no KVM is needed.
@@ -62,6 +63,9 @@ variant() {
     no-flush) backend=--write-through ;;
     sigterm) work=load ending=TERM ;;
     sigkill) work=load ending=KILL ;;
+    two-queues-sigkill) work=load ending=KILL queues=2 backend="--queues 2" ;;
+    packed-sigterm) device=packed=on work=load ending=TERM ;;
+    packed-sigkill) device=packed=on work=load ending=KILL ;;
     grow) work=grow ops=10 files=2 ;;
     qemu) device=qemu ;;
     qemu-lazy) device=qemu iommu=lazy ops=10 files=2 ;;
@@ -75,7 +79,8 @@ variant() {
     *) return 1 ;;
     esac
 }
-VARIANTS=(default no-event-idx no-indirect packed packed-no-event-idx packed-no-indirect packed-strict queue-16 queue-256 queue-1024 two-queues huge-pages read-only no-flush sigterm sigkill grow
+VARIANTS=(default no-event-idx no-indirect packed packed-no-event-idx packed-no-indirect packed-strict
+    queue-16 queue-256 queue-1024 two-queues huge-pages read-only no-flush sigterm sigkill two-queues-sigkill grow
     strict-8 strict-64 strict lazy-8 lazy-64 lazy
     move move-file strict-move strict-move-file packed-move)
 
@@ -259,10 +264,11 @@ wait_for_lines() {
     return 1
 }
 
-# Ends the back end under load and starts it again, several times.
+# Ends the back end under load and starts it again, ten times, each at another moment of a request.
 end_backend() {
-    for _ in 1 2 3 4; do
+    for _ in 1 2 3 4 5 6 7 8 9 10; do
         wait_for_lines wrote 40 || return
+        sleep "0.0$((RANDOM % 90 + 10))"
         stop_backend "$ending"
         [ $((starts % 2)) = 0 ] && sleep 2
         start_backend
@@ -570,6 +576,12 @@ compare() {
     case $device in
     packed=on*) grep -aq '^features: .*RING_PACKED' "$room/backend" || echo "no ring was packed" >> "$room/why" ;;
     esac
+    if [ -n "$ending" ]; then
+        [ "$starts" = 11 ] || echo "the back end was started $starts times, not 11" >> "$room/why"
+        grep -aq '^features: .*INFLIGHT_SHMFD' "$room/backend" || echo "no region was kept" >> "$room/why"
+        # The driver was given a request that it does not have out.
+        grep -a 'is not a head\|out of range' "$room/said" >> "$room/why"
+    fi
     if [ "$starts" = 2 ] && [ -z "$ending" ]; then
         grep -aq '^log: [1-9]' "$room/backend" || echo "no page was logged" >> "$room/why"
     fi

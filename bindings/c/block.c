@@ -4,7 +4,16 @@
 
 #include <string.h>
 
-enum { GET_FEATURES = 1, SET_MEM_TABLE = 5, SET_VRING_KICK = 12, OUTPUT = 280, ROOM = 8 };
+enum {
+    GET_FEATURES = 1,
+    SET_MEM_TABLE = 5,
+    SET_VRING_KICK = 12,
+    SET_PROTOCOL_FEATURES = 16,
+    GET_INFLIGHT_FD = 31,
+    SET_INFLIGHT_FD = 32,
+    OUTPUT = 280,
+    ROOM = 8
+};
 
 #define GUEST 0x100000u
 #define USER 0x7f0000000000u
@@ -43,7 +52,7 @@ static int gives(uint32_t kind) {
 }
 
 static int opened(void) {
-    vmm_vhost_offer offer = {1ull << 32, 0, 1, 256, 0, 0};
+    vmm_vhost_offer offer = {1ull << 30 | 1ull << 32, 1 << 12, 1, 256, 0, 0};
     const vmm_backend_disk disk = {2048, 126, 4096, 0, 4096, 0};
     const uint8_t config[8] = {0, 8, 0, 0, 0, 0, 0, 0};
     offer.queues = 0;
@@ -60,7 +69,7 @@ static int features(void) {
     if (tell(0) != 0 || !gives(VMM_BACKEND_SEND) || actions[0].len != 20 || counts.bytes != 20) {
         return 10;
     }
-    if (output[0] != GET_FEATURES || output[4] != 5 || output[16] != 1 || output[12] != 0) {
+    if (output[0] != GET_FEATURES || output[4] != 5 || output[16] != 1 || output[12] != 0 || output[15] != 0x40) {
         return 11;
     }
     vmm_backend_sent(&connection, 20);
@@ -125,6 +134,70 @@ static int ring(void) {
     return gives(VMM_BACKEND_END) && actions[0].way == 2 && counts.state == 3 && tell(1) != 0 ? 0 : 33;
 }
 
+/* A message on a region for a ring of 16 descriptors: 272 bytes, rounded up by 64. */
+static void region(uint32_t number, uint64_t place) {
+    begin(number, 20);
+    put(320, 8);
+    put(place, 8);
+    put(1, 2);
+    put(16, 2);
+}
+
+/* A region of requests in flight is made for the front end. */
+static int made(void) {
+    const uint32_t failed = opened();
+    if (failed) {
+        return (int)failed;
+    }
+    begin(SET_PROTOCOL_FEATURES, 8);
+    put(1 << 12, 8);
+    if (tell(0) != 0 || gives(VMM_BACKEND_SEND) || counts.state != 0) {
+        return 60;
+    }
+    region(GET_INFLIGHT_FD, 0);
+    if (tell(0) != 0 || !gives(VMM_BACKEND_FILE) || actions[0].len != 320 || actions[0].place != 0) {
+        return 61;
+    }
+    vmm_backend_done(&connection);
+    if (!gives(VMM_BACKEND_SEND) || actions[0].len != 32 || output[0] != GET_INFLIGHT_FD || output[12] != 0x40 ||
+        output[13] != 1) {
+        return 62;
+    }
+    vmm_backend_sent(&connection, 32);
+    return 0;
+}
+
+/* The front end gives one, twice, and then no other can be made. */
+static int given(void) {
+    static uint8_t regions[2][320];
+    vmm_place place;
+    for (size_t i = 0; i < 2; i++) {
+        region(SET_INFLIGHT_FD, 0x7000);
+        if (tell(1) != 0 || !gives(VMM_BACKEND_REGION) || actions[0].len != 320 || actions[0].place != 0x7000) {
+            return 63;
+        }
+        place.at = regions[i];
+        place.size = sizeof regions[i];
+        vmm_backend_track(&connection, place);
+        vmm_backend_done(&connection);
+        if (gives(VMM_BACKEND_END) || counts.actions != 0 || counts.state != 0) {
+            return 64;
+        }
+    }
+    region(GET_INFLIGHT_FD, 0);
+    if (tell(0) != 0 || !gives(VMM_BACKEND_FILE)) {
+        return 65;
+    }
+    vmm_backend_failed(&connection);
+    vmm_backend_run(&connection, NULL, 0, 1, actions, ROOM, pieces, 16, output, OUTPUT, &counts);
+    if (counts.actions == 0 || actions[counts.actions - 1].kind != VMM_BACKEND_END ||
+        actions[counts.actions - 1].way != 2) {
+        return 66;
+    }
+    vmm_backend_close(&connection);
+    return 0;
+}
+
 static int hung_up(void) {
     const uint32_t failed = opened();
     if (failed) {
@@ -172,5 +245,7 @@ int main(void) {
     failed = failed ? failed : ring();
     vmm_backend_close(&connection);
     failed = failed ? failed : hung_up();
+    failed = failed ? failed : made();
+    failed = failed ? failed : given();
     return failed ? failed : unasked();
 }

@@ -833,7 +833,7 @@ typedef struct vmm_backend_disk {
 
 /* What is to be done, by its kind. Members that the kind does not name are 0.
  *
- * SEND: the next `len` bytes of the output are sent.
+ * SEND: the next `len` bytes of the output are sent, with the descriptor of a FILE that was made before.
  * UNMAP_ALL: all regions are unmapped.
  * MAP: region `id` is mapped from the descriptor `id` of the message: `len` bytes of its file from `place` on, at
  * `guest` in guest memory and at `user` in the front end's. Then comes vmm_backend_mapped or vmm_backend_failed.
@@ -853,7 +853,11 @@ typedef struct vmm_backend_disk {
  * after vmm_backend_hang_up.
  * STOPPED: the ring is stopped, and its descriptor of kicks is let go.
  * ASK: the front end is sent vmm_vhost_miss on the back end's own channel, for the I/O address `place` and the access
- * `way`, which `ring` needs. Each has a reply, for vmm_backend_answered. */
+ * `way`, which `ring` needs. Each has a reply, for vmm_backend_answered.
+ * FILE: a shared file of `len` zeros is made, for a region of requests in flight. Then comes vmm_backend_done or
+ * vmm_backend_failed. The next SEND has its descriptor, which is closed after it.
+ * REGION: the region of requests in flight is mapped, shared, from the descriptor of the message: `len` bytes of its
+ * file from `place` on, which the file has. Then come vmm_backend_track and vmm_backend_done, or vmm_backend_failed. */
 typedef struct vmm_backend_action {
     uint32_t kind, ring, id, way, count, more, left;
     uint64_t place, len, guest, user;
@@ -871,7 +875,9 @@ enum {
     VMM_BACKEND_MARK,
     VMM_BACKEND_END,
     VMM_BACKEND_STOPPED,
-    VMM_BACKEND_ASK
+    VMM_BACKEND_ASK,
+    VMM_BACKEND_FILE,
+    VMM_BACKEND_REGION
 };
 
 /* Bytes of a region, from an offset on. */
@@ -903,6 +909,10 @@ uint32_t vmm_backend_message(vmm_backend *connection, const uint8_t *message, si
 /* The region that was asked for lies at this place, which is the connection's until UNMAP_ALL or its close. 0, or 1
  * if it is refused: then it is the caller's again. */
 uint32_t vmm_backend_mapped(vmm_backend *connection, vmm_place place);
+
+/* The region of requests in flight lies at this place, which is the connection's until the next one comes here or its
+ * close: UNMAP_ALL leaves it. It is no part of guest memory. vmm_backend_done comes after it. */
+void vmm_backend_track(vmm_backend *connection, vmm_place place);
 
 /* What was asked for was done, or could not be: then the connection ends. */
 void vmm_backend_done(vmm_backend *connection);

@@ -159,7 +159,8 @@ pub enum Over {
 /// What is to be done, before the next event.
 #[derive(Clone, Copy, Debug, PartialEq, Eq)]
 pub enum Action<'a> {
-    /// The front end is sent these bytes. [`BackEnd::sent`] is told how many its socket took.
+    /// The front end is sent these bytes, with the descriptor of a file that was made before. [`BackEnd::sent`] is told
+    /// how many its socket took.
     Send {
         /// The bytes.
         bytes: &'a [u8],
@@ -208,6 +209,19 @@ pub enum Action<'a> {
         iova: u64,
         /// The access.
         access: Permissions,
+    },
+    /// A shared file of zeros is made, for a region of requests in flight, and it goes with the next [`Action::Send`].
+    /// [`BackEnd::done`] or [`BackEnd::failed`] is due.
+    File {
+        /// How many bytes it has.
+        len: u64,
+    },
+    /// The region of requests in flight is mapped from the descriptor that came: [`BackEnd::track`].
+    Region {
+        /// The place of its first byte in the file.
+        offset: u64,
+        /// How many bytes it has.
+        len: u64,
     },
 }
 
@@ -281,6 +295,21 @@ struct FilePart {
 }
 
 impl FilePart {
+    // A part of a file that has all of its bytes. What is no regular file says it has none, or cannot be mapped.
+    fn of(file: BorrowedFd<'_>, offset: u64, len: u64) -> Result<FilePart, SharedBlockError> {
+        let file = file.try_clone_to_owned().map(File::from);
+        let data = file.and_then(|it| it.metadata()).map_err(SharedBlockError::NotMapped)?;
+        if data.len().checked_sub(offset).is_none_or(|left| left < len) {
+            return Err(SharedBlockError::FileShort);
+        }
+        Ok(FilePart {
+            device: data.dev(),
+            inode: data.ino(),
+            offset,
+            len,
+        })
+    }
+
     fn shares(&self, other: &FilePart) -> bool {
         let is_same_file = (self.device, self.inode) == (other.device, other.inode);
         let end = |it: &FilePart| it.offset.saturating_add(it.len);
@@ -296,6 +325,15 @@ struct Mapped {
     mapping: Mapping,
 }
 
+impl Mapped {
+    fn new(part: FilePart, file: BorrowedFd<'_>) -> Result<Mapped, SharedBlockError> {
+        let len = usize::try_from(part.len).map_err(|_| SharedBlockError::FileShort)?;
+        let mapping = Mapping::of_file(len, file, part.offset).map_err(SharedBlockError::NotMapped)?;
+        let guard = Guard::new(mapping.whole()).map_err(SharedBlockError::NotMapped)?;
+        Ok(Mapped { part, guard, mapping })
+    }
+}
+
 /// A connection with a front end.
 ///
 /// It moves to another thread, and no two threads have it at once.
@@ -305,6 +343,8 @@ pub struct BackEnd {
     regions: Vec<Mapped>,
     // Those that were unmapped by the message that is under way: a new table may have the same parts of files.
     before: Vec<Mapped>,
+    // The region of requests in flight.
+    tracked: Option<Mapped>,
     pub(crate) log: Option<Log>,
     pub(crate) vectors: Vectors,
     pub(crate) lacks_memory: bool,
@@ -319,6 +359,7 @@ impl BackEnd {
             device,
             regions: Vec::new(),
             before: Vec::new(),
+            tracked: None,
             log: None,
             vectors: Vectors::default(),
             lacks_memory: false,
@@ -334,33 +375,33 @@ impl BackEnd {
     /// Maps a region that an action asked for from its file, and says so. If a mapping that was there before has the
     /// same part of the same file, that is used. If it cannot be mapped, [`failed`](BackEnd::failed) is due.
     pub fn map(&mut self, region: &Region, file: BorrowedFd<'_>) -> Result<(), SharedBlockError> {
-        let not_mapped = SharedBlockError::NotMapped;
         let len = usize::try_from(region.len).map_err(|_| SharedBlockError::FileShort)?;
         check(len, Some((file, region.offset)))?;
-        let data = file
-            .try_clone_to_owned()
-            .and_then(|it| File::from(it).metadata())
-            .map_err(not_mapped)?;
-        let part = FilePart {
-            device: data.dev(),
-            inode: data.ino(),
-            offset: region.offset,
-            len: region.len,
-        };
-        if self.regions.iter().any(|other| other.part.shares(&part)) {
+        let part = FilePart::of(file, region.offset, region.len)?;
+        if self.regions.iter().chain(&self.tracked).any(|it| it.part.shares(&part)) {
             return Err(SharedBlockError::Shared);
         }
         let mapped = match self.before.iter().position(|other| other.part == part) {
             Some(place) => self.before.swap_remove(place),
-            None => {
-                let mapping = Mapping::of_file(len, file, region.offset).map_err(not_mapped)?;
-                let guard = Guard::new(mapping.whole()).map_err(not_mapped)?;
-                Mapped { part, guard, mapping }
-            }
+            None => Mapped::new(part, file)?,
         };
         if self.device.mapped(&mapped.mapping) == 0 {
             self.regions.push(mapped);
         }
+        Ok(())
+    }
+
+    /// Maps the region of requests in flight that an action asked for, in place of the one before, if its file has it
+    /// and guest memory has no byte of it. [`done`](BackEnd::done) or [`failed`](BackEnd::failed) is due after it.
+    pub fn track(&mut self, offset: u64, len: u64, file: BorrowedFd<'_>) -> Result<(), SharedBlockError> {
+        let part = FilePart::of(file, offset, len)?;
+        if self.regions.iter().any(|it| it.part.shares(&part)) {
+            return Err(SharedBlockError::Shared);
+        }
+        let mapped = Mapped::new(part, file)?;
+        self.device.track(&mapped.mapping);
+        // The library has let go of the one before.
+        self.tracked = Some(mapped);
         Ok(())
     }
 
@@ -372,13 +413,16 @@ impl BackEnd {
         Some((mapping.bytes().as_ptr(), mapping.len()))
     }
 
-    /// Whether memory of the front end went away: the log, or a region that is mapped. What was read of it since then
+    /// Whether memory of the front end went away: the log, or a region that is mapped, of guest memory or of requests
+    /// in flight. What was read of it since then
     /// are zeros. [`survive_lost_memory`](crate::survive_lost_memory) has to be called before, or an access of the
     /// library ends the process.
     #[inline]
     pub fn is_lost(&self) -> bool {
         let is_lost = |it: &Mapped| it.guard.is_lost();
-        self.lacks_memory || self.regions.iter().any(is_lost) || self.log.as_ref().is_some_and(Log::is_lost)
+        self.lacks_memory
+            || self.regions.iter().chain(&self.tracked).any(is_lost)
+            || self.log.as_ref().is_some_and(Log::is_lost)
     }
 
     /// What the last action asked for was done, except for a mapping of a region.

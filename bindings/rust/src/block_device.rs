@@ -39,12 +39,13 @@ const FEATURES: [(u64, &str); 13] = [
 /// A front end reads the device's configuration, of the protocol's features.
 pub(crate) const CONFIG: u64 = 1 << 9;
 
-const PROTOCOL_FEATURES: [(u64, &str); 5] = [
+const PROTOCOL_FEATURES: [(u64, &str); 6] = [
     (1, "MQ"),
     (1 << 1, "LOG_SHMFD"),
     (1 << 3, "REPLY_ACK"),
     (1 << 5, "BACKEND_REQ"),
     (CONFIG, "CONFIG"),
+    (1 << 12, "INFLIGHT_SHMFD"),
 ];
 
 /// A disk as a device. Its blocks are sectors of 512 bytes. What was written is stable after a FLUSH; if a driver does

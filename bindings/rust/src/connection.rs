@@ -56,6 +56,7 @@ use crate::in_order::InOrder;
 use crate::incoming::{self, Incoming};
 use crate::notify::{signal, Kick, Watchdog};
 use crate::pieces::Pieces;
+use crate::shared::memfd;
 pub use crate::stats::Stats;
 use crate::vhost_user::{config_change, miss, Refusal, ANSWER_LEN, MAX_MESSAGE};
 use std::error::Error;
@@ -188,6 +189,8 @@ pub struct Connection<'a> {
     rings: Vec<Ring>,
     channel: Option<Channel>,
     log_call: Option<File>,
+    // What goes with the next reply.
+    file: Option<OwnedFd>,
     // A notification had to wait. None is made after that.
     has_waited: bool,
     stats: Stats,
@@ -220,6 +223,7 @@ impl<'a> Connection<'a> {
             rings,
             channel: None,
             log_call: None,
+            file: None,
             has_waited: false,
             stats: Stats::default(),
             socket,
@@ -390,7 +394,9 @@ impl<'a> Connection<'a> {
                 self.notify(|it| it.log_call.as_ref().filter(|_| new > 0));
             }
             Action::Send { bytes } => {
-                incoming::send(&self.socket, bytes).map_err(Ended::failed("replying"))?;
+                let file = self.file.take();
+                let file = file.as_ref().map(AsFd::as_fd);
+                incoming::send(&self.socket, bytes, file).map_err(Ended::failed("replying"))?;
                 self.back_end.sent(bytes.len());
             }
             Action::Broke(ring) => {
@@ -403,7 +409,9 @@ impl<'a> Connection<'a> {
             }
             Action::Stopped(ring) => self.forget_kick(ring, Notified::Not, device),
             Action::End(why) => return Err(self.end_of(why)),
-            Action::Map(_) | Action::Log { .. } | Action::Keep { .. } => self.obey(action, device),
+            Action::Map(_) | Action::Log { .. } | Action::Keep { .. } | Action::File { .. } | Action::Region { .. } => {
+                self.obey(action, device)
+            }
         }
         Ok(())
     }
@@ -412,7 +420,7 @@ impl<'a> Connection<'a> {
     fn ask(&self, message: impl FnOnce(&mut [u8; MAX_MESSAGE]) -> &[u8]) -> io::Result<()> {
         let room = &mut [0; MAX_MESSAGE];
         let channel = self.channel.as_ref();
-        channel.map_or(Ok(()), |it| incoming::send(&it.socket, message(room)))
+        channel.map_or(Ok(()), |it| incoming::send(&it.socket, message(room), None))
     }
 
     #[inline]
@@ -439,6 +447,8 @@ impl<'a> Connection<'a> {
         let (what, done) = match action {
             Action::Map(region) => ("the table of memory", self.map(&region)),
             Action::Log { offset, len } => ("the log", self.set_log(offset, len)),
+            Action::File { len } => (IN_FLIGHT, self.make_file(len).map_err(Into::into)),
+            Action::Region { offset, len } => (IN_FLIGHT, self.track(offset, len)),
             Action::Keep { what, has_one } => (name_of(what), self.keep(what, has_one, device).map_err(Into::into)),
             _ => return,
         };
@@ -460,6 +470,20 @@ impl<'a> Connection<'a> {
         Kind::expect(&file, &[Kind::File])?;
         self.back_end.map_log(offset, len, file.as_fd())?;
         self.stats.logged = 0;
+        self.back_end.done();
+        Ok(())
+    }
+
+    fn make_file(&mut self, len: u64) -> io::Result<()> {
+        self.file = Some(memfd(len)?);
+        self.back_end.done();
+        Ok(())
+    }
+
+    fn track(&mut self, offset: u64, len: u64) -> Result<(), Box<dyn Error>> {
+        let file = self.incoming.take_descriptor(0)?;
+        Kind::expect(&file, &[Kind::File])?;
+        self.back_end.track(offset, len, file.as_fd())?;
         self.back_end.done();
         Ok(())
     }
@@ -532,6 +556,8 @@ impl<'a> Connection<'a> {
         self.stats.errors += u64::from(self.parts.end(part, is_served));
     }
 }
+
+const IN_FLIGHT: &str = "the region of requests in flight";
 
 fn name_of(what: Kept) -> &'static str {
     match what {

@@ -110,6 +110,8 @@ unsafe extern "C" {
 
     fn vmm_backend_mapped(back_end: *mut Handle, place: Place) -> u32;
 
+    fn vmm_backend_track(back_end: *mut Handle, place: Place);
+
     fn vmm_backend_done(back_end: *mut Handle);
 
     fn vmm_backend_failed(back_end: *mut Handle);
@@ -448,6 +450,16 @@ impl Device {
         // an `isize` counts. Nothing in this process has a reference to them, and they stay mapped as long as the
         // library has them: `BackEnd` keeps the mapping.
         unsafe { vmm_backend_mapped(self.handle.as_ptr(), place) }
+    }
+
+    /// Lends the bytes of a mapping, which the library has until it is lent others or this is dropped.
+    pub(crate) fn track(&mut self, mapping: &Mapping) {
+        let place = Place {
+            at: mapping.bytes(),
+            size: mapping.len(),
+        };
+        // SAFETY: as `mapped`.
+        unsafe { vmm_backend_track(self.handle.as_ptr(), place) }
     }
 
     pub(crate) fn done(&mut self) {

@@ -5,7 +5,7 @@ use crate::descriptor::Kind;
 use crate::system;
 use crate::vhost_user::{self, Refusal, MAX_DESCRIPTORS, MAX_MESSAGE};
 use std::io;
-use std::os::fd::{AsRawFd, FromRawFd, OwnedFd, RawFd};
+use std::os::fd::{AsRawFd, BorrowedFd, FromRawFd, OwnedFd, RawFd};
 use std::os::unix::net::UnixStream;
 
 // What stands before the descriptors: how many bytes all have, the level, and the kind.
@@ -59,11 +59,27 @@ fn c_int_at(bytes: &[u8], at: usize) -> i32 {
     i32::from_ne_bytes(*bytes[at..].first_chunk().expect("it has 4 bytes"))
 }
 
-/// Sends all bytes, or fails: a front end reads the replies that it asks for.
-pub(crate) fn send(socket: &UnixStream, bytes: &[u8]) -> io::Result<()> {
+// What goes beside the bytes of a message that has a descriptor.
+fn beside(descriptor: BorrowedFd<'_>) -> [u64; 3] {
+    // The level and the kind are one word, whose lower half comes first.
+    let kind = system::SOL_SOCKET as u64 | (system::SCM_RIGHTS as u64) << 32;
+    let len = HEAD + size_of::<RawFd>();
+    [len as u64, kind, descriptor.as_raw_fd() as u64]
+}
+
+/// Sends all bytes, or fails: a front end reads the replies that it asks for. A descriptor goes with them.
+pub(crate) fn send(socket: &UnixStream, bytes: &[u8], descriptor: Option<BorrowedFd<'_>>) -> io::Result<()> {
+    let mut part = system::Vector {
+        at: bytes.as_ptr().cast_mut(),
+        len: bytes.len(),
+    };
+    let mut control = descriptor.map(beside);
+    let control = control.as_mut().map_or(&mut [][..], |it| it);
+    let message = system::Message::new(&mut part, control);
     let flags = system::MSG_DONTWAIT | system::MSG_NOSIGNAL;
-    // SAFETY: the declaration fits the function, and the pointer and the length are those of `bytes`.
-    let count = unsafe { system::send(socket.as_raw_fd(), bytes.as_ptr(), bytes.len(), flags) };
+    // SAFETY: the declaration fits the function, which reads the message: one part, which is `bytes`, and as much
+    // beside it as it says.
+    let count = unsafe { system::sendmsg(socket.as_raw_fd(), &message, flags) };
     match usize::try_from(count) {
         Ok(count) if count == bytes.len() => Ok(()),
         Ok(_) => Err(io::Error::new(

@@ -18,7 +18,7 @@ unsafe extern "C" {
 
     pub(crate) fn recvmsg(fd: c_int, message: *mut Message, flags: c_int) -> isize;
 
-    pub(crate) fn send(fd: c_int, bytes: *const u8, size: usize, flags: c_int) -> isize;
+    pub(crate) fn sendmsg(fd: c_int, message: *const Message, flags: c_int) -> isize;
 
     pub(crate) fn pread64(fd: c_int, bytes: *mut u8, size: usize, place: i64) -> isize;
 
@@ -97,7 +97,7 @@ pub(crate) struct Message {
 }
 
 impl Message {
-    /// One part, and room for what comes beside it.
+    /// One part, and what goes beside it or room for what comes there.
     pub(crate) fn new(part: &mut Vector, control: &mut [u64]) -> Message {
         Message {
             name: null_mut(),

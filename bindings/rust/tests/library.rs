@@ -75,6 +75,7 @@ fn all_crates_below_are_watched() {
         [
             "vhost_backend",
             "vhost_calls",
+            "vhost_inflight",
             "vhost_iotlb",
             "vhost_message",
             "vhost_user",

@@ -12,8 +12,11 @@ use std::thread;
 use std::time::Duration;
 use vm_memory_proved::block::SECTOR_LEN;
 
-// How often the lock is tried, and how long each try waits: who looks at a device has it for a moment.
-const TRIES: u32 = 10;
+// How often the lock is tried, and how long each try waits. Who looks at a device has it for a moment, and a program
+// that was killed until the last of its reads and writes has ended: with those a successor would share guest memory and
+// the image. After a moment it is said.
+const TRIES: u32 = 210;
+const MOMENT: u32 = 10;
 const PAUSE: Duration = Duration::from_millis(50);
 
 pub struct Disk {
@@ -31,7 +34,7 @@ impl Disk {
     pub fn open(path: &Path, read_only: bool, is_locked: bool) -> io::Result<Disk> {
         let file = OpenOptions::new().read(true).write(!read_only).open(path)?;
         if is_locked {
-            lock(&file, read_only)?;
+            lock(&file, path, read_only)?;
         }
         Disk::new(file, path.file_name().unwrap_or_default(), File::sync_data)
     }
@@ -81,12 +84,16 @@ fn sectors_of(mut file: &File) -> io::Result<u64> {
     Ok(file.seek(SeekFrom::End(0))? / SECTOR_LEN as u64)
 }
 
-// Locks the image against other programs that lock it.
-fn lock(file: &File, read_only: bool) -> io::Result<()> {
+// Locks the image against other programs that lock it, by the descriptor that reads and writes it.
+fn lock(file: &File, path: &Path, read_only: bool) -> io::Result<()> {
     let mut done = system::lock(file, !read_only);
-    for _ in 1..TRIES {
+    for number in 1..TRIES {
         if !matches!(&done, Err(error) if error.kind() == WouldBlock) {
             break;
+        }
+        if number == MOMENT {
+            let (image, seconds) = (path.display(), (PAUSE * (TRIES - MOMENT)).as_secs());
+            eprintln!("vhost-user-blk: {image}: another program has locked it: waiting {seconds} s for its end");
         }
         thread::sleep(PAUSE);
         done = system::lock(file, !read_only);

@@ -77,8 +77,8 @@ impl Epoll {
 
 // ---- locks, and descriptors that are inherited
 
-/// Locks a file for this process, alone or with others that only read, as long as it is open. `WouldBlock` if another
-/// process has a lock that forbids it.
+/// Locks a file, alone or with others that only read, as long as it is open: by this process, or by the system, which
+/// still reads or writes it for a process that was killed. `WouldBlock` if a lock of another opening forbids it.
 pub fn lock(file: &File, is_alone: bool) -> io::Result<()> {
     let kind = if is_alone { libc::LOCK_EX } else { libc::LOCK_SH };
     // SAFETY: it takes numbers.

@@ -197,7 +197,10 @@ fn an_image_is_served_once() {
     let program = Program::start("locked", LEN, &[]);
     let folder = &program.folder;
     let [other, image] = ["t", "disk.img"].map(|name| folder.join(name).display().to_string());
-    let said = format!("vhost-user-blk: {image}: another program has locked it (--no-lock serves it anyway)\n");
+    let said = format!(
+        "vhost-user-blk: {image}: another program has locked it: waiting 10 s for its end\n\
+         vhost-user-blk: {image}: another program has locked it (--no-lock serves it anyway)\n"
+    );
     for more in [&[][..], &["--read-only"]] {
         let words = [&["--socket", &other, "--image", &image], more].concat();
         assert_eq!(ran(command(), &words), (Some(1), String::new(), said.clone()));

@@ -20,6 +20,7 @@ const OWN_END: RawFd = -1;
 // Where the parts of a ring of 16 descriptors lie in a memory of 64 KiB, whose rest is for requests.
 const SIZE: u64 = 0x1_0000;
 const PARTS: [u64; 3] = [0x1000, 0x2000, 0x3000];
+const REGION: usize = 0x1000;
 
 struct Message {
     bytes: Vec<u8>,
@@ -31,6 +32,7 @@ struct Things {
     ram: OwnedFd,
     // Its file shrinks and grows while it is mapped.
     other_ram: OwnedFd,
+    region: OwnedFd,
     kick: OwnedFd,
     call: OwnedFd,
     pipe: [OwnedFd; 2],
@@ -54,6 +56,7 @@ impl Things {
         Things {
             ram: memfd(SIZE as usize),
             other_ram: memfd(SIZE as usize),
+            region: memfd(REGION),
             kick: eventfd(),
             call: eventfd(),
             pipe: pipe(),
@@ -67,7 +70,7 @@ impl Things {
     }
 
     fn any(&self, numbers: &mut Numbers) -> RawFd {
-        match numbers.below(12) {
+        match numbers.below(13) {
             0 => self.ram.as_raw_fd(),
             1 => self.other_ram.as_raw_fd(),
             2 => self.kick.as_raw_fd(),
@@ -79,8 +82,20 @@ impl Things {
             8 => self.zero.as_raw_fd(),
             9 => self.epoll.as_raw_fd(),
             10 => self.terminal.as_raw_fd(),
+            11 => self.region.as_raw_fd(),
             _ => OWN_END,
         }
+    }
+
+    // The region of requests in flight is fresh, mostly, or has anything, or what the last program left.
+    fn fill_region(&self, numbers: &mut Numbers) {
+        let bytes = match numbers.below(8) {
+            0 => return,
+            1 => numbers.bytes(REGION),
+            2 => (0..REGION).map(|_| numbers.below(8) as u8 / 7).collect(),
+            _ => vec![0; REGION],
+        };
+        std::os::unix::fs::FileExt::write_all_at(&File::from(again(&self.region)), &bytes, 0).unwrap();
     }
 
     // Notifies, and takes what the program notified by. Then reads of the kick or writes of the call may wait.
@@ -137,11 +152,18 @@ fn usual(things: &Things, ram: RawFd, is_packed: bool, numbers: &mut Numbers) ->
     vec![
         of(GET_FEATURES, 0, &[], &[]),
         of(GET_PROTOCOL_FEATURES, 0, &[], &[]),
-        of(SET_PROTOCOL_FEATURES, 0, &0x209_u64.to_le_bytes(), &[]),
+        of(SET_PROTOCOL_FEATURES, 0, &0x1209_u64.to_le_bytes(), &[]),
         of(GET_QUEUE_NUM, 0, &[], &[]),
         of(SET_OWNER, 0, &[], &[]),
         of(GET_CONFIG, 0, &asked, &[]),
         of(SET_FEATURES, NEED_REPLY, &bits.to_le_bytes(), &[]),
+        of(GET_INFLIGHT_FD, 0, &inflight(0, 0, 1, 16), &[]),
+        of(
+            SET_INFLIGHT_FD,
+            0,
+            &inflight(REGION as u64, 0, 1, 16),
+            &[things.region.as_raw_fd()],
+        ),
         of(SET_MEM_TABLE, NEED_REPLY, &FrontEnd::table(&[(0, SIZE, 0)]), &[ram]),
         of(SET_VRING_NUM, 0, &two(0, 16), &[]),
         of(SET_VRING_BASE, 0, &two(0, base), &[]),
@@ -359,6 +381,7 @@ fn survive_front_ends(mut program: Program) {
             ring(&mut numbers)
         };
         std::os::unix::fs::FileExt::write_all_at(&file, &bytes, 0).unwrap();
+        things.fill_region(&mut numbers);
         let mut messages = usual(&things, ram.as_raw_fd(), is_packed, &mut numbers);
         change(&mut messages, &things, &mut numbers);
         sent += messages.len();

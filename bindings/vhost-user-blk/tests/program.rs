@@ -91,7 +91,7 @@ fn the_configuration_tells_the_disk() {
 }
 
 fn expect_configuration(mut front: FrontEnd) {
-    assert_eq!(front.ask_u64(GET_PROTOCOL_FEATURES), 0x22b);
+    assert_eq!(front.ask_u64(GET_PROTOCOL_FEATURES), 0x122b);
     front.negotiate(USUAL | 1 << 12);
     assert_eq!(front.ask_u64(GET_QUEUE_NUM), 3);
     let mut asked = [0, 60, 0].map(u32::to_le_bytes).concat();

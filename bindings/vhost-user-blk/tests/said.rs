@@ -23,7 +23,7 @@ fn what_was_served_is_said_again_and_again() {
     let mut front = started(&program);
     program.expect_said(
         "features: FLUSH, INDIRECT_DESC, PROTOCOL_FEATURES, VERSION_1; \
-         protocol features: MQ, LOG_SHMFD, REPLY_ACK, BACKEND_REQ, CONFIG\nring 0 is started\n",
+         protocol features: MQ, LOG_SHMFD, REPLY_ACK, BACKEND_REQ, CONFIG, INFLIGHT_SHMFD\nring 0 is started\n",
     );
     // A request of two parts is one.
     front.put_long(0, 0, 3, &[(8 << 20, (1 << 20) + 512)]);

@@ -110,13 +110,7 @@ impl<'a> Actions<'a> {
                 Action::Send { bytes }
             }
             raw::UNMAP_ALL => Action::UnmapAll,
-            3 => Action::Map(Region {
-                number: raw.id,
-                offset: raw.place,
-                len: raw.len,
-                guest_address: raw.guest,
-                user_address: raw.user,
-            }),
+            3 => Action::Map(region_of(raw)),
             4 => Action::Log {
                 offset: raw.place,
                 len: raw.len,
@@ -135,6 +129,11 @@ impl<'a> Actions<'a> {
             10 => Action::End(over_of(raw)),
             11 => Action::Stopped(raw.ring),
             12 => ask_of(raw),
+            13 => Action::File { len: raw.len },
+            14 => Action::Region {
+                offset: raw.place,
+                len: raw.len,
+            },
             kind => unreachable!("the library has no action of the kind {kind}"),
         }
     }
@@ -157,6 +156,16 @@ impl<'a> Actions<'a> {
             goes_on: raw.more == 1,
             left: raw.left,
         }
+    }
+}
+
+fn region_of(raw: &raw::Action) -> Region {
+    Region {
+        number: raw.id,
+        offset: raw.place,
+        len: raw.len,
+        guest_address: raw.guest,
+        user_address: raw.user,
     }
 }
 

@@ -37,6 +37,11 @@ impl Guest {
         Guest { at, len, is_mapping }
     }
 
+    /// Where the bytes lie.
+    pub fn at(&self) -> *mut u8 {
+        self.at
+    }
+
     pub fn read(&self, from: usize, len: usize) -> Vec<u8> {
         assert!(from + len <= self.len);
         let mut bytes = vec![0; len];

@@ -1,7 +1,7 @@
 //! A connection's end of a front end.
 
 use super::protocol::{message, NEED_REPLY};
-use super::system::send;
+use super::system::{receive, send};
 use super::LONG;
 use std::io::{ErrorKind, Read};
 use std::os::fd::{AsRawFd, OwnedFd, RawFd};
@@ -31,6 +31,18 @@ impl Link {
         let mut payload = vec![0; number(8) as usize];
         self.socket.read_exact(&mut payload).unwrap();
         payload
+    }
+
+    /// The payload of the reply to a request, and the descriptor that comes with it.
+    pub fn ask_for_file(&mut self, request: u32, payload: &[u8]) -> (Vec<u8>, Option<OwnedFd>) {
+        self.send(request, 0, payload, &[]);
+        let mut header = [0; 12];
+        let file = receive(&self.socket, &mut header);
+        let number = |at: usize| u32::from_le_bytes(header[at..at + 4].try_into().unwrap());
+        assert_eq!((number(0), number(4)), (request, 5));
+        let mut payload = vec![0; number(8) as usize];
+        self.socket.read_exact(&mut payload).unwrap();
+        (payload, file)
     }
 
     pub fn ask(&mut self, request: u32, payload: &[u8]) -> Vec<u8> {

@@ -3,6 +3,7 @@
 #![allow(dead_code, unused_imports)]
 
 pub mod faults;
+pub mod inflight;
 pub mod link;
 pub mod log;
 pub mod numbers;
@@ -12,6 +13,7 @@ pub mod protocol;
 pub mod system;
 
 pub use faults::Faults;
+pub use inflight::Region;
 pub use link::Link;
 pub use numbers::Numbers;
 pub use program::{image_of, work_of_its_end, Program};
@@ -122,6 +124,13 @@ impl FrontEnd {
             ram,
             rings: Vec::new(),
         }
+    }
+
+    /// Connects to a program that was started again, with the memory and the rings that are there.
+    pub fn connect_again(&mut self, program: &Program) {
+        self.link = Link::new(program.socket());
+        self.io = None;
+        self.shift = 0;
     }
 
     pub fn negotiate(&mut self, features: u64) {

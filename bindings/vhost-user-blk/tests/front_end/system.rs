@@ -129,6 +129,35 @@ pub fn send(socket: &UnixStream, bytes: &[u8], descriptors: &[RawFd]) -> bool {
     }
 }
 
+/// Receives as many bytes, and a descriptor if one comes with them.
+pub fn receive(socket: &UnixStream, bytes: &mut [u8]) -> Option<OwnedFd> {
+    let mut part = libc::iovec {
+        iov_base: bytes.as_mut_ptr().cast(),
+        iov_len: bytes.len(),
+    };
+    let mut control = [0_u64; 8];
+    // SAFETY: numbers and pointers may be 0.
+    let mut message: libc::msghdr = unsafe { zeroed() };
+    message.msg_iov = &mut part;
+    message.msg_iovlen = 1;
+    message.msg_control = control.as_mut_ptr().cast();
+    message.msg_controllen = size_of_val(&control) as _;
+    // SAFETY: the message is whole, and its parts have as many bytes as it says.
+    let count = unsafe { libc::recvmsg(socket.as_raw_fd(), &mut message, libc::MSG_CMSG_CLOEXEC) };
+    assert_eq!((count, message.msg_flags & libc::MSG_CTRUNC), (bytes.len() as isize, 0));
+    // SAFETY: the system has filled the control in, and what it opened is nobody else's.
+    unsafe {
+        let header = libc::CMSG_FIRSTHDR(&message);
+        if header.is_null() {
+            return None;
+        }
+        assert_eq!((*header).cmsg_len as usize, libc::CMSG_LEN(4) as usize);
+        Some(OwnedFd::from_raw_fd(
+            libc::CMSG_DATA(header).cast::<RawFd>().read_unaligned(),
+        ))
+    }
+}
+
 /// Leaves a socket room for a few parts of what is sent.
 pub fn narrow(socket: &UnixStream) {
     let size = 1_i32;

@@ -32,6 +32,7 @@ impl World<'_> {
                 }
                 Action::Serve(part) => Act::Serve(served(&part)),
                 Action::Ask { ring, iova, access } => Act::Ask(ring, iova, access as u8),
+                Action::File { .. } | Action::Region { .. } => panic!("INFLIGHT_SHMFD is not offered here"),
             });
         }
         (acts, marks)

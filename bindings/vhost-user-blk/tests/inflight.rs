@@ -1,0 +1,374 @@
+//! The program is killed while requests are under way, and another one goes on by the region that the front end kept.
+
+mod front_end;
+
+use front_end::inflight::{read_of, set_up, started, Head, SIZE};
+use front_end::log::{begin, taken, LOG_LEN};
+use front_end::*;
+use std::collections::BTreeMap;
+use std::fs::File;
+use std::os::fd::{AsRawFd, FromRawFd, OwnedFd};
+use std::os::unix::fs::FileExt;
+use std::os::unix::net::UnixStream;
+use std::process::Command;
+use std::thread::sleep;
+use std::time::{Duration, Instant};
+
+const LEN: usize = 1 << 20;
+const UNSUPPORTED: u32 = 11;
+
+// Another program goes on, and nobody notifies it.
+fn go_on(front: &mut FrontEnd, program: &Program, features: u64, region: &Region, base: u16) {
+    front.connect_again(program);
+    front.negotiate(features);
+    set_up(front, features, Some(region));
+    for index in 0..front.rings.len() {
+        take(&front.rings[index].kick);
+        front.restart_ring(index, base);
+    }
+}
+
+fn kill(program: Program) {
+    program.end(libc::SIGKILL);
+}
+
+#[test]
+fn a_region_is_made_for_a_front_end() {
+    let program = Program::start("inflight_made", LEN, &["--queues", "3"]);
+    let mut front = program.connect();
+    front.negotiate(USUAL);
+    let descriptors = program.descriptors();
+    for (rings, size) in [(1, 1), (1, 64), (3, 128), (3, 1024)] {
+        let region = front.new_region(rings, size);
+        assert_eq!((region.size, region.offset), (u64::from(rings) * region.part_len(), 0));
+        let file = File::from(again(&region.file));
+        assert_eq!(file.metadata().unwrap().len(), region.size);
+        assert_eq!(region.read(0, region.size as usize), vec![0; region.size as usize]);
+        // It cannot shrink while it is mapped.
+        assert!(file.set_len(0).is_err());
+    }
+    // The front end has the only descriptor of each.
+    assert_eq!(program.descriptors(), descriptors);
+    // A later region takes the place of the one before.
+    let regions = [0; 3].map(|_| front.new_region(1, 64));
+    let page = 4096;
+    for region in &regions {
+        assert!(front.give_region(region));
+        assert_eq!(program.shared(), page);
+    }
+    assert_eq!(program.descriptors(), descriptors);
+}
+
+// The request that comes back first is not the one that was popped first.
+#[test]
+fn a_request_is_served_again_after_a_kill() {
+    for (name, words, features) in [
+        ("inflight_killed", &[][..], USUAL),
+        ("inflight_killed_event_idx", &[], USUAL | EVENT_IDX),
+        ("inflight_killed_iommu", IOMMU, USUAL | ACCESS_PLATFORM),
+    ] {
+        for base in [0, 0xffff] {
+            expect_served_again(name, words, features, base);
+        }
+    }
+}
+
+fn expect_served_again(name: &str, words: &[&str], features: u64, base: u16) {
+    let program = Program::start_on_a_hole(name, 4 << 30, words);
+    let folder = program.folder.clone();
+    let (mut front, region) = started(&program, features, base);
+    front.put_long(0, 0, 0, &[(8 << 20, 4 << 20); 512]);
+    front.publish(0, 0);
+    front.put_long(1, UNSUPPORTED, 0, &[(9 << 20, 16)]);
+    front.publish(0, 1);
+    front.kick(0);
+    assert_eq!(front.take_used(0).0, 1);
+    program.wait_for_work();
+    kill(program);
+    assert_eq!(front.used_idx(0), base.wrapping_add(1));
+    assert_eq!(region.in_flight(0), [0]);
+    // What comes meanwhile, on the head that came back, too.
+    for (head, sector) in [(1, 5), (2, 7)] {
+        front.put_long(head, 0, sector, &[(10 << 20, 512)]);
+        front.publish(0, head);
+    }
+    let program = Program::start_again(&folder, words);
+    let used = front.used_idx(0);
+    go_on(&mut front, &program, features, &region, used);
+    let heads = [0; 3].map(|_| front.take_used(0).0);
+    assert_eq!(heads, [0, 1, 2]);
+    program.rest();
+    assert_eq!(front.used_idx(0), base.wrapping_add(4));
+    assert_eq!(region.in_flight(0), []);
+    let head = Head {
+        version: 1,
+        descriptors: SIZE,
+        last_batch_head: 2,
+        used_idx: base.wrapping_add(4),
+    };
+    assert_eq!(region.head(0), head);
+}
+
+// Each request that is published comes back once, and those that are served in their order.
+struct Load {
+    front: FrontEnd,
+    region: Region,
+    numbers: Numbers,
+    free: Vec<u16>,
+    // By the heads that are out: when it was published, the sectors that are read, or none if it is refused.
+    out: BTreeMap<u16, (u64, Option<(u64, u32)>)>,
+    published: u64,
+    served: u64,
+}
+
+impl Load {
+    fn new(program: &Program) -> Load {
+        let (front, region) = started(program, USUAL, 0xfff0);
+        Load {
+            front,
+            region,
+            numbers: Numbers(7),
+            free: (0..20).map(|place| 3 * place).collect(),
+            out: BTreeMap::new(),
+            published: 0,
+            served: 0,
+        }
+    }
+
+    // Works with a program, and ends with requests that may be under way.
+    fn work(&mut self) {
+        for _ in 0..=self.numbers.below(20) {
+            let count = 1 + self.numbers.below(20);
+            self.publish(count);
+            self.front.kick(0);
+            self.take();
+        }
+        self.publish(20);
+        self.front.kick(0);
+        let moment = Duration::from_micros(self.numbers.below(300));
+        let since = Instant::now();
+        while since.elapsed() < moment {}
+    }
+
+    fn publish(&mut self, count: u64) {
+        for _ in 0..count {
+            if self.free.is_empty() {
+                return;
+            }
+            let place = self.numbers.below(self.free.len() as u64) as usize;
+            let head = self.free.swap_remove(place);
+            let (sector, len) = (self.numbers.below(1000), 512 * (1 + self.numbers.below(16)) as u32);
+            let is_served = !self.numbers.one_in(4);
+            let kind = if is_served { 0 } else { UNSUPPORTED };
+            self.front.put_request(0, head, kind, sector, len);
+            self.published += 1;
+            self.out
+                .insert(head, (self.published, is_served.then_some((sector, len))));
+            self.front.publish(0, head);
+        }
+    }
+
+    fn take(&mut self) {
+        let (head, len) = self.front.take_used(0);
+        let asked = self.out.remove(&(head as u16));
+        let (number, asked) = asked.unwrap_or_else(|| panic!("head {head} comes back, which is not out"));
+        let (data, status) = self.front.places(0, head as u16);
+        let status = self.front.read(status, 1)[0];
+        if let Some((sector, wanted)) = asked {
+            assert!(number > self.served, "{number} comes back after {}", self.served);
+            self.served = number;
+            assert_eq!((status, len), (0, wanted + 1));
+            assert_eq!(self.front.read(data, wanted as usize), read_of(sector, wanted as usize));
+        } else {
+            assert_eq!((status, len), (2, 1));
+        }
+        self.free.push(head as u16);
+    }
+
+    fn take_all(&mut self) {
+        while self.front.used_idx(0) != self.front.rings[0].next_used {
+            self.take();
+        }
+    }
+}
+
+#[test]
+fn each_request_comes_back_once_over_many_kills() {
+    let mut program = Program::start("inflight_load", LEN, &[]);
+    let folder = program.folder.clone();
+    let mut load = Load::new(&program);
+    let (begun, mut caught) = (Instant::now(), 0);
+    while caught < 10 && begun.elapsed() < LONG {
+        load.work();
+        kill(program);
+        caught += u32::from(!load.region.in_flight(0).is_empty());
+        let more = load.numbers.below(3);
+        if load.numbers.one_in(2) {
+            load.take_all();
+            load.publish(more);
+        }
+        program = Program::start_again(&folder, &[]);
+        // Where the ring goes on is in the region and in the ring.
+        let base = load
+            .numbers
+            .of(&[load.front.used_idx(0), load.front.rings[0].next_used, 0xfff0]);
+        go_on(&mut load.front, &program, USUAL, &load.region, base);
+    }
+    println!("{caught} kills among requests, {} requests", load.published);
+    assert!(caught > 0, "no request was under way when the program was killed");
+    while !load.out.is_empty() {
+        load.take();
+    }
+    program.rest();
+    load.take_all();
+    assert_eq!(load.region.in_flight(0), []);
+}
+
+// The region of another ring lies after that of the first, and the file has other bytes beside it.
+#[test]
+fn a_region_lies_where_the_front_end_says() {
+    let program = Program::start("inflight_place", LEN, &["--queues", "2"]);
+    for offset in [0, 3 * 4096, 64, 4096 + 192] {
+        let mut front = program.connect();
+        front.negotiate(USUAL | BLK_MQ);
+        let mut region = front.new_region(2, SIZE);
+        let len = 1 << 16;
+        region.file = memfd(len);
+        File::from(again(&region.file))
+            .write_all_at(&[0xa5; 1 << 16], 0)
+            .unwrap();
+        region.offset = offset;
+        region.write(0, &vec![0; region.size as usize]);
+        set_up(&mut front, USUAL, Some(&region));
+        for index in 0..2 {
+            front.start_ring(SIZE, 7);
+            assert_eq!(front.read_disk(index, 3, 512), read_of(3, 512));
+            assert_eq!(front.read_disk(index, 4, 512), read_of(4, 512));
+        }
+        program.rest();
+        for ring in 0..2 {
+            assert_eq!(region.head(ring).version, 1);
+            assert_eq!(region.head(ring).used_idx, 9);
+            assert_eq!(region.in_flight(ring), []);
+        }
+        let mut bytes = vec![0; len];
+        File::from(again(&region.file)).read_exact_at(&mut bytes, 0).unwrap();
+        let is_beside = |at: &usize| !(offset..offset + region.size).contains(&(*at as u64));
+        assert!((0..len).filter(is_beside).all(|at| bytes[at] == 0xa5));
+    }
+}
+
+// The crash may lie between a store to the used ring and its mark. This ring has three pages, and what is served now
+// lies in the first one.
+#[test]
+fn the_used_ring_is_marked_after_a_start() {
+    let program = Program::start("inflight_log", LEN, &[]);
+    let folder = program.folder.clone();
+    let mut front = program.connect();
+    front.negotiate(USUAL);
+    let region = front.new_region(1, 1024);
+    set_up(&mut front, USUAL, Some(&region));
+    front.start_ring(1024, 0);
+    front.read_disk(0, 1, 512);
+    kill(program);
+    let program = Program::start_again(&folder, &[]);
+    front.connect_again(&program);
+    front.negotiate(USUAL);
+    set_up(&mut front, USUAL, Some(&region));
+    let rings = std::mem::take(&mut front.rings);
+    let log = begin(&mut front, USUAL, LOG_LEN);
+    front.rings = rings;
+    let (number, kick) = (u64::to_le_bytes(0), again(&front.rings[0].kick));
+    assert!(front.is_done(SET_VRING_NUM, &two(0, 1024), &[]));
+    assert!(front.is_done(SET_VRING_BASE, &two(0, 1), &[]));
+    let logged = front.addresses(0, true);
+    assert!(front.is_done(SET_VRING_ADDR, &logged, &[]));
+    assert!(front.is_done(SET_VRING_KICK, &number, &[&kick]));
+    assert!(front.is_done(SET_VRING_ENABLE, &two(0, 1), &[]));
+    program.rest();
+    let (page, taken) = (front.used_ring(0) / PAGE, taken(&log));
+    assert!((page..page + 3).all(|it| taken.contains(&it)), "{taken:?}, not {page}");
+}
+
+// Without a region, and with one for fewer rings, a ring is served as before.
+#[test]
+fn a_ring_without_a_region_is_served() {
+    let program = Program::start("inflight_without", LEN, &["--queues", "2"]);
+    let mut front = program.connect();
+    front.negotiate(USUAL | BLK_MQ);
+    let region = front.new_region(1, SIZE);
+    set_up(&mut front, USUAL, Some(&region));
+    for index in 0..2 {
+        front.start_ring(SIZE, 0);
+        assert_eq!(front.read_disk(index, 3, 512), read_of(3, 512));
+    }
+    // The feature has to be accepted.
+    drop(front);
+    let mut front = program.connect();
+    front.ask_u64(GET_FEATURES);
+    let protocol = front.ask_u64(GET_PROTOCOL_FEATURES) & !INFLIGHT_SHMFD;
+    front.send(SET_PROTOCOL_FEATURES, 0, &protocol.to_le_bytes(), &[]);
+    front.send(SET_FEATURES, 0, &USUAL.to_le_bytes(), &[]);
+    front.send(GET_INFLIGHT_FD, 0, &inflight(0, 0, 1, SIZE), &[]);
+    assert!(front.is_let_go());
+}
+
+// ---- the lock
+
+// A descriptor of the same open file as one of the program's, as the system has it while it reads or writes.
+fn opening_of(program: &Program, number: i32) -> OwnedFd {
+    // SAFETY: these take numbers.
+    unsafe {
+        let process = libc::syscall(libc::SYS_pidfd_open, program.pid(), 0) as i32;
+        assert!(process >= 0);
+        let process = OwnedFd::from_raw_fd(process);
+        let file = libc::syscall(libc::SYS_pidfd_getfd, process.as_raw_fd(), number, 0) as i32;
+        assert!(file >= 0, "{}", std::io::Error::last_os_error());
+        OwnedFd::from_raw_fd(file)
+    }
+}
+
+// The program's descriptors of its image.
+fn descriptors_of_the_image(program: &Program) -> Vec<i32> {
+    let all = std::fs::read_dir(format!("/proc/{}/fd", program.pid())).unwrap();
+    let paths = all.map(|it| it.unwrap().path());
+    let image = paths.filter(|path| std::fs::read_link(path).is_ok_and(|to| to == program.image));
+    image
+        .map(|path| path.file_name().unwrap().to_str().unwrap().parse().unwrap())
+        .collect()
+}
+
+#[test]
+fn a_successor_waits_for_what_a_killed_program_began() {
+    let program = Program::start("inflight_lock", LEN, &[]);
+    let folder = program.folder.clone();
+    let (mut front, region) = started(&program, USUAL, 0);
+    front.read_disk(0, 1, 512);
+    // What reads and writes the image holds the lock, and there is no other.
+    let numbers = descriptors_of_the_image(&program);
+    assert_eq!(numbers.len(), 1);
+    let opening = opening_of(&program, numbers[0]);
+    kill(program);
+    let (socket, said) = (folder.join("s"), folder.join("said"));
+    let mut command = Command::new(env!("CARGO_BIN_EXE_vhost-user-blk"));
+    command = Program::command(command, &folder, &[]);
+    command.stderr(File::create(&said).unwrap());
+    let begun = Instant::now();
+    let starting = std::thread::spawn(move || {
+        let program = Program::spawn(&folder, command);
+        (program, Instant::now())
+    });
+    let text = || std::fs::read_to_string(&said).unwrap();
+    while !text().contains("another program has locked it: waiting") {
+        assert!(begun.elapsed() < LONG, "{}", text());
+        sleep(Duration::from_millis(5));
+    }
+    sleep(Duration::from_secs(1));
+    assert!(UnixStream::connect(&socket).is_err(), "it did not wait");
+    let ended = Instant::now();
+    drop(opening);
+    let (program, listened) = starting.join().unwrap();
+    assert!(listened > ended, "it did not wait");
+    go_on(&mut front, &program, USUAL, &region, 1);
+    assert_eq!(front.read_disk(0, 2, 512), read_of(2, 512));
+}
