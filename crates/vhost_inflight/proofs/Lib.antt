@@ -2,5 +2,17 @@ pub mod AgainLemmas
 pub mod ByteLemmas
 pub mod CrashLemmas
 pub mod EntryLemmas
+pub mod PackedBeginLemmas
+pub mod PackedChainLemmas
+pub mod PackedCoreLemmas
+pub mod PackedCrashLemmas
+pub mod PackedEntryLemmas
+pub mod PackedGuestLemmas
+pub mod PackedPopLemmas
+pub mod PackedRestartLemmas
+pub mod PackedReturnLemmas
+pub mod PackedRingLemmas
+pub mod PackedStartLemmas
+pub mod PackedStoreLemmas
 pub mod RingLemmas
 pub mod StartLemmas

@@ -1,3 +1,7 @@
+pub mod Packed
+pub mod PackedBytes
+pub mod PackedCrash
+pub mod PackedStart
 pub mod Split
 pub mod SplitAgain
 pub mod SplitBytes

@@ -3,6 +3,10 @@
 //! rules.
 #![tactic(auto)]
 
+mod packed;
+pub mod packed_laws;
+mod packed_region;
+mod packed_start;
 mod split;
 pub mod split_examples;
 pub mod split_laws;
@@ -10,6 +14,11 @@ mod split_region;
 mod split_start;
 mod store;
 
+pub use packed::{PackedInFlight, PackedReturn, PackedStore};
+pub use packed_region::{
+    PackedCopy, PackedEntry, PackedHeader, PackedPosition, packed_old_slot, packed_region_len,
+};
+pub use packed_start::{PackedAgain, PackedStart, PackedStartError, start_packed};
 pub use split::{SplitInFlight, SplitStore};
 pub use split_region::{SplitEntry, SplitHeader, split_region_len};
 pub use split_start::{SplitStart, StartError, start_split};
