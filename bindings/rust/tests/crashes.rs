@@ -18,24 +18,21 @@ fn requests() -> u64 {
 #[test]
 fn whatever_a_crash_leaves_is_served_once_and_in_order() {
     let mut player = Player::new(1);
-    for (size, descriptors, ring, rings, base) in [
-        (1, 1, 0, 1, 0),
-        (2, 5, 1, 2, 0xfffe),
-        (4, 4, 0, 3, 0xfff0),
-        (16, 16, 1, 2, 77),
+    for (size, descriptors, ring, rings, base, event_idx) in [
+        (1, 1, 0, 1, 0, true),
+        (2, 5, 1, 2, 0xfffe, false),
+        (4, 4, 0, 3, 0xfff0, true),
+        (16, 16, 1, 2, 77, false),
     ] {
-        for event_idx in [false, true] {
-            let case = Case {
-                size,
-                descriptors,
-                ring,
-                rings,
-                event_idx,
-                base,
-            };
-            println!("{case:?}");
-            player.play(&case, requests());
-            println!("{:?}", player.counts);
-        }
+        let case = Case {
+            size,
+            descriptors,
+            ring,
+            rings,
+            event_idx,
+            base,
+        };
+        player.play(&case, requests());
+        println!("{case:?}: {:?}", player.counts);
     }
 }

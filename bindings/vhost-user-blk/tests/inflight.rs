@@ -180,7 +180,8 @@ impl Load {
             assert_eq!((status, len), (0, wanted + 1));
             assert_eq!(self.front.read(data, wanted as usize), read_of(sector, wanted as usize));
         } else {
-            assert_eq!((status, len), (2, 1));
+            // The data before the status are not written.
+            assert_eq!((status, len), (2, 0));
         }
         self.free.push(head as u16);
     }

@@ -76,7 +76,7 @@ impl Machine {
             features: FEATURES | EVENT_IDX | FLUSH,
             protocol_features: MQ | REPLY_ACK | INFLIGHT_SHMFD,
             queues: case.rings.into(),
-            max_queue_size: 1024,
+            max_queue_size: 16,
             ..Offer::default()
         };
         let disk = Disk {
