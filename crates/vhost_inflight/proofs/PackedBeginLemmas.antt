@@ -12,7 +12,7 @@ use Rattle.vhost_inflight.specs.declared.packed_region.PackedCopy.{PackedCopy}
 use Rattle.vhost_inflight.specs.declared.packed_region.PackedEntry.{PackedEntry}
 use Rattle.vhost_inflight.specs.declared.packed_region.PackedHeader.{PackedHeader}
 use Rattle.vhost_inflight.specs.declared.packed_region.PackedPosition.{PackedPosition}
-use Rattle.vhost_inflight.specs.declared.packed_start.PackedStartError.{PackedStartError}
+use Rattle.vhost_inflight.specs.declared.packed_error.PackedStartError.{PackedStartError}
 use Rattle.vhost_inflight.specs.declared.packed_start.Place.{Place}
 use Rattle.vhost_inflight.proofs.PackedEntryLemmas.{any-changed, other_entry, this_entry}
 use Rattle.vhost_inflight.proofs.PackedChainLemmas.{Chain, Links, copies-heads, free_list-links, heads, slots, slots_of-heads, uses, uses_here, uses_more, uses_other}

@@ -7,7 +7,7 @@ use Rattle.vhost_inflight.specs.Packed.{copy_of, entry_of}
 use Rattle.vhost_inflight.specs.PackedStart.{chain_fault, chain_of, chains_fault, copies_of, free_list, is_among, last_of, nodes_of, num_of, or_else, repeats, seen_too, slots_of, walk}
 use Rattle.vhost_inflight.specs.declared.packed_region.PackedCopy.{PackedCopy}
 use Rattle.vhost_inflight.specs.declared.packed_region.PackedEntry.{PackedEntry}
-use Rattle.vhost_inflight.specs.declared.packed_start.PackedStartError.{PackedStartError}
+use Rattle.vhost_inflight.specs.declared.packed_error.PackedStartError.{PackedStartError}
 use Rattle.vhost_inflight.proofs.PackedStartLemmas.{one_if}
 
 -- ---- how often

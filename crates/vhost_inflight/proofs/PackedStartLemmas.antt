@@ -17,7 +17,7 @@ use Rattle.vhost_inflight.specs.declared.packed_region.PackedCopy.{PackedCopy}
 use Rattle.vhost_inflight.specs.declared.packed_region.PackedEntry.{PackedEntry}
 use Rattle.vhost_inflight.specs.declared.packed_region.PackedPosition.{PackedPosition}
 use Rattle.vhost_inflight.specs.declared.packed_start.Opened.{Opened}
-use Rattle.vhost_inflight.specs.declared.packed_start.PackedStartError.{PackedStartError}
+use Rattle.vhost_inflight.specs.declared.packed_error.PackedStartError.{PackedStartError}
 use Rattle.vhost_inflight.proofs.PackedEntryLemmas.{rises_once}
 
 -- ---- counts and heads, before they are in order

@@ -1,6 +1,7 @@
 pub mod Packed
 pub mod PackedBytes
 pub mod PackedCrash
+pub mod PackedExamples
 pub mod PackedStart
 pub mod Split
 pub mod SplitAgain

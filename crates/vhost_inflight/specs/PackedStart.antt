@@ -11,8 +11,8 @@ use Rattle.vhost_inflight.specs.declared.packed_region.PackedPosition.{PackedPos
 use Rattle.vhost_inflight.specs.declared.packed_start.Opened.{Opened}
 use Rattle.vhost_inflight.specs.declared.packed_start.PackedAgain.{PackedAgain}
 use Rattle.vhost_inflight.specs.declared.packed_start.PackedStart.{PackedStart}
-use Rattle.vhost_inflight.specs.declared.packed_start.PackedStartError.{PackedStartError}
-use Rattle.vhost_inflight.specs.declared.packed_start.PackedStartError.TheVariants as refused
+use Rattle.vhost_inflight.specs.declared.packed_error.PackedStartError.{PackedStartError}
+use Rattle.vhost_inflight.specs.declared.packed_error.PackedStartError.TheVariants as refused
 use Rattle.vhost_inflight.specs.declared.packed_start.Place.{Place}
 use Rattle.vhost_inflight.specs.declared.packed_start.Taken.{Taken}
 

@@ -4,6 +4,8 @@
 #![tactic(auto)]
 
 mod packed;
+mod packed_error;
+pub mod packed_examples;
 pub mod packed_laws;
 mod packed_region;
 mod packed_start;
@@ -15,10 +17,11 @@ mod split_start;
 mod store;
 
 pub use packed::{PackedInFlight, PackedReturn, PackedStore};
+pub use packed_error::PackedStartError;
 pub use packed_region::{
     PackedCopy, PackedEntry, PackedHeader, PackedPosition, packed_old_slot, packed_region_len,
 };
-pub use packed_start::{PackedAgain, PackedStart, PackedStartError, start_packed};
+pub use packed_start::{PackedAgain, PackedStart, start_packed};
 pub use split::{SplitInFlight, SplitStore};
 pub use split_region::{SplitEntry, SplitHeader, split_region_len};
 pub use split_start::{SplitStart, StartError, start_split};

@@ -2,7 +2,9 @@
 ghost use Rattle.std.specs.Prelude.{◌≡◌, ◌+◌, ◌*◌, None, Some, if◌then◌else◌};
 ghost use Rattle.vhost_inflight.specs.Packed.{add_stores, after_add, after_begin_pop, after_end_pop, after_return};
 ghost use Rattle.vhost_inflight.specs.Packed.{begin_pop_stores, begin_return_stores, can_add, can_begin_pop};
-ghost use Rattle.vhost_inflight.specs.Packed.{can_end_pop, can_return, end_pop_stores, end_return_stores, kept_of, place};
+ghost use Rattle.vhost_inflight.specs.Packed.{can_end_pop, can_return, end_pop_stores, end_return_stores, kept_of};
+ghost use Rattle.vhost_inflight.specs.Packed.{place};
+ghost use Rattle.vhost_inflight.specs.declared.store.Value.TheVariants.{Quad, Word};
 
 use crate::packed_region::{PackedCopy, PackedEntry, PackedPosition};
 use crate::store::{Store, Value};
@@ -50,67 +52,54 @@ fn entry_offset(index: u16) -> usize
     32 + 32 * index as usize
 }
 
+fn word(offset: usize, value: u16) -> Store
+    ensures { result ≡ record { offset = offset; value = Word value } }
+{
+    Store {
+        offset,
+        value: Value::Word(value),
+    }
+}
+
+fn quad(offset: usize, value: u64) -> Store
+    ensures { result ≡ record { offset = offset; value = Quad value } }
+{
+    Store {
+        offset,
+        value: Value::Quad(value),
+    }
+}
+
 impl PackedStore {
     /// The store to the region's bytes.
     pub fn place(self) -> Store
         ensures { result ≡ place self }
     {
         match self {
-            PackedStore::Num(index, num) => Store {
-                offset: entry_offset(index) + 6,
-                value: Value::Word(num),
-            },
-            PackedStore::Counter(index, count) => Store {
-                offset: entry_offset(index) + 8,
-                value: Value::Quad(count),
-            },
+            PackedStore::Num(index, num) => word(entry_offset(index) + 6, num),
+            PackedStore::Counter(index, count) => quad(entry_offset(index) + 8, count),
             PackedStore::InFlight(index, is) => Store {
                 offset: entry_offset(index),
                 value: Value::Byte(u8::from(is)),
             },
-            PackedStore::Last(index, last) => Store {
-                offset: entry_offset(index) + 4,
-                value: Value::Word(last),
-            },
-            PackedStore::Next(index, next) => Store {
-                offset: entry_offset(index) + 2,
-                value: Value::Word(next),
-            },
-            PackedStore::Buffer(index, id, flags, len) => Store {
-                offset: entry_offset(index) + 16,
-                value: Value::Quad(
-                    u64::from(id) + 0x1_0000 * u64::from(flags) + 0x1_0000_0000 * u64::from(len),
-                ),
-            },
-            PackedStore::Addr(index, addr) => Store {
-                offset: entry_offset(index) + 24,
-                value: Value::Quad(addr),
-            },
-            PackedStore::FreeHead(index) => Store {
-                offset: FREE_HEAD,
-                value: Value::Word(index),
-            },
-            PackedStore::OldFreeHead(index) => Store {
-                offset: OLD_FREE_HEAD,
-                value: Value::Word(index),
-            },
-            PackedStore::Used(used, old) => Store {
-                offset: USED,
-                value: Value::Quad(
-                    u64::from(used.slot)
-                        + 0x1_0000 * u64::from(old.slot)
-                        + 0x1_0000_0000 * u64::from(used.wrap)
-                        + 0x100_0000_0000 * u64::from(old.wrap),
-                ),
-            },
-            PackedStore::DescNum(count) => Store {
-                offset: 10,
-                value: Value::Word(count),
-            },
-            PackedStore::Version(version) => Store {
-                offset: 8,
-                value: Value::Word(version),
-            },
+            PackedStore::Last(index, last) => word(entry_offset(index) + 4, last),
+            PackedStore::Next(index, next) => word(entry_offset(index) + 2, next),
+            PackedStore::Buffer(index, id, flags, len) => quad(
+                entry_offset(index) + 16,
+                u64::from(id) + 0x1_0000 * u64::from(flags) + 0x1_0000_0000 * u64::from(len),
+            ),
+            PackedStore::Addr(index, addr) => quad(entry_offset(index) + 24, addr),
+            PackedStore::FreeHead(index) => word(FREE_HEAD, index),
+            PackedStore::OldFreeHead(index) => word(OLD_FREE_HEAD, index),
+            PackedStore::Used(used, old) => quad(
+                USED,
+                u64::from(used.slot)
+                    + 0x1_0000 * u64::from(old.slot)
+                    + 0x1_0000_0000 * u64::from(used.wrap)
+                    + 0x100_0000_0000 * u64::from(old.wrap),
+            ),
+            PackedStore::DescNum(count) => word(10, count),
+            PackedStore::Version(version) => word(8, version),
         }
     }
 }

@@ -11,6 +11,8 @@ ghost use Rattle.vhost_inflight.specs.declared.packed_region.PackedPosition.{Pac
 /// again the chains that the guest sees as popped and not returned, each of them with its descriptors, in the order of
 /// the pops, and none else; and the next available position is the one behind all that were popped. No chain was popped
 /// twice, or returned without a pop, twice or in another slot than the guest's next one, and no call was refused.
+///
+/// Witness: vhost_inflight::a_packed_example_is_cut_off
 pub fn every_crash_leaves_what_was_popped()
     ensures { (descriptors size began : ℕ) (r : PackedRegion) (flags : ℕ → ℕ) (events : List Event)
         → IsFresh descriptors r → 0 < size → size ≤ descriptors → descriptors < 2 ^ 16
@@ -19,6 +21,8 @@ pub fn every_crash_leaves_what_was_popped()
 {}
 
 /// What a start serves again has one order.
+///
+/// Witness: vhost_inflight::a_packed_example_is_cut_off
 pub fn one_list_is_served_again()
     ensures { (r : PackedRegion) (base : PackedPosition) (flags : ℕ) (xs ys : List ℕ)
         → Flies r base flags xs → Flies r base flags ys → xs ≡ ys }

@@ -13,66 +13,15 @@ ghost use Rattle.vhost_inflight.specs.PackedStart.{opening_fault, place_of, repe
 ghost use Rattle.vhost_inflight.specs.PackedStart.{start_fault, start_stores, taken_header, walk};
 
 use crate::packed::{PackedInFlight, PackedStore};
+use crate::packed_error::PackedStartError;
 use crate::packed_region::{
     PACKED_ENTRY_LEN, PACKED_HEADER_LEN, PackedCopy, PackedEntry, PackedHeader, PackedPosition,
     entries_in, header_in,
 };
 use std::alloc::{AllocError, Global};
-use thiserror::Error;
 
 // The flags by which a slot says whether it is available or used.
 const AVAIL_AND_USED: u16 = 0x8080;
-
-/// Why a packed queue does not start on its region. Nothing is stored then.
-#[derive(Clone, Copy, Debug, PartialEq, Eq, Error)]
-pub enum PackedStartError {
-    /// An allocation failed.
-    #[error("out of memory")]
-    Memory,
-    /// The region has fewer bytes than its descriptors need.
-    #[error("too short a region")]
-    TooShort,
-    /// The ring has more descriptors than the region.
-    #[error("a ring larger than the region")]
-    RingSize,
-    /// The layout has another version.
-    #[error("unknown version of the region")]
-    Version,
-    /// The region was written for another number of descriptors.
-    #[error("a region for another number of descriptors")]
-    DescNum,
-    /// The used position is outside of the ring.
-    #[error("a used position outside of the ring")]
-    Position,
-    /// The list of free entries leads outside of the region, or has no end.
-    #[error("invalid list of free entries")]
-    FreeList,
-    /// An entry is neither in flight nor not.
-    #[error("invalid mark of an entry in flight")]
-    Mark,
-    /// A count that no run reaches.
-    #[error("invalid count of a chain in flight")]
-    Counter,
-    /// A chain of no entries, or chains of more than the ring has.
-    #[error("invalid number of a chain's entries")]
-    ChainLen,
-    /// An entry of a chain is free, is of another chain too, or is outside of the region.
-    #[error("an entry of a chain in flight that is not its own")]
-    Shared,
-    /// The last entry of a chain is another one.
-    #[error("a chain in flight that ends elsewhere")]
-    Last,
-}
-
-impl From<AllocError> for PackedStartError {
-    ghost use Rattle.vhost_inflight.specs.declared.packed_start.PackedStartError.TheVariants.{Memory};
-
-    ghost from_gives = { λ e r. r ≡ Memory };
-
-    fn from(_: AllocError) -> PackedStartError {
-        PackedStartError::Memory
-    }
-}
 
 /// A chain to serve again.
 #[derive(Clone, Copy, Debug, PartialEq, Eq)]
