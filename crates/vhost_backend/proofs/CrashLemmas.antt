@@ -4,7 +4,7 @@ use Rattle.std.proofs.lemmas.Bool.{le-ltb}
 use Rattle.std.specs.Prelude.{nat_lt, map, if◌then◌else◌}
 use Rattle.std.specs.List.{slice_get}
 use Rattle.virtio_blk.specs.declared.request.DeviceLimits.{DeviceLimits}
-use Rattle.virtio_queue.specs.Any.{after_used, at_next, next_avail_of}
+use Rattle.virtio_queue.specs.Any.{after_used, at_next, next_avail_of, of_head}
 use Rattle.virtio_queue.specs.declared.any.AnyQueue.{AnyQueue}
 use Rattle.virtio_queue.specs.declared.any.AnyQueue.TheVariants.{Split, Packed}
 use Rattle.virtio_queue.specs.declared.error.QueueError.{QueueError}
@@ -22,7 +22,7 @@ use Rattle.vhost_backend.proofs.InFlightLemmas.{first_same}
 use Rattle.vhost_backend.proofs.QueueAtLemmas.{none_some}
 use Rattle.vhost_backend.specs.BlockQueue.{BlockQueueState, FlightState, GivesBack, Publishes, buffer_by, gave}
 use Rattle.vhost_backend.specs.Crash.{GoesOnAs, PopsBy, ReturnsBy, StartsAs, stores_to}
-use Rattle.vhost_backend.specs.Flight.{AfterRegion, AfterStart, Flies as FliesIn, FliesAt, GivesIn, HappensIn, Lands, Resumes, StartsBy, Tracks, TracksAt, is_due, is_open, next_used_of, size_of, start_refused, with_kept}
+use Rattle.vhost_backend.specs.Flight.{AfterRegion, AfterStart, Flies as FliesIn, FliesAt, FliesPacked, GivesIn, GivesPacked, GoesOnFrom, HappensIn, Lands, Resumes, StartsBy, Tracks, TracksAt, is_due, is_open, next_again, next_used_of, passed_too, size_of, start_refused, with_kept}
 use Rattle.vhost_backend.specs.RingMemory.{MemoryStep, Returned}
 use Rattle.vhost_backend.specs.SetUp.{is_split}
 use Rattle.vhost_backend.specs.Sight.{Sight}
@@ -79,7 +79,7 @@ module _ {H : Type 0} (step : H → (s : MemoryStep) → Returned s → H → Ty
   not_due : (way : Option Sight) (q : BlockQueueState) → q.flight.is_unread ≡ false → is_due way q ≡ false
   not_due way q read = ap (λ (v : Bool). v && is_open way q) read
 
-  flies_in : (terms : DeviceLimits) (way : Option Sight) (q : BlockQueueState) (old : H) (a : Option RingEvent)
+  pub flies_in : (terms : DeviceLimits) (way : Option Sight) (q : BlockQueueState) (old : H) (a : Option RingEvent)
       (q' : BlockQueueState) (new : H) → q.flight.is_unread ≡ false → HappensIn step terms way q old a q' new
       → FliesIn step terms way q old a q' new
   flies_in terms way q old a q' new read p = subst (λ (v : Bool).
@@ -87,13 +87,13 @@ module _ {H : Type 0} (step : H → (s : MemoryStep) → Returned s → H → Ty
 
   flies_anew : (p : FlightPlace) (k : SplitInFlight) (chain : Chain) (q : BlockQueueState) (old : H)
       (q' : BlockQueueState) (new : H) → q.flight ≡ stores_to p k []
-      → FliesAt step (slice_get q.flight.again 0) chain q old q' new
+      → FliesAt step (next_again q.flight) chain q old q' new
       → Tracks step p (pop_stores k chain.id) old new × (q'.flight ≡ stores_to p (after_pop k) [])
   flies_anew p k chain q old q' new is flies =
       let anew : FliesAt step None chain q old q' new =
-      subst (λ (f : FlightState). FliesAt step (slice_get f.again 0) chain q old q' new) is flies in
+      subst (λ (f : FlightState). FliesAt step (next_again f) chain q old q' new) is flies in
       let both : Tracks step p (pop_stores k chain.id) old new × (q' ≡ with_kept q (after_pop k)) =
-      subst (λ (f : FlightState). MatchOption f.kept ((q' ≡ q) × (new ≡ old))
+      subst (λ (f : FlightState). MatchOption f.kept (FliesPacked step chain.id q old q' new)
       (λ k. TracksAt step f.place (pop_stores k chain.id) old new × (q' ≡ with_kept q (after_pop k)))) is anew in (
         both.0,
         ap (λ (v : BlockQueueState). v.flight) both.1
@@ -110,7 +110,7 @@ module _ {H : Type 0} (step : H → (s : MemoryStep) → Returned s → H → Ty
       let (mid_q, mid, first, flies) =
       flies_in terms way q old e q' new (ap (λ (f : FlightState). f.is_unread) is) happens in
       let same : mid_q.flight ≡ stores_to p k [] =
-      first_same step terms way q (slice_get q.flight.again 0) old e mid_q mid first ∙ is in
+      first_same step terms way q (next_again q.flight) old e mid_q mid (ap (λ (f : FlightState). f.packed) is) first ∙ is in
       let (tracks, flight) = flies_anew p k chain mid_q mid q' new same flies in (
         record { deeds = map Region (pop_stores k chain.id); kept = after_pop k },
         pop_stores k chain.id,
@@ -125,12 +125,11 @@ module _ {H : Type 0} (step : H → (s : MemoryStep) → Returned s → H → Ty
 
   flies_again : (p : FlightPlace) (k : SplitInFlight) (head : ℕ) (rest : List ℕ) (chain : Chain) (q : BlockQueueState)
       (old : H) (q' : BlockQueueState) (new : H) → q.flight ≡ stores_to p k (head ∷ rest)
-      → FliesAt step (slice_get q.flight.again 0) chain q old q' new → q'.flight ≡ stores_to p k rest
+      → FliesAt step (next_again q.flight) chain q old q' new → q'.flight ≡ stores_to p k rest
   flies_again p k head rest chain q old q' new is flies =
-      let again : FliesAt step (Some head) chain q old q' new =
-      subst (λ (f : FlightState). FliesAt step (slice_get f.again 0) chain q old q' new) is flies in
-      ap (λ (v : BlockQueueState). v.flight) again.0
-      ∙ ap (λ (f : FlightState). record f { again = drop 1 f.again }) is
+      let again : FliesAt step (Some (of_head head, [])) chain q old q' new =
+      subst (λ (f : FlightState). FliesAt step (next_again f) chain q old q' new) is flies in
+      ap (λ (v : BlockQueueState). v.flight) again.0 ∙ ap (λ (f : FlightState). passed_too f chain.id) is
 
   pub pops_again_as : (terms : DeviceLimits) (way : Option Sight) (q q' : BlockQueueState) (old new : H)
       (chain : Chain) (parts bytes : ℕ) (p : FlightPlace) (k : SplitInFlight) (head : ℕ) (rest : List ℕ)
@@ -141,7 +140,7 @@ module _ {H : Type 0} (step : H → (s : MemoryStep) → Returned s → H → Ty
       let (mid_q, mid, first, flies) =
       flies_in terms way q old e q' new (ap (λ (f : FlightState). f.is_unread) is) happens in
       let same : mid_q.flight ≡ stores_to p k (head ∷ rest) =
-      first_same step terms way q (slice_get q.flight.again 0) old e mid_q mid first ∙ is in
+      first_same step terms way q (next_again q.flight) old e mid_q mid (ap (λ (f : FlightState). f.packed) is) first ∙ is in
       flies_again p k head rest chain mid_q mid q' new same flies
 
   -- ---- returns
@@ -153,7 +152,7 @@ module _ {H : Type 0} (step : H → (s : MemoryStep) → Returned s → H → Ty
       → ReturnsBy step p (effect descriptors size w (Some k) (Return chain.id)) q chain len old q' new
   returns_as q q' old new chain len p k again descriptors size w is split used out gives =
       let (one, two, first, given, last) =
-      subst (λ (f : FlightState). MatchOption f.kept (GivesBack step q chain len old back.Done q' new)
+      subst (λ (f : FlightState). MatchOption f.kept (GivesPacked step q chain len old back.Done q' new)
       (λ k. (one two : H) × TracksAt step f.place (begin_return_stores k chain.id) old one
       × GivesBack step (with_kept q (after_return k chain.id)) chain len one back.Done q' two
       × Lands step back.Done q' chain two new)) is gives in
@@ -194,8 +193,8 @@ module _ {H : Type 0} (step : H → (s : MemoryStep) → Returned s → H → Ty
       → next_used_of q.queue ≡ w.used → is_split q.queue ≡ true → q.flight.place ≡ Some p
       → AfterRegion step q p (Ok bytes) old a q' new
       → GoesOnAs step p (effect p.descriptors (size_of q.queue) w None Start) w q old a q' new
-  goes_on_as once q q' old new a p bytes began w goes fits long region used split place (r, starts, after) =
-      by r starts after
+  goes_on_as once q q' old new a p bytes began w goes fits long region used split place all =
+      from q.queue split all
     where
       heads_are : (s : SplitStart) → Flies (region_of p.descriptors bytes) (next_used_of q.queue) s.again.items
           → s.again.items ≡ goes.heads
@@ -207,8 +206,12 @@ module _ {H : Type 0} (step : H → (s : MemoryStep) → Returned s → H → Ty
           → AfterStart step q p (Ok s) old a q' new
           → StartsAs step p (effect p.descriptors (size_of q.queue) w None Start) w old a q' new
       started_as s starts (mid, tracks, marked, is, becomes) =
-          let flight : q'.flight ≡ record q.flight { is_unread = false; kept = Some s.in_flight; again = s.again.items }
-          = ap (λ (v : BlockQueueState). v.flight) becomes in
+          let flight : q'.flight ≡ record q.flight {
+            is_unread = false;
+            kept = Some s.in_flight;
+            again = s.again.items;
+            packed = None;
+          } = ap (λ (v : BlockQueueState). v.flight) becomes in
           let again : q'.flight.again ≡ s.again.items = ap (λ (f : FlightState). f.again) flight in
           let kept : s.in_flight ≡ started w.region w.used = starts.kept
           ∙ (ap (λ (r : SplitRegion). started r (next_used_of q.queue)) region ∙ ap (started w.region) used) in
@@ -227,6 +230,7 @@ module _ {H : Type 0} (step : H → (s : MemoryStep) → Returned s → H → Ty
               is_unread = false;
               kept = Some s.in_flight;
               again = s.again.items;
+              packed = None;
             }) place ∙ (ap (λ (k : SplitInFlight). stores_to p k s.again.items) kept
                 ∙ ap (stores_to p (started w.region w.used)) (sym again))),
             goes.seen ∙ ap (λ (xs : List ℕ). Some xs) (sym (again ∙ heads_are s starts.again)),
@@ -254,3 +258,8 @@ module _ {H : Type 0} (step : H → (s : MemoryStep) → Returned s → H → Ty
           → GoesOnAs step p (effect p.descriptors (size_of q.queue) w None Start) w q old a q' new
       by (Ok s) (starts, well) after = inr (started_as s starts after)
       by (Err e) why after = refused_as e why after
+
+      from : (v : AnyQueue) → is_split v ≡ true → GoesOnFrom step v q p bytes old a q' new
+          → GoesOnAs step p (effect p.descriptors (size_of q.queue) w None Start) w q old a q' new
+      from (Split u) is (r, starts, after) = by r starts after
+      from (Packed u) is p = absurd (cc)

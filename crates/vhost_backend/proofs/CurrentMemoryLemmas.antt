@@ -36,7 +36,7 @@ use Rattle.vhost_backend.proofs.OwnWayLemmas.{get-set_same}
 use Rattle.vhost_backend.proofs.StandLemmas.{some_is}
 use Rattle.vhost_backend.specs.ConnectionMemory.{marks_nothing}
 use Rattle.vhost_backend.specs.Current.{ComesFrom, IsMappedBy}
-use Rattle.vhost_backend.specs.RingMemory.{Logs, MemoryStep, Returned, adds_used, begins, enables, finishes, forgets, keeps, marks, marks_ring, needs, pops, pops_again, reads_region, reads_used, tracks}
+use Rattle.vhost_backend.specs.RingMemory.{Logs, MemoryStep, Returned, adds_used, begins, enables, finds_copies, finishes, forgets, keeps, marks, marks_ring, needs, pops, pops_again, reads_flags, reads_region, reads_used, tracks}
 use Rattle.vhost_backend.specs.declared.ring_memory.Logged.{Logged}
 
 abbrev pub Lent : Type 0
@@ -143,6 +143,8 @@ module _ (writes : WritesLaw) (ring guest : Memory) where
   plain_tables table old (pops_again q head ds) r new plain p = host_tables old.host new.host p.0.1
   plain_tables table old (reads_region offset n) r new plain p = host_tables old.host new.host p.1
   plain_tables table old (tracks s) r new plain p = host_tables old.host new.host p.0
+  plain_tables table old (finds_copies q) r new plain p = host_tables old.host new.host p.0.1
+  plain_tables table old (reads_flags q slot) r new plain p = host_tables old.host new.host p.0.1
   plain_tables table old (keeps k) r new none p = absurd none
   plain_tables table old (forgets k) r new none p = absurd none
 

@@ -6,7 +6,7 @@ use Rattle.vm_memory_base.specs.Table.{Says, says}
 use Rattle.vm_memory_base.specs.declared.iotlb.Permissions.{Permissions}
 use Rattle.vm_memory_guest.specs.declared.region.error.GuestMemoryError.{GuestMemoryError}
 use Rattle.vm_memory_device.specs.declared.chain.Segment.{Segment}
-use Rattle.virtio_queue.specs.Any.{of_head, past}
+use Rattle.virtio_queue.specs.Any.{at_next, next_avail_of, past}
 use Rattle.virtio_queue.specs.declared.any.AnyQueue.{AnyQueue}
 use Rattle.virtio_queue.specs.declared.any.AnyQueue.TheVariants.{Split, Packed}
 use Rattle.virtio_queue.specs.declared.error.QueueError.{QueueError}
@@ -16,18 +16,23 @@ use Rattle.virtio_blk.specs.declared.request.Request.TheVariants.{Refused}
 use Rattle.vhost_iotlb.specs.declared.kept.Kept.{Kept}
 use Rattle.vhost_backend.proofs.CurrentStageLemmas.{LeadsLaw, after_look, behind_holds}
 use Rattle.vhost_backend.proofs.FlightLemmas.{flies_else, resumes_is}
-use Rattle.vhost_backend.proofs.KeepLemmas.{IsPlain, again_here_keeps, flies_keep, next_keeps, resumes_keep}
+use Rattle.vhost_backend.proofs.KeepLemmas.{IsPlain, asks_keep, flies_keep, known_here_keeps, next_keeps, resumes_keep}
 use Rattle.vhost_backend.proofs.StandLemmas.{AskedLess, HoldsAll, HoldsOne, QueueLess, alike, began_asked, less_as, less_stands, one_holds, queue_itself, queue_then, unasked}
 use Rattle.vhost_backend.specs.Backend.{BackendState}
 use Rattle.vhost_backend.specs.Behind.{HappensBy}
 use Rattle.vhost_backend.specs.BlockBackend.{Looks, TakesTurn, looked, terms_of, told}
-use Rattle.vhost_backend.specs.BlockQueue.{AfterAsk, AfterPop, AfterRead, BlockQueueState, HappensNext, Pops, PopsBy, ReadsBy, begun, has_place, popped, read_by, with_queue}
+use Rattle.vhost_backend.specs.BlockQueue.{AfterAsk, AfterPop, AfterRead, Asks, BlockQueueState, HappensNext, Pops, PopsBy, ReadsBy, begun, has_place, popped, read_by, with_queue}
 use Rattle.vhost_backend.specs.BlockQueues.{Turns}
 use Rattle.vhost_backend.specs.BlockTable.{asked_by, asked_for}
 use Rattle.vhost_backend.specs.BlockTurn as turn
 use Rattle.vhost_backend.specs.Current.{IsKeptBy, QueueStands}
-use Rattle.vhost_backend.specs.Flight.{Flies, HappensFirst, HappensIn, PopsAgain, Resumes, found_again, is_due, is_open, kept_at}
-use Rattle.vhost_backend.specs.RingMemory.{MemoryStep, Returned, begins, forgets, keeps, pops_again}
+use Rattle.vhost_backend.specs.Flight.{AfterAskCopies, AfterCopies, AfterFirst, AfterKnown, FindsCopies, Flies, HappensFirst, HappensIn, HappensNew, PopsAgain, PopsCopies, Resumes, found_as, gone_to, is_due, is_open, next_again}
+use Rattle.vhost_backend.specs.PackedFlight.{PackedFlightState, buffer_of}
+use Rattle.vhost_backend.specs.declared.fetch.Found.{Found}
+use Rattle.virtio_queue.specs.Packed.{PackedVirtqueue}
+use Rattle.virtio_queue.specs.declared.packed.descriptor.PackedDescriptor.{PackedDescriptor}
+use Rattle.virtio_queue.specs.declared.packed.state.PackedBuffer.{PackedBuffer}
+use Rattle.vhost_backend.specs.RingMemory.{MemoryStep, Returned, begins, finds_copies, forgets, keeps, pops_again}
 use Rattle.vhost_backend.specs.Rings.{may_pop}
 use Rattle.vhost_backend.specs.Sight.{Sight}
 use Rattle.vhost_backend.specs.TableUse.{awaited}
@@ -103,22 +108,27 @@ module _ {H : Type 0} (step : H → (s : MemoryStep) → Returned s → H → Ty
 
   -- ---- what was in flight
 
-  again_here_less : (q : BlockQueueState) (head : ℕ) (old : H) (e : Option RingEvent) (q' : BlockQueueState) (new : H)
-      → PopsAgain step terms None q head old e q' new → QueueLess q q'
-  again_here_less q head old e q' new (Err error, mid, first, (is, kept, still)) = same q q' kept
-  again_here_less q head old e q' new (Ok chain, mid, first, (found, rest, is)) = go (has_place q head) rest
+  known_here_less : (q : BlockQueueState) (r : Result (Option Found) QueueError) (old : H) (e : Option RingEvent)
+      (q' : BlockQueueState) (new : H) → AfterKnown step terms None q r old e q' new → QueueLess q q'
+  known_here_less q (Err error) old e q' new (is, kept, still) = same q q' kept
+  known_here_less q (Ok None) old e q' new (is, kept, still) = same q q' kept
+  known_here_less q (Ok (Some f)) old e q' new (found, rest, is) = go (has_place q f.buffer.id) rest
     where
-      read : (request : Result Request GuestMemoryError) → (found, q') ≡ begun (kept_at q.queue) q (of_head head) chain request
-          → QueueLess q q'
-      read (Ok request) is = less_as q _ q' (ap (λ t. t.1) is) (alike q _ refl (began_asked q.asked head _ refl))
+      back : AnyQueue
+      back = at_next (at_next q.queue f.after) (next_avail_of q.queue)
+
+      read : (request : Result Request GuestMemoryError)
+          → (found, q') ≡ begun back (gone_to q f.after) f.buffer f.chain request → QueueLess q q'
+      read (Ok request) is =
+          less_as q _ q' (ap (λ t. t.1) is) (alike q _ refl (began_asked q.asked f.buffer.id _ refl))
       read (Err error) is = less_as q _ q' (ap (λ t. t.1) is) (alike q _ refl (unasked q.asked))
 
       go : (place : Bool) → MatchBool place
-          ((request : Result Request GuestMemoryError) × step mid (begins terms chain) request new
-          × ((found, q') ≡ begun (kept_at q.queue) q (of_head head) chain request))
-          ((found ≡ popped (of_head head) (Refused 1)) × (q' ≡ q) × (new ≡ mid)) → QueueLess q q'
+          ((request : Result Request GuestMemoryError) × step old (begins terms f.chain) request new
+          × ((found, q') ≡ begun back (gone_to q f.after) f.buffer f.chain request))
+          ((found ≡ popped f.buffer (Refused 1)) × (q' ≡ gone_to q f.after) × (new ≡ old)) → QueueLess q q'
       go true (request, took, is) = read request is
-      go false (is, kept, still) = same q q' kept
+      go false (is, kept, still) = less_as q _ q' kept (alike q _ refl (unasked q.asked))
 
 -- a queue of which what is kept and fetched and under way is the same
 same_less : (q q' : BlockQueueState) → q'.reach ≡ q.reach → q'.asked ≡ q.asked → QueueLess q q'
@@ -160,19 +170,100 @@ module _ {H : Type 0} (step : H → (s : MemoryStep) → Returned s → H → Ty
   module _ (way : Option Sight) (terms : DeviceLimits)
       (by : (q : BlockQueueState) (old : H) (e : Option RingEvent) (q' : BlockQueueState) (new : H)
       → HappensBy step way terms q old e q' new → (S : Kept → Type 0) → HoldsOne T f S old q → HoldsOne T f S new q')
-      (again : (q : BlockQueueState) (head : ℕ) (old : H) (e : Option RingEvent) (q' : BlockQueueState) (new : H)
-      → PopsAgain step terms way q head old e q' new → (S : Kept → Type 0) → HoldsOne T f S old q
-      → HoldsOne T f S new q') where
-    first_holds : (q : BlockQueueState) (o : Option ℕ) (old : H) (e : Option RingEvent) (q' : BlockQueueState) (new : H)
-        → HappensFirst step terms way q o old e q' new → (S : Kept → Type 0) → HoldsOne T f S old q
+      (known : (q : BlockQueueState) (r : Result (Option Found) QueueError) (old : H) (e : Option RingEvent)
+      (q' : BlockQueueState) (new : H) → AfterKnown step terms way q r old e q' new → (S : Kept → Type 0)
+      → HoldsOne T f S old q → HoldsOne T f S new q') where
+    -- a step that changes no table
+    steps_hold : (q : BlockQueueState) (s : MemoryStep) (old : H) (r : Returned s) (new : H) → IsPlain s
+        → step old s r new → (S : Kept → Type 0) → HoldsOne T f S old q → HoldsOne T f S new q
+    steps_hold q s old r new is first S (t, stands) =
+        (plain old s r new (λ k. S k ⊎ IsKeptBy q.reach k) is first t, stands)
+
+    again_holds : (q : BlockQueueState) (buffer : PackedBuffer) (after : ℕ) (ds : List PackedDescriptor) (old : H)
+        (e : Option RingEvent) (q' : BlockQueueState) (new : H)
+        → PopsAgain step terms way q buffer after ds old e q' new → (S : Kept → Type 0) → HoldsOne T f S old q
         → HoldsOne T f S new q'
-    first_holds q None old e q' new p = by q old e q' new p
-    first_holds q (Some head) old e q' new p = go (is_open way q) p
+    again_holds q buffer after ds old e q' new (r, mid, first, rest) S one =
+        known q (found_as buffer after r) mid e q' new rest S
+        (steps_hold q (pops_again q.queue buffer.id ds) old r mid tt first S one)
+
+    -- ---- chains of a packed ring that keeps what is in flight
+
+    asks_hold : (q : BlockQueueState) (old : H) (r : Result Bool QueueError) (new : H) → Asks step q old r new
+        → (S : Kept → Type 0) → HoldsOne T f S old q → HoldsOne T f S new q
+    asks_hold q old r new asks S one = less_holds q old q new (same_less q q refl refl)
+        (λ P t. asks_keep step (λ a b. T a P → T b P) (λ h t. t) (λ a b c first second t. second (first t))
+        (λ old s r new is step t. plain old s r new P is step t) q old r new asks t) S one
+
+    finds_hold : (u : PackedVirtqueue) (k : PackedFlightState) (q : BlockQueueState) (old : H)
+        (r : Result (Option (List PackedDescriptor)) QueueError) (q' : BlockQueueState) (new : H)
+        → FindsCopies step u k q old r q' new → (S : Kept → Type 0) → HoldsOne T f S old q → HoldsOne T f S new q'
+    finds_hold u k q old r q' new ((first, set), else) S one = less_holds q new q' new
+        (same_less q q' (ap (λ (v : BlockQueueState). v.reach) else) (ap (λ (v : BlockQueueState). v.asked) else))
+        (λ P t. t) S (steps_hold q (finds_copies u) old r new tt first S one)
+
+    after_copies_hold : (r : Result (Option (List PackedDescriptor)) QueueError) (q : BlockQueueState) (old : H)
+        (e : Option RingEvent) (q' : BlockQueueState) (new : H) → AfterCopies step terms way r q old e q' new
+        → (S : Kept → Type 0) → HoldsOne T f S old q → HoldsOne T f S new q'
+    after_copies_hold (Ok (Some ds)) q old e q' new p =
+        again_holds q (buffer_of ds) (next_avail_of (past q.queue (buffer_of ds))) ds old e q' new p
+    after_copies_hold (Ok None) q old e q' new p = known q (Ok None) old e q' new p
+    after_copies_hold (Err error) q old e q' new p = known q (Err error) old e q' new p
+
+    stays : (q : BlockQueueState) (old : H) (q' : BlockQueueState) (new : H) → q' ≡ q → new ≡ old
+        → (S : Kept → Type 0) → HoldsOne T f S old q → HoldsOne T f S new q'
+    stays q old q' new becomes still S one =
+        subst (λ h. HoldsOne T f S h q') (sym still) (subst (HoldsOne T f S old) (sym becomes) one)
+
+    ask_copies_hold : (u : PackedVirtqueue) (k : PackedFlightState) (r : Result Bool QueueError) (q : BlockQueueState)
+        (old : H) (e : Option RingEvent) (q' : BlockQueueState) (new : H)
+        → AfterAskCopies step terms way u k r q old e q' new → (S : Kept → Type 0) → HoldsOne T f S old q
+        → HoldsOne T f S new q'
+    ask_copies_hold u k (Ok true) q old e q' new (r, m, mid, finds, after) S one =
+        after_copies_hold r m mid e q' new after S (finds_hold u k q old r m mid finds S one)
+    ask_copies_hold u k (Ok false) q old e q' new (is, becomes, still) S one = stays q old q' new becomes still S one
+    ask_copies_hold u k (Err error) q old e q' new (is, becomes, still) S one = stays q old q' new becomes still S one
+
+    first_copies_hold : (u : PackedVirtqueue) (k : PackedFlightState)
+        (r : Result (Option (List PackedDescriptor)) QueueError) (q : BlockQueueState) (old : H) (e : Option RingEvent)
+        (q' : BlockQueueState) (new : H) → AfterFirst step terms way u k r q old e q' new → (S : Kept → Type 0)
+        → HoldsOne T f S old q → HoldsOne T f S new q'
+    first_copies_hold u k (Ok None) q old e q' new (r, mid, asks, after) S one =
+        ask_copies_hold u k r q mid e q' new after S (asks_hold q old r mid asks S one)
+    first_copies_hold u k (Ok (Some ds)) q old e q' new p S one =
+        after_copies_hold (Ok (Some ds)) q old e q' new p S one
+    first_copies_hold u k (Err error) q old e q' new p S one =
+        after_copies_hold (Err error) q old e q' new p S one
+
+    copies_hold : (u : PackedVirtqueue) (k : PackedFlightState) (q : BlockQueueState) (old : H) (e : Option RingEvent)
+        (q' : BlockQueueState) (new : H) → PopsCopies step terms way u k q old e q' new → (S : Kept → Type 0)
+        → HoldsOne T f S old q → HoldsOne T f S new q'
+    copies_hold u k q old e q' new (r, m, mid, finds, after) S one =
+        first_copies_hold u k r m mid e q' new after S (finds_hold u k q old r m mid finds S one)
+
+    new_holds : (v : AnyQueue) (o : Option PackedFlightState) (q : BlockQueueState) (old : H) (e : Option RingEvent)
+        (q' : BlockQueueState) (new : H) → HappensNew step terms way v o q old e q' new → (S : Kept → Type 0)
+        → HoldsOne T f S old q → HoldsOne T f S new q'
+    new_holds (Packed u) (Some k) q old e q' new p = go (is_open way q) p
       where
-        go : (v : Bool) → MatchBool v (PopsAgain step terms way q head old e q' new)
+        go : (v : Bool) → MatchBool v (PopsCopies step terms way u k q old e q' new)
             (HappensBy step way terms q old e q' new) → (S : Kept → Type 0) → HoldsOne T f S old q
             → HoldsOne T f S new q'
-        go true p = again q head old e q' new p
+        go true p = copies_hold u k q old e q' new p
+        go false p = by q old e q' new p
+    new_holds (Packed u) None q old e q' new p = by q old e q' new p
+    new_holds (Split u) o q old e q' new p = by q old e q' new p
+
+    first_holds : (q : BlockQueueState) (o : Option (PackedBuffer × List PackedDescriptor)) (old : H)
+        (e : Option RingEvent) (q' : BlockQueueState) (new : H) → HappensFirst step terms way q o old e q' new
+        → (S : Kept → Type 0) → HoldsOne T f S old q → HoldsOne T f S new q'
+    first_holds q None old e q' new p = new_holds q.queue q.flight.packed q old e q' new p
+    first_holds q (Some t) old e q' new p = go (is_open way q) p
+      where
+        go : (v : Bool) → MatchBool v (PopsAgain step terms way q t.0 (next_avail_of q.queue) t.1 old e q' new)
+            (HappensBy step way terms q old e q' new) → (S : Kept → Type 0) → HoldsOne T f S old q
+            → HoldsOne T f S new q'
+        go true p = again_holds q t.0 (next_avail_of q.queue) t.1 old e q' new p
         go false p = by q old e q' new p
 
     in_holds : (q : BlockQueueState) (old : H) (e : Option RingEvent) (q' : BlockQueueState) (new : H)
@@ -191,7 +282,7 @@ module _ {H : Type 0} (step : H → (s : MemoryStep) → Returned s → H → Ty
             (ap (λ (v : BlockQueueState). v.asked) is))
             (λ P t. flies_keep step (λ a b. T a P → T b P) (λ h t. t) (λ a b c first second t. second (first t))
             (λ old s r new is step t. plain old s r new P is step t) terms e mid_q mid q' new flies t) S
-            (first_holds q (slice_get q.flight.again 0) old e mid_q mid first S one)
+            (first_holds q (next_again q.flight) old e mid_q mid first S one)
 
   -- a turn, by what is known of a step of one ring
   turn_holds : (way : Option Sight) (w : BlockBackend) (old : H) (is : Bool) (w' : BlockBackend) (new : H)
@@ -240,14 +331,14 @@ module _ {H : Type 0} (step : H → (s : MemoryStep) → Returned s → H → Ty
   pub looks_plainly : (w : BlockBackend) (old : H) (is : Bool) (w' : BlockBackend) (new : H)
       → Looks step None w old is w' new → HoldsAll T f old w.queues → HoldsAll T f new w'.queues
   looks_plainly w old is w' new looks holds = looks_by None w old is w' new
-      (λ q e q' next. in_holds None (terms_of w) (none_holds (terms_of w)) again q old e q' new next) looks holds
+      (λ q e q' next. in_holds None (terms_of w) (none_holds (terms_of w)) known q old e q' new next) looks holds
     where
-      again : (q : BlockQueueState) (head : ℕ) (old : H) (e : Option RingEvent) (q' : BlockQueueState) (new : H)
-          → PopsAgain step (terms_of w) None q head old e q' new → (S : Kept → Type 0) → HoldsOne T f S old q
-          → HoldsOne T f S new q'
-      again q head old e q' new p = less_holds q old q' new (again_here_less step (terms_of w) q head old e q' new p)
-          (λ P t. again_here_keeps step (λ a b. T a P → T b P) (λ h t. t) (λ a b c first second t. second (first t))
-          (λ old s r new is step t. plain old s r new P is step t) (terms_of w) q head old e q' new p t)
+      known : (q : BlockQueueState) (r : Result (Option Found) QueueError) (old : H) (e : Option RingEvent)
+          (q' : BlockQueueState) (new : H) → AfterKnown step (terms_of w) None q r old e q' new → (S : Kept → Type 0)
+          → HoldsOne T f S old q → HoldsOne T f S new q'
+      known q r old e q' new p = less_holds q old q' new (known_here_less step (terms_of w) q r old e q' new p)
+          (λ P t. known_here_keeps step (λ a b. T a P → T b P) (λ h t. t) (λ a b c first second t. second (first t))
+          (λ old s r new is step t. plain old s r new P is step t) (terms_of w) q r old e q' new p t)
 
   module _ (kept : (old : H) (k : Kept) (r : Result (Unit {0}) AllocError) (new : H) (S : Kept → Type 0)
       → step old (keeps k) r new → T old S → T new (λ j. S j ⊎ (j ≡ k)))
@@ -260,7 +351,7 @@ module _ {H : Type 0} (step : H → (s : MemoryStep) → Returned s → H → Ty
         → LeadsLaw (says way.table) f → Looks step (Some way) w old is w' new → HoldsAll T f old w.queues
         → HoldsAll T f new w'.queues
     looks_behind way w old is w' new leads looks holds = looks_by (Some way) w old is w' new
-        (λ q e q' next. in_holds (Some way) (terms_of w) by again q old e q' new next) looks holds
+        (λ q e q' next. in_holds (Some way) (terms_of w) by known q old e q' new next) looks holds
       where
         by : (q : BlockQueueState) (old : H) (e : Option RingEvent) (q' : BlockQueueState) (new : H)
             → HappensBy step (Some way) (terms_of w) q old e q' new → (S : Kept → Type 0) → HoldsOne T f S old q
@@ -268,10 +359,8 @@ module _ {H : Type 0} (step : H → (s : MemoryStep) → Returned s → H → Ty
         by q old e q' new next S one = behind_holds step T more plain kept forgot failed f S (says way.table) leads
             way.can_ask (terms_of w) q old e q' new next one
 
-        again : (q : BlockQueueState) (head : ℕ) (old : H) (e : Option RingEvent) (q' : BlockQueueState) (new : H)
-            → PopsAgain step (terms_of w) (Some way) q head old e q' new → (S : Kept → Type 0) → HoldsOne T f S old q
-            → HoldsOne T f S new q'
-        again q head old e q' new (r, mid, first, after) S (t, stands) =
-            after_look step T more plain kept forgot failed f S (says way.table) leads way.can_ask (terms_of w) q
-            (found_again q head r) mid e q' new after
-            (plain old (pops_again q.queue head []) r mid (λ k. S k ⊎ IsKeptBy q.reach k) tt first t, stands)
+        known : (q : BlockQueueState) (r : Result (Option Found) QueueError) (old : H) (e : Option RingEvent)
+            (q' : BlockQueueState) (new : H) → AfterKnown step (terms_of w) (Some way) q r old e q' new
+            → (S : Kept → Type 0) → HoldsOne T f S old q → HoldsOne T f S new q'
+        known q r old e q' new p S one = after_look step T more plain kept forgot failed f S (says way.table) leads
+            way.can_ask (terms_of w) q r old e q' new p one

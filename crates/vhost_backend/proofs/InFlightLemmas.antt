@@ -1,12 +1,13 @@
 -- What a ring has of a region of requests in flight is left by what happens to it otherwise.
-use Rattle.std.proofs.Common.{◌≡◌, ◌∙◌, ℕ, Bool, true, false, List, [], Option, Some, None, Result, Ok, Err, MatchBool, MatchOption, MatchResult, refl, ap}
+use Rattle.std.proofs.Common.{◌≡◌, ◌∙◌, ℕ, Bool, true, false, List, [], Option, Some, None, Result, Ok, Err, MatchBool, MatchOption, MatchResult, refl, ap, subst}
 use Rattle.std.specs.declared.alloc.AllocError.{AllocError}
 use Rattle.vm_memory_base.specs.Table.{Says, says}
 use Rattle.vm_memory_guest.specs.declared.region.error.GuestMemoryError.{GuestMemoryError}
 use Rattle.vm_memory_device.specs.declared.chain.Segment.{Segment}
 use Rattle.virtio_blk.specs.declared.request.DeviceLimits.{DeviceLimits}
 use Rattle.virtio_blk.specs.declared.request.Request.{Request}
-use Rattle.virtio_queue.specs.Any.{of_head, past}
+use Rattle.virtio_queue.specs.Any.{at_next, next_avail_of, past}
+use Rattle.virtio_queue.specs.declared.packed.descriptor.PackedDescriptor.{PackedDescriptor}
 use Rattle.virtio_queue.specs.declared.any.AnyQueue.{AnyQueue}
 use Rattle.virtio_queue.specs.declared.any.AnyQueue.TheVariants.{Split, Packed}
 use Rattle.virtio_queue.specs.declared.error.QueueError.{QueueError}
@@ -15,7 +16,8 @@ use Rattle.vhost_iotlb.specs.declared.kept.Kept.{Kept}
 use Rattle.vhost_backend.specs.Behind.{AfterAskBehind, AfterFind, AfterLook, AfterLookUp, BeginsFetched, FetchesChain, FetchesNext, FetchesRow, GivesUp, HappensBehind, HappensBy, ReachesRing, TakesFetched, Uses, begun_behind, fetching, missed_by, or_empty, origin_of, past_found, with_fetch, with_reach}
 use Rattle.vhost_backend.specs.BlockQueue.{AfterAsk, AfterPop, AfterRead, Begins, BlockQueueState, HappensNext, Pops, PopsBy, ReadsBy, begun, has_place, read_by, with_queue}
 use Rattle.vhost_backend.specs.Fetch.{FetchState, guest_chain, has_gap}
-use Rattle.vhost_backend.specs.Flight.{HappensFirst, PopsAgain, found_again, is_open, kept_at}
+use Rattle.vhost_backend.specs.Flight.{AfterKnown, HappensFirst, HappensNew, PopsAgain, found_as, gone_to, is_open}
+use Rattle.vhost_backend.specs.PackedFlight.{PackedFlightState}
 use Rattle.vhost_backend.specs.Reach.{forgotten, rows_forgotten}
 use Rattle.vhost_backend.specs.RingMemory.{MemoryStep, Returned}
 use Rattle.vhost_backend.specs.Sight.{Sight}
@@ -224,20 +226,33 @@ module _ {H : Type 0} (step : H → (s : MemoryStep) → Returned s → H → Ty
     happens_same None q old a q' new p = next_same q old a q' new p
     happens_same (Some way) q old a q' new p = behind_all_same (says way.table) way.can_ask q old a q' new p
 
-    -- ---- what was in flight
+    -- ---- chains whose descriptors are known
 
-    pub again_same : (way : Option Sight) (q : BlockQueueState) (head : ℕ) (old : H) (a : Option RingEvent)
-        (q' : BlockQueueState) (new : H) → PopsAgain step terms way q head old a q' new → Same q q'
-    again_same None q head old a q' new (Ok chain, mid, first, (found, after, is)) =
-        begins_same terms (kept_at q.queue) q (of_head head) chain mid found q' new after
-    again_same None q head old a q' new (Err e, mid, first, (is, becomes, still)) = same_by q q' q becomes refl
-    again_same (Some way) q head old a q' new (Ok chain, mid, first, p) =
-        look_same q (found_again q head (Ok chain)) mid a q' new p
-    again_same (Some way) q head old a q' new (Err e, mid, first, p) =
-        look_same q (found_again q head (Err e)) mid a q' new p
+    pub known_same : (way : Option Sight) (q : BlockQueueState) (r : Result (Option Found) QueueError) (old : H)
+        (a : Option RingEvent) (q' : BlockQueueState) (new : H) → AfterKnown step terms way q r old a q' new → Same q q'
+    known_same None q (Ok (Some f)) old a q' new (found, began, is) =
+        begins_same terms (at_next (at_next q.queue f.after) (next_avail_of q.queue)) (gone_to q f.after) f.buffer
+        f.chain old found q' new began
+    known_same None q (Ok None) old a q' new (is, becomes, still) = same_by q q' q becomes refl
+    known_same None q (Err e) old a q' new (is, becomes, still) = same_by q q' q becomes refl
+    known_same (Some way) q r old a q' new p = look_same q r old a q' new p
 
-    pub first_same : (way : Option Sight) (q : BlockQueueState) (o : Option ℕ) (old : H) (a : Option RingEvent)
-        (q' : BlockQueueState) (new : H) → HappensFirst step terms way q o old a q' new → Same q q'
-    first_same way q None old a q' new p = happens_same way q old a q' new p
-    first_same way q (Some head) old a q' new p = by_bool (is_open way q) p
-        (again_same way q head old a q' new) (happens_same way q old a q' new)
+    pub again_same : (way : Option Sight) (q : BlockQueueState) (buffer : PackedBuffer) (after : ℕ)
+        (ds : List PackedDescriptor) (old : H) (a : Option RingEvent) (q' : BlockQueueState) (new : H)
+        → PopsAgain step terms way q buffer after ds old a q' new → Same q q'
+    again_same way q buffer after ds old a q' new (r, mid, first, rest) =
+        known_same way q (found_as buffer after r) mid a q' new rest
+
+    new_same : (way : Option Sight) (v : AnyQueue) (q : BlockQueueState) (old : H) (a : Option RingEvent)
+        (q' : BlockQueueState) (new : H) → HappensNew step terms way v None q old a q' new → Same q q'
+    new_same way (Split u) q old a q' new p = happens_same way q old a q' new p
+    new_same way (Packed u) q old a q' new p = happens_same way q old a q' new p
+
+    -- a packed ring that keeps what is in flight has found other descriptors then
+    pub first_same : (way : Option Sight) (q : BlockQueueState) (o : Option (PackedBuffer × List PackedDescriptor))
+        (old : H) (a : Option RingEvent) (q' : BlockQueueState) (new : H) → q.flight.packed ≡ None
+        → HappensFirst step terms way q o old a q' new → Same q q'
+    first_same way q None old a q' new none p = new_same way q.queue q old a q' new
+        (subst (λ (k : Option PackedFlightState). HappensNew step terms way q.queue k q old a q' new) none p)
+    first_same way q (Some t) old a q' new none p = by_bool (is_open way q) p
+        (again_same way q t.0 (next_avail_of q.queue) t.1 old a q' new) (happens_same way q old a q' new)

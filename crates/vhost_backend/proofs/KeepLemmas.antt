@@ -8,11 +8,23 @@ use Rattle.vm_memory_device.specs.declared.chain.Segment.{Segment}
 use Rattle.virtio_blk.specs.declared.request.DeviceLimits.{DeviceLimits}
 use Rattle.virtio_blk.specs.declared.request.Request.{Request}
 use Rattle.virtio_blk.specs.declared.request.Request.TheVariants.{Refused}
-use Rattle.virtio_queue.specs.Any.{of_head, past}
+use Rattle.virtio_queue.specs.Any.{at_next, next_avail_of, past}
+use Rattle.virtio_queue.specs.Packed.{PackedVirtqueue}
 use Rattle.virtio_queue.specs.declared.any.AnyQueue.{AnyQueue}
 use Rattle.virtio_queue.specs.declared.any.AnyQueue.TheVariants.{Split, Packed}
 use Rattle.virtio_queue.specs.declared.error.QueueError.{QueueError}
+use Rattle.virtio_queue.specs.declared.packed.descriptor.PackedDescriptor.{PackedDescriptor}
 use Rattle.virtio_queue.specs.declared.packed.state.PackedBuffer.{PackedBuffer}
+use Rattle.std.specs.Prelude.{map}
+use Rattle.vhost_inflight.specs.Packed.{PackedKept, add_stores, after_add, after_begin_pop, begin_pop_stores, can_add, can_begin_pop, can_end_pop, end_pop_stores}
+use Rattle.vhost_inflight.specs.PackedBytes.{old_slot}
+use Rattle.vhost_inflight.specs.PackedCrash.{after_adds}
+use Rattle.vhost_inflight.specs.declared.packed.PackedReturn.{PackedReturn}
+use Rattle.vhost_inflight.specs.declared.packed.PackedStore.{PackedStore}
+use Rattle.vhost_inflight.specs.declared.packed_error.PackedStartError.{PackedStartError}
+use Rattle.vhost_inflight.specs.declared.packed_region.PackedCopy.{PackedCopy}
+use Rattle.vhost_inflight.specs.declared.packed_region.PackedPosition.{PackedPosition}
+use Rattle.vhost_inflight.specs.declared.packed_start.PackedStart.{PackedStart}
 use Rattle.vhost_inflight.specs.Split.{after_pop, after_return, begin_return_stores, end_return_stores, pop_stores}
 use Rattle.vhost_inflight.specs.declared.split.SplitInFlight.{SplitInFlight}
 use Rattle.vhost_inflight.specs.declared.split.SplitStore.{SplitStore}
@@ -25,16 +37,17 @@ use Rattle.vhost_backend.specs.Backend.{BackendState}
 use Rattle.vhost_backend.specs.Behind.{AfterAskBehind, AfterFind, AfterLook, AfterLookUp, BeginsFetched, Fetches, FetchesChain, FetchesNext, Finds, FindsNext, GivesUp, HappensBehind, HappensBy, KeepsRows, ReachesRing, ReadsBehind, TakesFetched, Uses, WaitsBehind, begun_behind, open_terms, or_empty, origin_of, past_found, with_fetch, with_reach}
 use Rattle.vhost_backend.specs.Block.{status_of, written_of}
 use Rattle.vhost_backend.specs.BlockBackend.{Acts, ActsFirst, GivesBackAt, Looks, Returns, Steps, StepsFrom, TakesTurn, terms_of}
-use Rattle.vhost_backend.specs.BlockQueue.{AfterAsk, AfterPop, AfterRead, Asks, Begins, BlockQueueState, GivesBack, HappensNext, Pops, PopsBy, PopsOrWaits, ReadsBy, Waits, asked_at, begun, buffer_by, event_of, has_place, len_left, popped, with_asked, with_queue}
+use Rattle.vhost_backend.specs.BlockQueue.{AfterAsk, AfterPop, AfterRead, Asks, Begins, BlockQueueState, FlightState, GivesBack, HappensNext, Pops, PopsBy, PopsOrWaits, ReadsBy, Waits, asked_at, begun, buffer_by, event_of, has_place, len_left, popped, with_asked, with_flight, with_queue}
 use Rattle.vhost_backend.specs.BlockQueues as queues
 use Rattle.vhost_backend.specs.BlockTable.{AfterChange, ChangesBy, ChangesTable}
 use Rattle.vhost_backend.specs.BlockTurn as turn
 use Rattle.vhost_backend.specs.Fetch.{FetchState, after_drop, guest_chain, has_gap, is_dropped}
-use Rattle.vhost_backend.specs.Flight.{kept_at, AfterAgain, AfterRegion, AfterStart, AfterUsed, Flies, FliesAt, FliesBy, HappensFirst, HappensIn, Lands, PopsAgain, ReadsRegion, Resumes, Tracks, TracksAt, found_again, is_due, is_open, next_used_of, store_at, used_ring_of, with_kept}
+use Rattle.vhost_backend.specs.Flight.{AfterAskCopies, AfterCopies, AfterFirst, AfterKnown, AfterOld, AfterPackedStart, AfterRegion, AfterStart, AfterUsed, Flies, FliesAt, FliesBy, FliesIn, FliesPacked, GivesPacked, GoesOnFrom, HappensFirst, HappensIn, HappensNew, Lands, LandsPacked, PopsAgain, PopsCopies, ReadsOld, ReadsRegion, Resumes, Tracks, TracksAt, after_of, base_in, before_of, found_as, gone_to, is_due, is_open, next_again, next_used_of, returned_too, returns_by, store_at, used_ring_of, with_kept}
+use Rattle.vhost_backend.specs.PackedFlight.{AddsAll, PackedFlightState, StoresPop, TracksPacked, TracksPackedAt, buffer_of, copy_by, packed_store_at, stores_if}
 use Rattle.vhost_backend.specs.KeptRanges.{ForgetsAll, KeepsAll}
 use Rattle.vhost_backend.specs.Marks.{Marks, MarksRing, asking_marks, chain_marks, logged_at, return_marks}
 use Rattle.vhost_backend.specs.Reach.{Changes, ChangesOthers, ForgetsBoth, ReachState, changed_by, dropped, forgotten, rows_forgotten}
-use Rattle.vhost_backend.specs.RingMemory.{MemoryStep, Returned, adds_used, begins, enables, finishes, forgets, keeps, marks, marks_ring, needs, pops, pops_again, reads_region, reads_used, tracks}
+use Rattle.vhost_backend.specs.RingMemory.{MemoryStep, Returned, adds_used, begins, enables, finds_copies, finishes, forgets, keeps, marks, marks_ring, needs, pops, pops_again, reads_flags, reads_region, reads_used, tracks}
 use Rattle.vhost_backend.specs.Rings.{may_pop}
 use Rattle.vhost_backend.specs.TableUse.{ChangesAll, ChangesAt, ChangesTo, in_use, kicked_if}
 use Rattle.vhost_backend.specs.declared.backend.Place.{Place}
@@ -126,6 +139,31 @@ module _ {H : Type 0} (step : H → (s : MemoryStep) → Returned s → H → Ty
   tracks_keep p (s ∷ ss) old new (mid, first, rest) =
       then old mid new (plain old (tracks (store_at p s)) tt mid tt first) (tracks_keep p ss mid new rest)
 
+  packed_keep : (p : FlightPlace) (ss : List PackedStore) (old new : H) → TracksPacked step p ss old new → K old new
+  packed_keep p [] old new is = same old new is
+  packed_keep p (s ∷ ss) old new (mid, first, rest) =
+      then old mid new (plain old (tracks (packed_store_at p s)) tt mid tt first) (packed_keep p ss mid new rest)
+
+  packed_at_keep : (o : Option FlightPlace) (ss : List PackedStore) (old new : H) → TracksPackedAt step o ss old new
+      → K old new
+  packed_at_keep None ss old new is = same old new is
+  packed_at_keep (Some p) ss old new all = packed_keep p ss old new all
+
+  adds_keep : (o : Option FlightPlace) (k : PackedKept) (ds : List PackedCopy) (old new : H)
+      → AddsAll step o k ds old new → K old new
+  adds_keep o k [] old new is = same old new is
+  adds_keep o k (d ∷ ds) old new (mid, first, rest) =
+      then old mid new (packed_at_keep o (stores_if (can_add k) (add_stores k d)) old mid first)
+      (adds_keep o (after_add k d) ds mid new rest)
+
+  pop_stores_keep : (o : Option FlightPlace) (k : PackedKept) (ds : List PackedCopy) (old new : H)
+      → StoresPop step o k ds old new → K old new
+  pop_stores_keep o k ds old new (one, two, first, adds, last) =
+      let ended : PackedKept = after_adds (after_begin_pop k) ds in then old one new
+      (packed_at_keep o (stores_if (can_begin_pop k) (begin_pop_stores k)) old one first)
+      (then one two new (adds_keep o (after_begin_pop k) ds one two adds)
+      (packed_at_keep o (stores_if (can_end_pop ended) (end_pop_stores ended)) two new last))
+
   tracks_at_keep : (o : Option FlightPlace) (ss : List SplitStore) (old new : H) → TracksAt step o ss old new → K old new
   tracks_at_keep None ss old new is = same old new is
   tracks_at_keep (Some p) ss old new all = tracks_keep p ss old new all
@@ -142,15 +180,28 @@ module _ {H : Type 0} (step : H → (s : MemoryStep) → Returned s → H → Ty
       tracks_at_keep q.flight.place (end_return_stores chain.id (next_used_of q.queue)) old new all
   lands_keep (back.Broken e) q chain old new is = same old new is
 
+  lands_packed_keep : (a : GiveBack) (q : BlockQueueState) (ss : List PackedStore) (old new : H)
+      → LandsPacked step a q ss old new → K old new
+  lands_packed_keep back.Done q ss old new all = packed_at_keep q.flight.place ss old new all
+  lands_packed_keep (back.Broken e) q ss old new is = same old new is
+
+  gives_packed_keep : (q : BlockQueueState) (chain : Chain) (len : ℕ) (old : H) (a : GiveBack) (q' : BlockQueueState)
+      (new : H) → GivesPacked step q chain len old a q' new → K old new
+  gives_packed_keep q chain len old a q' new (one, two, before, gives, after) =
+      let stores : Option PackedReturn = returns_by chain.id q.flight.packed in then old one new
+      (packed_at_keep q.flight.place (before_of stores) old one before)
+      (then one two new (back_keep (with_flight q (returned_too q.flight chain.id)) chain len one a q' two gives)
+      (lands_packed_keep a q' (after_of stores) two new after))
+
   gives_keep : (chain : Chain) (len : ℕ) (old new : H) (q : BlockQueueState) (r : Reached) (q' : BlockQueueState)
       → queues.Gives step chain len old new q r q' → K old new
   gives_keep chain len old new q r q' (a, gives, is) = go q.flight.kept gives
     where
-      go : (o : Option SplitInFlight) → MatchOption o (GivesBack step q chain len old a q' new)
+      go : (o : Option SplitInFlight) → MatchOption o (GivesPacked step q chain len old a q' new)
           (λ k. (one two : H) × TracksAt step q.flight.place (begin_return_stores k chain.id) old one
           × GivesBack step (with_kept q (after_return k chain.id)) chain len one a q' two
           × Lands step a q' chain two new) → K old new
-      go None p = back_keep q chain len old a q' new p
+      go None p = gives_packed_keep q chain len old a q' new p
       go (Some k) (one, two, before, gives, after) = then old one new
           (tracks_at_keep q.flight.place (begin_return_stores k chain.id) old one before)
           (then one two new (back_keep (with_kept q (after_return k chain.id)) chain len one a q' two gives)
@@ -220,7 +271,7 @@ module _ {H : Type 0} (step : H → (s : MemoryStep) → Returned s → H → Ty
       go (Ok None) is = same mid new is.2
       go (Err e) is = same mid new is.2
 
-  asks_keep : (q : BlockQueueState) (old : H) (r : Result Bool QueueError) (new : H) → Asks step q old r new → K old new
+  pub asks_keep : (q : BlockQueueState) (old : H) (r : Result Bool QueueError) (new : H) → Asks step q old r new → K old new
   asks_keep q old r new (asked, first, rest) = then old asked new (plain old (enables q.queue) r asked tt first)
       (ring_keeps (asking_marks q.queue q.reach.log) asked new rest)
 
@@ -268,9 +319,36 @@ module _ {H : Type 0} (step : H → (s : MemoryStep) → Returned s → H → Ty
       (ring_keeps (logged_at q.reach.log (used_ring_of q.queue)) mid new marked)
   after_start_keeps q p (Err e) old a q' new (is, becomes, still) = same old new still
 
+  after_packed_keeps : (q : BlockQueueState) (p : FlightPlace) (r : Result PackedStart PackedStartError) (old : H)
+      (a : Option RingEvent) (q' : BlockQueueState) (new : H) → AfterPackedStart step q p r old a q' new → K old new
+  after_packed_keeps q p (Ok s) old a q' new (Ok k, made, (mid, all, marked, is, becomes)) =
+      then old mid new (packed_keep p s.stores.items old mid all)
+      (ring_keeps (logged_at q.reach.log (used_ring_of q.queue)) mid new marked)
+  after_packed_keeps q p (Ok s) old a q' new (Err e, made, (is, becomes, still)) = same old new still
+  after_packed_keeps q p (Err e) old a q' new (is, becomes, still) = same old new still
+
+  reads_old_keeps : (u : PackedVirtqueue) (o : Option ℕ) (old : H) (r : Result ℕ QueueError) (new : H)
+      → ReadsOld step u o old r new → K old new
+  reads_old_keeps u None old r new p = same old new p.1
+  reads_old_keeps u (Some slot) old r new p = plain old (reads_flags u slot) r new tt p
+
+  after_old_keeps : (size : ℕ) (base : PackedPosition) (q : BlockQueueState) (p : FlightPlace) (bytes : List ℕ)
+      (r : Result ℕ QueueError) (old : H) (a : Option RingEvent) (q' : BlockQueueState) (new : H)
+      → AfterOld step size base q p bytes r old a q' new → K old new
+  after_old_keeps size base q p bytes (Ok flags) old a q' new (r, starts, after) =
+      after_packed_keeps q p r old a q' new after
+  after_old_keeps size base q p bytes (Err e) old a q' new (is, becomes, still) = same old new still
+
+  from_keeps : (v : AnyQueue) (q : BlockQueueState) (p : FlightPlace) (bytes : List ℕ) (old : H) (a : Option RingEvent)
+      (q' : BlockQueueState) (new : H) → GoesOnFrom step v q p bytes old a q' new → K old new
+  from_keeps (Split u) q p bytes old a q' new (r, starts, after) = after_start_keeps q p r old a q' new after
+  from_keeps (Packed u) q p bytes old a q' new (flags, mid, reads, after) =
+      then old mid new (reads_old_keeps u (old_slot u.state.size bytes) old flags mid reads)
+      (after_old_keeps u.state.size (base_in u.state) q p bytes flags mid a q' new after)
+
   after_region_keeps : (q : BlockQueueState) (p : FlightPlace) (r : Result (List ℕ) AllocError) (old : H)
       (a : Option RingEvent) (q' : BlockQueueState) (new : H) → AfterRegion step q p r old a q' new → K old new
-  after_region_keeps q p (Ok bytes) old a q' new (r, starts, after) = after_start_keeps q p r old a q' new after
+  after_region_keeps q p (Ok bytes) old a q' new all = from_keeps q.queue q p bytes old a q' new all
   after_region_keeps q p (Err e) old a q' new (is, becomes, still) = same old new still
 
   region_keeps : (q : BlockQueueState) (o : Option FlightPlace) (old : H) (a : Option RingEvent)
@@ -289,30 +367,35 @@ module _ {H : Type 0} (step : H → (s : MemoryStep) → Returned s → H → Ty
       go (Ok done) p = region_keeps mid_q mid_q.flight.place mid a q' new p
       go (Err e) (is, becomes, still) = same mid new still
 
-  pub again_here_keeps : (terms : DeviceLimits) (q : BlockQueueState) (head : ℕ) (old : H) (a : Option RingEvent)
-      (q' : BlockQueueState) (new : H) → PopsAgain step terms None q head old a q' new → K old new
-  again_here_keeps terms q head old a q' new (r, mid, first, after) =
-      then old mid new (plain old (pops_again q.queue head []) r mid tt first) (go r after)
-    where
-      go : (r : Result (List Segment) QueueError) → AfterAgain step terms q head r mid a q' new → K mid new
-      go (Ok chain) (found, began, is) = begins_keep terms (kept_at q.queue) q (of_head head) chain mid found q' new began
-      go (Err e) (is, becomes, still) = same mid new still
+  pub known_here_keeps : (terms : DeviceLimits) (q : BlockQueueState) (r : Result (Option Found) QueueError) (old : H)
+      (a : Option RingEvent) (q' : BlockQueueState) (new : H) → AfterKnown step terms None q r old a q' new → K old new
+  known_here_keeps terms q (Ok (Some f)) old a q' new (found, began, is) =
+      begins_keep terms (at_next (at_next q.queue f.after) (next_avail_of q.queue)) (gone_to q f.after) f.buffer f.chain
+      old found q' new began
+  known_here_keeps terms q (Ok None) old a q' new (is, becomes, still) = same old new still
+  known_here_keeps terms q (Err e) old a q' new (is, becomes, still) = same old new still
 
-  flies_at_keep : (terms : DeviceLimits) (o : Option ℕ) (chain : Chain) (q : BlockQueueState) (old : H)
-      (q' : BlockQueueState) (new : H) → FliesAt step o chain q old q' new → K old new
-  flies_at_keep terms (Some head) chain q old q' new (becomes, still) = same old new still
+  flies_in_keep : (o : Option PackedFlightState) (id : ℕ) (f : FlightState) (old : H) (f' : FlightState) (new : H)
+      → FliesIn step o id f old f' new → K old new
+  flies_in_keep None id f old f' new (becomes, still) = same old new still
+  flies_in_keep (Some k) id f old f' new (all, becomes) =
+      pop_stores_keep f.place k.kept (map copy_by k.found) old new all
+
+  flies_at_keep : (terms : DeviceLimits) (o : Option (PackedBuffer × List PackedDescriptor)) (chain : Chain)
+      (q : BlockQueueState) (old : H) (q' : BlockQueueState) (new : H) → FliesAt step o chain q old q' new → K old new
+  flies_at_keep terms (Some p) chain q old q' new (becomes, still) = same old new still
   flies_at_keep terms None chain q old q' new p = go q.flight.kept p
     where
-      go : (o : Option SplitInFlight) → MatchOption o ((q' ≡ q) × (new ≡ old))
+      go : (o : Option SplitInFlight) → MatchOption o (FliesPacked step chain.id q old q' new)
           (λ k. TracksAt step q.flight.place (pop_stores k chain.id) old new × (q' ≡ with_kept q (after_pop k)))
           → K old new
-      go None (becomes, still) = same old new still
+      go None (flies, becomes) = flies_in_keep q.flight.packed chain.id q.flight old q'.flight new flies
       go (Some k) (all, becomes) = tracks_at_keep q.flight.place (pop_stores k chain.id) old new all
 
   pub flies_keep : (terms : DeviceLimits) (a : Option RingEvent) (q : BlockQueueState) (old : H) (q' : BlockQueueState)
       (new : H) → FliesBy step a q old q' new → K old new
   flies_keep terms (Some (Popped chain parts bytes)) q old q' new p =
-      flies_at_keep terms (slice_get q.flight.again 0) chain q old q' new p
+      flies_at_keep terms (next_again q.flight) chain q old q' new p
   flies_keep terms None q old q' new p = same old new p.1
   flies_keep terms (Some Start) q old q' new p = same old new p.1
   flies_keep terms (Some Stop) q old q' new p = same old new p.1
@@ -536,13 +619,53 @@ module _ {H : Type 0} (step : H → (s : MemoryStep) → Returned s → H → Ty
               go true p = same old new p.3
               go false (done, qs, ks, all, rest) = changes_all_keep c w.queues w.kicks old done qs ks new all
 
-      again_keeps : (terms : DeviceLimits) (way : Option Sight) (q : BlockQueueState) (head : ℕ) (old : H)
-          (a : Option RingEvent) (q' : BlockQueueState) (new : H) → PopsAgain step terms way q head old a q' new
-          → K old new
-      again_keeps terms None q head old a q' new p = again_here_keeps terms q head old a q' new p
-      again_keeps terms (Some way) q head old a q' new (r, mid, first, after) =
-          then old mid new (plain old (pops_again q.queue head []) r mid tt first)
-          (look_keeps (says way.table) way.can_ask terms q (found_again q head r) mid a q' new after)
+      known_keeps : (terms : DeviceLimits) (way : Option Sight) (q : BlockQueueState)
+          (r : Result (Option Found) QueueError) (old : H) (a : Option RingEvent) (q' : BlockQueueState) (new : H)
+          → AfterKnown step terms way q r old a q' new → K old new
+      known_keeps terms None q r old a q' new p = known_here_keeps terms q r old a q' new p
+      known_keeps terms (Some way) q r old a q' new p = look_keeps (says way.table) way.can_ask terms q r old a q' new p
+
+      again_keeps : (terms : DeviceLimits) (way : Option Sight) (q : BlockQueueState) (buffer : PackedBuffer) (after : ℕ)
+          (ds : List PackedDescriptor) (old : H) (a : Option RingEvent) (q' : BlockQueueState) (new : H)
+          → PopsAgain step terms way q buffer after ds old a q' new → K old new
+      again_keeps terms way q buffer after ds old a q' new (r, mid, first, rest) =
+          then old mid new (plain old (pops_again q.queue buffer.id ds) r mid tt first)
+          (known_keeps terms way q (found_as buffer after r) mid a q' new rest)
+
+      -- ---- chains of a packed ring that keeps what is in flight
+
+      after_copies_keep : (terms : DeviceLimits) (way : Option Sight)
+          (r : Result (Option (List PackedDescriptor)) QueueError) (q : BlockQueueState) (old : H) (a : Option RingEvent)
+          (q' : BlockQueueState) (new : H) → AfterCopies step terms way r q old a q' new → K old new
+      after_copies_keep terms way (Ok (Some ds)) q old a q' new p =
+          again_keeps terms way q (buffer_of ds) (next_avail_of (past q.queue (buffer_of ds))) ds old a q' new p
+      after_copies_keep terms way (Ok None) q old a q' new p = known_keeps terms way q (Ok None) old a q' new p
+      after_copies_keep terms way (Err e) q old a q' new p = known_keeps terms way q (Err e) old a q' new p
+
+      ask_copies_keep : (terms : DeviceLimits) (way : Option Sight) (u : PackedVirtqueue) (k : PackedFlightState)
+          (r : Result Bool QueueError) (q : BlockQueueState) (old : H) (a : Option RingEvent) (q' : BlockQueueState)
+          (new : H) → AfterAskCopies step terms way u k r q old a q' new → K old new
+      ask_copies_keep terms way u k (Ok true) q old a q' new (r, mid_q, mid, finds, after) =
+          then old mid new (plain old (finds_copies u) r mid tt finds.0.0)
+          (after_copies_keep terms way r mid_q mid a q' new after)
+      ask_copies_keep terms way u k (Ok false) q old a q' new (is, becomes, still) = same old new still
+      ask_copies_keep terms way u k (Err e) q old a q' new (is, becomes, still) = same old new still
+
+      first_copies_keep : (terms : DeviceLimits) (way : Option Sight) (u : PackedVirtqueue) (k : PackedFlightState)
+          (r : Result (Option (List PackedDescriptor)) QueueError) (q : BlockQueueState) (old : H) (a : Option RingEvent)
+          (q' : BlockQueueState) (new : H) → AfterFirst step terms way u k r q old a q' new → K old new
+      first_copies_keep terms way u k (Ok None) q old a q' new (r, mid, asks, after) =
+          then old mid new (asks_keep q old r mid asks) (ask_copies_keep terms way u k r q mid a q' new after)
+      first_copies_keep terms way u k (Ok (Some ds)) q old a q' new p =
+          after_copies_keep terms way (Ok (Some ds)) q old a q' new p
+      first_copies_keep terms way u k (Err e) q old a q' new p = after_copies_keep terms way (Err e) q old a q' new p
+
+      pub copies_keep : (terms : DeviceLimits) (way : Option Sight) (u : PackedVirtqueue) (k : PackedFlightState)
+          (q : BlockQueueState) (old : H) (a : Option RingEvent) (q' : BlockQueueState) (new : H)
+          → PopsCopies step terms way u k q old a q' new → K old new
+      copies_keep terms way u k q old a q' new (r, mid_q, mid, finds, after) =
+          then old mid new (plain old (finds_copies u) r mid tt finds.0.0)
+          (first_copies_keep terms way u k r mid_q mid a q' new after)
 
       -- ---- turns, by what translates the addresses of rings
 
@@ -551,15 +674,27 @@ module _ {H : Type 0} (step : H → (s : MemoryStep) → Returned s → H → Ty
       by_keeps None terms q old a q' new p = next_keeps terms q old a q' new p
       by_keeps (Some way) terms q old a q' new p = behind_keeps (says way.table) way.can_ask terms q old a q' new p
 
-      first_of_keeps : (way : Option Sight) (terms : DeviceLimits) (q : BlockQueueState) (o : Option ℕ) (old : H)
-          (a : Option RingEvent) (q' : BlockQueueState) (new : H) → HappensFirst step terms way q o old a q' new
-          → K old new
-      first_of_keeps way terms q None old a q' new p = by_keeps way terms q old a q' new p
-      first_of_keeps way terms q (Some head) old a q' new p = go (is_open way q) p
+      new_keeps : (way : Option Sight) (terms : DeviceLimits) (v : AnyQueue) (o : Option PackedFlightState)
+          (q : BlockQueueState) (old : H) (a : Option RingEvent) (q' : BlockQueueState) (new : H)
+          → HappensNew step terms way v o q old a q' new → K old new
+      new_keeps way terms (Packed u) (Some k) q old a q' new p = go (is_open way q) p
         where
-          go : (v : Bool) → MatchBool v (PopsAgain step terms way q head old a q' new)
+          go : (v : Bool) → MatchBool v (PopsCopies step terms way u k q old a q' new)
               (HappensBy step way terms q old a q' new) → K old new
-          go true p = again_keeps terms way q head old a q' new p
+          go true p = copies_keep terms way u k q old a q' new p
+          go false p = by_keeps way terms q old a q' new p
+      new_keeps way terms (Packed u) None q old a q' new p = by_keeps way terms q old a q' new p
+      new_keeps way terms (Split u) o q old a q' new p = by_keeps way terms q old a q' new p
+
+      first_of_keeps : (way : Option Sight) (terms : DeviceLimits) (q : BlockQueueState)
+          (o : Option (PackedBuffer × List PackedDescriptor)) (old : H) (a : Option RingEvent) (q' : BlockQueueState)
+          (new : H) → HappensFirst step terms way q o old a q' new → K old new
+      first_of_keeps way terms q None old a q' new p = new_keeps way terms q.queue q.flight.packed q old a q' new p
+      first_of_keeps way terms q (Some t) old a q' new p = go (is_open way q) p
+        where
+          go : (v : Bool) → MatchBool v (PopsAgain step terms way q t.0 (next_avail_of q.queue) t.1 old a q' new)
+              (HappensBy step way terms q old a q' new) → K old new
+          go true p = again_keeps terms way q t.0 (next_avail_of q.queue) t.1 old a q' new p
           go false p = by_keeps way terms q old a q' new p
 
       pub in_keeps : (way : Option Sight) (terms : DeviceLimits) (q : BlockQueueState) (old : H) (a : Option RingEvent)
@@ -569,7 +704,7 @@ module _ {H : Type 0} (step : H → (s : MemoryStep) → Returned s → H → Ty
           go : (v : Bool) → MatchBool v (Resumes step q old a q' new) (Flies step terms way q old a q' new) → K old new
           go true p = resumes_keep q old a q' new p
           go false (mid_q, mid, first, flies) =
-              then old mid new (first_of_keeps way terms q (slice_get q.flight.again 0) old a mid_q mid first)
+              then old mid new (first_of_keeps way terms q (next_again q.flight) old a mid_q mid first)
               (flies_keep terms a mid_q mid q' new flies)
 
       turn_keeps : (way : Option Sight) (w : BlockBackend) (b : BackendState) (old new : H) (q : BlockQueueState) (r : Option Todo)

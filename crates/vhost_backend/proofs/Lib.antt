@@ -41,6 +41,10 @@ pub mod NearLemmas
 pub mod OnceLemmas
 pub mod OverLemmas
 pub mod OwnWayLemmas
+pub mod PackedCrashLemmas
+pub mod PackedFlightLemmas
+pub mod PackedReturnLemmas
+pub mod PackedStartLemmas
 pub mod PageLemmas
 pub mod PartLemmas
 pub mod PieceLemmas

@@ -219,7 +219,7 @@ module _ {H : Type 0} (step : H → (s : MemoryStep) → Returned s → H → Ty
           asks,
           inr (
             refl,
-            subst (λ h. step mid (pops q.queue) (Ok None) h) (sym still) (found_nothing q.queue mid next finds),
+            inl (subst (λ h. step mid (pops q.queue) (Ok None) h) (sym still) (found_nothing q.queue mid next finds)),
           ),
         ) is becomes
     wait_stage q old e q' new (Ok true, mid, asks, (Err error, next, finds, (p, still))) = row_stage q error e q' new p

@@ -9,16 +9,18 @@ use Rattle.std.proofs.lemmas.Option.{slice_get_cases, slice_get_within, same_Som
 use Rattle.vm_memory_base.specs.Table.{says}
 use Rattle.vm_memory_base.specs.declared.iotlb.Permissions.{Permissions}
 use Rattle.vm_memory_guest.specs.declared.region.error.GuestMemoryError.{GuestMemoryError}
-use Rattle.virtio_queue.specs.Any.{past}
+use Rattle.virtio_queue.specs.Any.{next_avail_of, past}
+use Rattle.virtio_queue.specs.declared.any.AnyQueue.{AnyQueue}
+use Rattle.virtio_queue.specs.declared.packed.state.PackedBuffer.{PackedBuffer}
 use Rattle.virtio_queue.specs.Packed as packed
-use Rattle.virtio_queue.specs.declared.any.AnyQueue.TheVariants.{Packed}
+use Rattle.virtio_queue.specs.declared.any.AnyQueue.TheVariants.{Packed, Split}
 use Rattle.virtio_queue.specs.declared.error.QueueError.{QueueError}
 use Rattle.virtio_blk.specs.declared.request.DeviceLimits.{DeviceLimits}
 use Rattle.virtio_blk.specs.declared.request.Request.{Request}
 use Rattle.virtio_blk.specs.declared.request.Request.TheVariants.{Refused}
 use Rattle.vhost_user.specs.Connection.{Connection, connected}
 use Rattle.vhost_user.specs.declared.backend_req_handler.Offer.{Offer}
-use Rattle.vhost_backend.proofs.FlightLemmas.{again_waits, resumes_is}
+use Rattle.vhost_backend.proofs.FlightLemmas.{IsNoWait, again_waits, copies_waits, resumes_is}
 use Rattle.vhost_backend.proofs.MissLemmas.{WaitsOnlyThen, behind_waits, read_waits}
 use Rattle.vhost_backend.proofs.OwnWayLemmas.{get-replicate, get-set_other}
 use Rattle.vhost_backend.proofs.TendAskLemmas.{wanted_has, wanted_rings, wanted_still, first_sent, wanted_due}
@@ -31,7 +33,9 @@ use Rattle.vhost_backend.specs.BlockQueue.{AfterAsk, AfterPop, AfterRead, BlockQ
 use Rattle.vhost_backend.specs.BlockQueues.{Turns}
 use Rattle.vhost_backend.specs.BlockTable.{asked_by, asked_for}
 use Rattle.vhost_backend.specs.BlockTurn as turn
-use Rattle.vhost_backend.specs.Flight.{Flies, HappensFirst, HappensIn, PopsAgain, Resumes, is_due, is_open}
+use Rattle.vhost_backend.specs.Flight.{Flies, HappensFirst, HappensIn, HappensNew, PopsAgain, PopsCopies, Resumes, is_due, is_open, next_again}
+use Rattle.vhost_backend.specs.PackedFlight.{PackedFlightState}
+use Rattle.virtio_queue.specs.declared.packed.descriptor.PackedDescriptor.{PackedDescriptor}
 use Rattle.vhost_backend.specs.GoesOn.{AreTended, IsTended, Tends, happens, is_looked_at}
 use Rattle.vhost_backend.specs.Messages.{Happening, Told, stepped}
 use Rattle.vhost_backend.specs.Questions.{has_miss, wanted, QuestionsState, taken_due}
@@ -120,19 +124,34 @@ module _ {H : Type 0} (step : H → (s : MemoryStep) → Returned s → H → Ty
       → is_some (waited_for q.reach.fetch) ≡ true
   as_waited q q' is waits = sym (ap (λ r. is_some (waited_for r.fetch)) is) ∙ waits
 
-  first_waits : (way : Option Sight) (q : BlockQueueState) (o : Option ℕ) (old : H) (q' : BlockQueueState) (new : H)
-      → HappensFirst step terms way q o old None q' new → is_some (waited_for q'.reach.fetch) ≡ true
+  still_waits : (q q' : BlockQueueState) → IsNoWait step terms q q' → is_some (waited_for q'.reach.fetch) ≡ true
       → is_some (waited_for q.reach.fetch) ≡ true
-  first_waits way q None old q' new p waits = by_waits way q old q' new p waits
-  first_waits way q (Some head) old q' new p waits = go (is_open way q) refl p
-    where
-      on : (q'.reach ≡ q.reach) ⊎ (waited_for q'.reach.fetch ≡ None) → is_some (waited_for q.reach.fetch) ≡ true
-      on (inl is) = as_waited q q' is waits
-      on (inr none) = let bad : false ≡ true = sym (ap (λ t. is_some t) none) ∙ waits in absurd (cc)
+  still_waits q q' (inl is) waits = as_waited q q' is waits
+  still_waits q q' (inr none) waits = let bad : false ≡ true = sym (ap (λ t. is_some t) none) ∙ waits in absurd (cc)
 
-      go : (v : Bool) → is_open way q ≡ v → MatchBool v (PopsAgain step terms way q head old None q' new)
+  new_waits : (way : Option Sight) (v : AnyQueue) (o : Option PackedFlightState) (q : BlockQueueState) (old : H)
+      (q' : BlockQueueState) (new : H) → HappensNew step terms way v o q old None q' new
+      → is_some (waited_for q'.reach.fetch) ≡ true → is_some (waited_for q.reach.fetch) ≡ true
+  new_waits way (Packed u) (Some k) q old q' new p waits = go (is_open way q) refl p
+    where
+      go : (v : Bool) → is_open way q ≡ v → MatchBool v (PopsCopies step terms way u k q old None q' new)
           (HappensBy step way terms q old None q' new) → is_some (waited_for q.reach.fetch) ≡ true
-      go true opened p = on (again_waits step terms way q head old None q' new opened p)
+      go true opened p = still_waits q q' (copies_waits step terms way u k q old None q' new opened p) waits
+      go false opened p = by_waits way q old q' new p waits
+  new_waits way (Packed u) None q old q' new p waits = by_waits way q old q' new p waits
+  new_waits way (Split u) o q old q' new p waits = by_waits way q old q' new p waits
+
+  first_waits : (way : Option Sight) (q : BlockQueueState) (o : Option (PackedBuffer × List PackedDescriptor)) (old : H)
+      (q' : BlockQueueState) (new : H) → HappensFirst step terms way q o old None q' new
+      → is_some (waited_for q'.reach.fetch) ≡ true → is_some (waited_for q.reach.fetch) ≡ true
+  first_waits way q None old q' new p waits = new_waits way q.queue q.flight.packed q old q' new p waits
+  first_waits way q (Some t) old q' new p waits = go (is_open way q) refl p
+    where
+      go : (v : Bool) → is_open way q ≡ v
+          → MatchBool v (PopsAgain step terms way q t.0 (next_avail_of q.queue) t.1 old None q' new)
+          (HappensBy step way terms q old None q' new) → is_some (waited_for q.reach.fetch) ≡ true
+      go true opened p = still_waits q q'
+          (again_waits step terms way q t.0 (next_avail_of q.queue) t.1 old None q' new opened p) waits
       go false opened p = by_waits way q old q' new p waits
 
   nothing_waits : (way : Option Sight) (q : BlockQueueState) (old : H) (q' : BlockQueueState) (new : H)
@@ -144,7 +163,7 @@ module _ {H : Type 0} (step : H → (s : MemoryStep) → Returned s → H → Ty
           → is_some (waited_for q.reach.fetch) ≡ true
       go true p = as_waited q q' (resumes_is step q old None q' new p).2 waits
       go false (mid_q, mid, first, (becomes, still)) =
-          first_waits way q (slice_get q.flight.again 0) old mid_q mid first
+          first_waits way q (next_again q.flight) old mid_q mid first
           (as_waited mid_q q' (ap (λ (v : BlockQueueState). v.reach) becomes) waits)
 
 -- ---- an event of a turn

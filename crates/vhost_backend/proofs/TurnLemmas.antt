@@ -86,7 +86,7 @@ module _ {H : Type 0} (step : H → (s : MemoryStep) → Returned s → H → Ty
     after_ask before (Ok true) asked asks (found, popped, is) =
         let none : found ≡ pop.None = none_of found is in
         let (same, stepped) = nothing_popped q q' asked new (subst (λ f. Pops step terms q asked f q' new) none popped) in
-        ((before, Ok true, asked, asks, inr (refl, stepped)), same)
+        ((before, Ok true, asked, asks, inr (refl, inl stepped)), same)
     after_ask before (Err e) asked asks (is, same, still) = absurd (refused_some e (none_of (refused e) is))
 
     waits : (before : H) → Waits step terms q before (Some Emptied) q' new → Ends

@@ -12,7 +12,7 @@ use Rattle.vhost_backend.specs.BlockConnection.{as_negotiated, is_covered, looke
 use Rattle.vhost_backend.specs.BlockTable.{memory_lost}
 use Rattle.vhost_backend.specs.ConnectionMemory.{Joins, MemoryState, joined_memory_of, kept_table_of, marks_nothing, memory_of, memory_step, ring_memory_of, ring_table_of, table_step, way_of, with_behind, with_pages, emptied}
 use Rattle.vhost_backend.specs.PageList.{InAny, InRange, IsToMark, NoneToMark, Pages, TakesRange}
-use Rattle.vhost_backend.specs.RingMemory.{Logs, MemoryStep, Returned, adds_used, begins, enables, finishes, forgets, keeps, marks, marks_ring, needs, pops, pops_again, reads_region, reads_used, tracks}
+use Rattle.vhost_backend.specs.RingMemory.{Logs, MemoryStep, Returned, adds_used, begins, enables, finds_copies, finishes, forgets, keeps, marks, marks_ring, needs, pops, pops_again, reads_flags, reads_region, reads_used, tracks}
 use Rattle.vhost_backend.specs.Run.{Applies, Course, EventBy, Follows, GivesBy, LooksBy, MayStep, Move, MoveBy, Moves, StepsTo, after_sent, after_stop, does, end_of, end_taken, ends_of, gives_marks, gives_part, goes_on, looked, looks, loses, open_part, part_ended, takes_end, takes_turn, with_connection}
 use Rattle.vhost_backend.specs.Rings.{all_stopped}
 use Rattle.vhost_backend.specs.RunLaws.{GivesPage, IsGiven, Waits, is_marks}
@@ -68,6 +68,8 @@ grows_each m guest t old (forgets k) r new p = grows_same old new p.1
 grows_each m guest t old (pops_again q head ds) r new p = grows_same old new p.1
 grows_each m guest t old (reads_region offset n) r new p = grows_same old new p.2
 grows_each m guest t old (tracks s) r new p = grows_same old new p.1
+grows_each m guest t old (finds_copies q) r new p = grows_same old new p.1
+grows_each m guest t old (reads_flags q slot) r new p = grows_same old new p.1
 
 -- ---- a connection
 

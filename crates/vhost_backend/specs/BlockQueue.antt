@@ -14,10 +14,11 @@ use Rattle.virtio_blk.specs.declared.request.Request.TheVariants.{Refused}
 use Rattle.virtio_blk.specs.declared.request.DeviceLimits.{DeviceLimits}
 use Rattle.vhost_backend.specs.Block.{Short, block_parts, len_of, status_of, written_of}
 use Rattle.vhost_backend.specs.Fetch.{is_same_place}
+use Rattle.vhost_backend.specs.PackedFlight.{PackedFlightState}
 use Rattle.vhost_backend.specs.Marks.{Marks, MarksRing, asking_marks, chain_marks, return_marks}
 use Rattle.vhost_backend.specs.Ring.{RingState, Step}
 use Rattle.vhost_backend.specs.Reach.{ReachState, moved_to, same_log, unreached}
-use Rattle.vhost_backend.specs.RingMemory.{MemoryStep, Returned, adds_used, begins, enables, finishes, pops, reads_used}
+use Rattle.vhost_backend.specs.RingMemory.{MemoryStep, Returned, adds_used, begins, enables, finds_copies, finishes, pops, reads_used}
 use Rattle.vhost_backend.specs.SetUp.{is_split}
 use Rattle.vhost_backend.specs.Story.{busy, of_id, returned}
 use Rattle.vhost_inflight.specs.declared.split.SplitInFlight.{SplitInFlight}
@@ -43,14 +44,16 @@ pub record FlightState : Type 0 where
   pub kept : Option SplitInFlight
   -- the heads that were in flight when the ring was started, and are popped again, in order
   pub again : List ℕ
+  -- what a packed ring keeps and pops again in place of these
+  pub packed : Option PackedFlightState
 
 -- of a ring that nobody started on its part, if it has one
 abbrev pub landed : Option FlightPlace → FlightState
-landed place = record { place = place; is_unread = false; kept = None; again = [] }
+landed place = record { place = place; is_unread = false; kept = None; again = []; packed = None }
 
--- of one that was started. That of a packed ring is not used
-abbrev pub flight_started : Option FlightPlace → Bool → FlightState
-flight_started place split = record (landed place) { is_unread = is_some place && split }
+-- of one that was started
+abbrev pub flight_started : Option FlightPlace → FlightState
+flight_started place = record (landed place) { is_unread = is_some place }
 
 pub record BlockQueueState : Type 0 where
   pub queue : AnyQueue
@@ -82,7 +85,7 @@ started q queue log place =
       queue = queue;
       is_unread = is_split queue;
       reach = moved_to q.reach log;
-      flight = flight_started place (is_split queue);
+      flight = flight_started place;
     }
 
 -- one that may lie elsewhere
@@ -202,10 +205,16 @@ module _ {H : Type 0} (step : H → (s : MemoryStep) → Returned s → H → Ty
   Asks q old r new = (mid : H) × step old (enables q.queue) r mid
       × MarksRing step (asking_marks q.queue q.reach.log) mid new
 
+  -- a look at a packed ring found no descriptors of a chain
+  abbrev pub CopiesNone : AnyQueue → H → H → Type 0
+  CopiesNone (Split u) old new = ⊥
+  CopiesNone (Packed u) old new = step old (finds_copies u) (Ok None) new
+
   -- the driver was asked to notify, and a look after that found no chain
   abbrev pub FoundNone : BlockQueueState → H → Type 0
   FoundNone q new = (before : H) × (r : Result Bool QueueError) × (asked : H) × Asks q before r asked
-      × (((r ≡ Ok false) × (new ≡ asked)) ⊎ ((r ≡ Ok true) × step asked (pops q.queue) (Ok None) new))
+      × (((r ≡ Ok false) × (new ≡ asked))
+      ⊎ ((r ≡ Ok true) × (step asked (pops q.queue) (Ok None) new ⊎ CopiesNone q.queue asked new)))
 
   -- if there is none, the driver is asked to notify. If there is one by then, it is popped
   abbrev pub AfterAsk : DeviceLimits → BlockQueueState → Result Bool QueueError → H → Option RingEvent → BlockQueueState → H

@@ -15,7 +15,7 @@ use Rattle.vhost_backend.specs.declared.ring.RingEvent.TheVariants.{Kick}
 
 -- what a ring has of its part while it stores there, with these chains to be popped again
 abbrev pub stores_to : FlightPlace → SplitInFlight → List ℕ → FlightState
-stores_to p kept again = record { place = Some p; is_unread = false; kept = Some kept; again = again }
+stores_to p kept again = record { place = Some p; is_unread = false; kept = Some kept; again = again; packed = None }
 
 module _ {H : Type 0} (step : H → (s : MemoryStep) → Returned s → H → Type 0) where
   -- the stores of an effect are the last of a pop

@@ -23,6 +23,8 @@ pub mod Line
 pub mod Mapping
 pub mod Marks
 pub mod Messages
+pub mod PackedCrash
+pub mod PackedFlight
 pub mod PageList
 pub mod Parts
 pub mod Pieces

@@ -13,6 +13,8 @@ use Rattle.vm_memory_device.specs.declared.chain.Segment.{Segment}
 use Rattle.virtio_queue.specs.Again.{again}
 use Rattle.virtio_queue.specs.Any.{AddsUsed, Enables, MayWantChain, MayWantNeeds, asking, enabling, needs_notification, popped, popping, returning}
 use Rattle.virtio_queue.specs.Fields.{Answers}
+use Rattle.virtio_queue.specs.Packed.{PackedVirtqueue}
+use Rattle.virtio_queue.specs.PackedCopies.{copying, flags_in}
 use Rattle.virtio_queue.specs.Looks.{Follows, Given, MayWantAny, Step, answer, index_of}
 use Rattle.virtio_queue.specs.declared.any.AnyQueue.{AnyQueue}
 use Rattle.virtio_queue.specs.declared.error.QueueError.{QueueError}
@@ -34,8 +36,9 @@ use Rattle.vhost_backend.specs.declared.ring_memory.Logged.{Logged}
 
 -- a pop, a return, whether the driver has to be notified, that it is to notify; the beginning and the end of the block
 -- request of a chain; the index in the used ring; a mark of the pages with N bytes so far after an address, in guest
--- memory or in the ring's; a range that is kept for the ring, or is forgotten; and a chain that was in flight when the back
--- end was started, the bytes of a part of the region of these, and a store to it
+-- memory or in the ring's; a range that is kept for the ring, or is forgotten; a chain that was in flight when the back
+-- end was started, the bytes of a part of the region of these, and a store to it; and of a packed ring the descriptors of
+-- the next chain, and the flags of a slot
 pub data MemoryStep : Type 0 where
   pops : AnyQueue → MemoryStep
   adds_used : AnyQueue → PackedBuffer → ℕ → MemoryStep
@@ -51,6 +54,8 @@ pub data MemoryStep : Type 0 where
   pops_again : AnyQueue → ℕ → List PackedDescriptor → MemoryStep
   reads_region : ℕ → ℕ → MemoryStep
   tracks : Store → MemoryStep
+  finds_copies : PackedVirtqueue → MemoryStep
+  reads_flags : PackedVirtqueue → ℕ → MemoryStep
 
 -- what it returns
 abbrev pub Returned : MemoryStep → Type 0
@@ -68,6 +73,8 @@ Returned (forgets k) = Result (Unit {0}) AllocError
 Returned (pops_again q head ds) = Result (List Segment) QueueError
 Returned (reads_region offset n) = Result (List ℕ) AllocError
 Returned (tracks s) = Unit {0}
+Returned (finds_copies q) = Result (Option (List PackedDescriptor)) QueueError
+Returned (reads_flags q slot) = Result ℕ QueueError
 
 -- a call of the table of a ring, if it has one. If an allocation fails, nothing changes
 abbrev pub ChangesTable : {B : Type 0} → Option TlbId → TableEvent → Host B → Result (Unit {0}) AllocError → Host B
@@ -105,6 +112,10 @@ module _ {B : Type 0} (marks_of : B → ℕ → ℕ → B → Type 0) (ring gues
       Answers (MayWantAny ring old t) (answer ring old t) r × (new ≡ old)
   Still old (reads_region offset n) r new = new ≡ old
   Still old (tracks s) r new = new ≡ old
+  Still old (finds_copies q) r new = let t = copying q.state in
+      Answers (MayWantAny ring old t) (answer ring old t) r × (new ≡ old)
+  Still old (reads_flags q slot) r new = let t = flags_in q.state slot in
+      Answers (MayWantAny ring old t) (answer ring old t) r × (new ≡ old)
 
   -- and the pages that are to be marked, and the region
   abbrev pub Logs : Logged B → (s : MemoryStep) → Returned s → Logged B → Type 0
@@ -130,6 +141,10 @@ module _ {B : Type 0} (marks_of : B → ℕ → ℕ → B → Type 0) (ring gues
       × (new.host ≡ old.host) × (new.pages ≡ old.pages) × (new.region ≡ old.region)
   Logs old (tracks s) r new =
       (new.host ≡ old.host) × (new.pages ≡ old.pages) × (new.region ≡ stored old.region s)
+  Logs old (finds_copies q) r new =
+      Still old.host (finds_copies q) r new.host × (new.pages ≡ old.pages) × (new.region ≡ old.region)
+  Logs old (reads_flags q slot) r new =
+      Still old.host (reads_flags q slot) r new.host × (new.pages ≡ old.pages) × (new.region ≡ old.region)
 
 -- on memory that a guest writes: the looks and stores that the definition of the step asks for, in this order and each
 -- once. What it makes of marks and of the ring's table, it says itself
@@ -154,3 +169,5 @@ module _ {H : Type 0} (look : H → (s : Step) → Result (Given s) QueueError �
   ByLooks old (pops_again q head ds) r new = Follows look (again q head ds) old r new
   ByLooks old (reads_region offset n) r new = log old (reads_region offset n) r new
   ByLooks old (tracks s) r new = log old (tracks s) r new
+  ByLooks old (finds_copies q) r new = Follows look (copying q.state) old r new
+  ByLooks old (reads_flags q slot) r new = Follows look (flags_in q.state slot) old r new

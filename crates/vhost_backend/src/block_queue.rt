@@ -246,11 +246,10 @@ impl BlockQueue {
     pub fn start(&mut self, queue: AnyQueue, log: Option<u64>, part: Option<FlightPlace>)
         ensures { self.new ≡ started self.old queue log part }
     {
-        let split = is_split(&queue);
-        self.is_unread = split;
+        self.is_unread = is_split(&queue);
         self.queue = queue;
         self.reach.move_to(log);
-        self.flight.start(part, split);
+        self.flight.start(part);
     }
 
     /// Makes the queue one that was not set up.

@@ -24,6 +24,8 @@ mod kicks;
 pub mod laws;
 mod mapping;
 pub mod messages_laws;
+pub mod packed_crash_laws;
+mod packed_flight;
 mod page_list;
 mod parts;
 mod pieces;

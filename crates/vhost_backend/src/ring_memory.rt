@@ -3,12 +3,15 @@ ghost use Rattle.std.specs.Prelude.{◌≡◌, ◌<◌, ℕ, IfOk, MatchOption, 
 ghost use Rattle.vm_memory_base.specs.Table.{Set, Invalidate, says};
 ghost use Rattle.vm_memory_guest.specs.Host.{Holds, shape_of};
 ghost use Rattle.virtio_queue.specs.Any.{after_asked, after_pop, after_used};
+ghost use Rattle.virtio_queue.specs.PackedCopies.{copied};
 ghost use Rattle.virtio_blk.specs.Steps.{FitsOn};
 ghost use Rattle.vhost_iotlb.specs.Kept.{IsReal};
 ghost use Rattle.vhost_backend.specs.RingMarks.{marked_through, range_marked};
 ghost use Rattle.vhost_backend.specs.RingMemory.{ByLooks, ChangesTable, HoldsAll, Logs, MemoryStep, Returned};
-ghost use Rattle.vhost_backend.specs.RingMemory.{adds_used, begins, enables, finishes, forgets, keeps, marks};
-ghost use Rattle.vhost_backend.specs.RingMemory.{marks_ring, needs, pops, pops_again, reads_region, reads_used, tracks};
+ghost use Rattle.vhost_backend.specs.RingMemory.{adds_used, begins, enables, finds_copies, finishes, forgets, keeps};
+ghost use Rattle.vhost_backend.specs.RingMemory.{marks};
+ghost use Rattle.vhost_backend.specs.RingMemory.{marks_ring, needs, pops, pops_again, reads_flags, reads_region, reads_used};
+ghost use Rattle.vhost_backend.specs.RingMemory.{tracks};
 
 use crate::page_list::PageList;
 use crate::region::{Region, RegionBytes};
@@ -16,7 +19,9 @@ use std::alloc::{AllocError, Global};
 use vhost_inflight::Store;
 use vhost_iotlb::Kept;
 use virtio_blk::{DeviceLimits, Fetches, Puts, Request, begin, begin_from, finish, finish_from};
-use virtio_queue::{AnyQueue, Looks, PackedBuffer, PackedDescriptor, Queue, QueueError, Stores};
+use virtio_queue::{
+    AnyQueue, Looks, PackedBuffer, PackedDescriptor, PackedQueue, Queue, QueueError, Stores,
+};
 use vm_memory_base::{Bitmap, GuestAddress, Iotlb, IotlbIterator, MappedRange, Permissions};
 use vm_memory_device::{Chain, Segment};
 use vm_memory_guest::{GuestMemory, GuestMemoryResult, HostMemory, TlbId};
@@ -193,6 +198,24 @@ pub trait RingMemory<H> {
     fn track(&self, host: &mut H, store: Store)
         requires { held self.now host.old }
         ensures step { steps self.now host.old (tracks store) tt host.new }
+        ensures held { held self.now host.new };
+
+    /// Has a list have the descriptors of the next chain of a packed queue, and returns whether there is one. The queue
+    /// stays where it is.
+    fn next_copies(
+        &self,
+        host: &mut H,
+        list: &mut Vec<PackedDescriptor>,
+        queue: &PackedQueue,
+    ) -> Result<bool, QueueError>
+        requires { held self.now host.old }
+        ensures step { steps self.now host.old (finds_copies queue.now) (copied result list.new.items) host.new }
+        ensures held { held self.now host.new };
+
+    /// The flags that lie in a slot of a packed queue.
+    fn flags_at(&self, host: &mut H, queue: &PackedQueue, slot: u16) -> Result<u16, QueueError>
+        requires { held self.now host.old }
+        ensures step { steps self.now host.old (reads_flags queue.now slot) result host.new }
         ensures held { held self.now host.new };
 }
 
@@ -410,6 +433,24 @@ impl<M: GuestMemory, P: GuestMemory, K: GuestMemory, B: Bitmap> RingMemory<Logge
     fn track(&self, logged: &mut Logged<B>, store: Store) {
         logged.region.store(store);
     }
+
+    fn next_copies(
+        &self,
+        logged: &mut Logged<B>,
+        list: &mut Vec<PackedDescriptor>,
+        queue: &PackedQueue,
+    ) -> Result<bool, QueueError> {
+        queue.next_copies(list, self.ring, &logged.host)
+    }
+
+    fn flags_at(
+        &self,
+        logged: &mut Logged<B>,
+        queue: &PackedQueue,
+        slot: u16,
+    ) -> Result<u16, QueueError> {
+        queue.flags_at(self.ring, &logged.host, slot)
+    }
 }
 
 /// Guest memory at which the calls look, to which they store, and in which they mark, while a guest may write it. This
@@ -517,5 +558,18 @@ impl<L: Looks + Fetches + Puts + Marks, S: Stores<L>> RingMemory<L> for Looked<'
 
     fn track(&self, guest: &mut L, store: Store) {
         guest.track(store);
+    }
+
+    fn next_copies(
+        &self,
+        guest: &mut L,
+        list: &mut Vec<PackedDescriptor>,
+        queue: &PackedQueue,
+    ) -> Result<bool, QueueError> {
+        queue.next_copies_from(list, guest)
+    }
+
+    fn flags_at(&self, guest: &mut L, queue: &PackedQueue, slot: u16) -> Result<u16, QueueError> {
+        queue.flags_at_from(guest, slot)
     }
 }

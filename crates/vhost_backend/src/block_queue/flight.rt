@@ -1,23 +1,28 @@
 //! The queue of a ring whose requests in flight are stored in a region: where it goes on after a start, and what it
 //! stores at each pop and each return.
 ghost use Rattle.std.specs.Prelude.{◌≡◌, ◌^◌, ◌<◌};
-ghost use Rattle.vhost_backend.specs.Flight.{found_again, is_due, is_open, next_used_of, size_of, start_refused};
-ghost use Rattle.vhost_backend.specs.Flight.{used_ring_of};
+ghost use Rattle.vhost_backend.specs.Flight.{base_in, bits_of, found_as, is_due, is_open, next_used_of, packed_refused};
+ghost use Rattle.vhost_backend.specs.Flight.{PackedStartsBy, size_of, start_refused, stood_at, used_ring_of};
 ghost use Rattle.vhost_backend.specs.Sight.{sight_of};
 
 use super::marks::mark_logged;
 use super::{BlockQueue, GiveBack, Way, event_of, refused};
 use crate::fetch::Found;
 use crate::flight::{FlightPlace, track_at};
+use crate::packed_flight::{PackedFlight, buffer_of, track_packed_at};
 use crate::pieces::Piece;
 use crate::region::RegionBytes;
 use crate::request::Chain;
 use crate::ring::RingEvent;
 use crate::ring_memory::RingMemory;
+use crate::set_up::is_split;
 use std::alloc::Global;
-use vhost_inflight::{SplitInFlight, SplitStart, StartError, start_split};
+use vhost_inflight::{
+    PackedPosition, PackedReturn, PackedStart, PackedStartError, SplitInFlight, SplitStart,
+    StartError, packed_old_slot, start_packed, start_split,
+};
 use virtio_blk::DeviceLimits;
-use virtio_queue::{AnyQueue, PackedBuffer, QueueError};
+use virtio_queue::{AnyQueue, PackedBuffer, PackedQueue, QueueError, RingPosition};
 use vm_memory_device::Chain as Descriptors;
 
 // A region that no run leaves breaks its ring. If an allocation failed, it is read again.
@@ -30,6 +35,60 @@ fn start_refused(error: StartError) -> Option<RingEvent>
     }
 }
 
+fn packed_refused(error: PackedStartError) -> Option<RingEvent>
+    ensures { result ≡ packed_refused error }
+{
+    match error {
+        PackedStartError::Memory => None,
+        _ => Some(RingEvent::Break),
+    }
+}
+
+// Where a packed queue goes on if its part of the region is fresh.
+fn base_in(queue: &PackedQueue) -> PackedPosition
+    ensures { result ≡ base_in queue.now.state }
+{
+    let next = queue.state().next_used;
+    PackedPosition {
+        slot: next.slot,
+        wrap: next.wrap,
+    }
+}
+
+fn bits_of(position: PackedPosition) -> u16
+    ensures { result ≡ bits_of position }
+{
+    let position = RingPosition {
+        slot: position.slot,
+        wrap: position.wrap,
+    };
+    position.to_bits()
+}
+
+// Has a packed queue go on where a start says.
+fn stand_at(queue: &mut AnyQueue, next_avail: PackedPosition, next_used: PackedPosition)
+    ensures { queue.new ≡ stood_at queue.old next_avail next_used }
+{
+    if let AnyQueue::Packed(queue) = queue {
+        let base = u32::from(bits_of(next_avail)) + 0x1_0000 * u32::from(bits_of(next_used));
+        let _ = queue.set_vring_base(base);
+    }
+}
+
+// Where a packed ring goes on by its part of the region, and the flags of the slot that this names.
+fn start_by(
+    alloc: Global,
+    bytes: &RegionBytes,
+    descriptors: u16,
+    size: u16,
+    base: PackedPosition,
+    flags: u16,
+) -> Result<PackedStart, PackedStartError>
+    ensures { PackedStartsBy bytes.now descriptors size base flags result }
+{
+    start_packed(alloc, bytes.as_slice(), descriptors, size, base, flags)
+}
+
 // Where a split queue returns its next chain.
 fn next_used_of(queue: &AnyQueue) -> u16
     ensures { result ≡ next_used_of queue.now }
@@ -37,6 +96,24 @@ fn next_used_of(queue: &AnyQueue) -> u16
     match queue {
         AnyQueue::Split(queue) => queue.next_used(),
         AnyQueue::Packed(_) => 0,
+    }
+}
+
+// A chain whose descriptors are known, as one that was found.
+fn found_as(
+    buffer: PackedBuffer,
+    after: u16,
+    chain: Result<Descriptors, QueueError>,
+) -> Result<Option<Found>, QueueError>
+    ensures { result ≡ found_as buffer after chain }
+{
+    match chain {
+        Ok(chain) => Ok(Some(Found {
+            chain,
+            buffer,
+            after,
+        })),
+        Err(error) => Err(error),
     }
 }
 
@@ -71,9 +148,19 @@ fn used_ring_of(queue: &AnyQueue) -> Piece
 }
 
 impl BlockQueue {
-    ghost use Rattle.std.specs.Prelude.{slice_get};
-    ghost use Rattle.vhost_backend.specs.Flight.{AfterAgain, AfterRegion, AfterStart, Flies, FliesAt, FliesBy, GivesIn};
-    ghost use Rattle.vhost_backend.specs.Flight.{HappensFirst, HappensIn, Lands, PopsAgain, ReadsRegion, Resumes};
+    ghost use Rattle.std.specs.Prelude.{List, Some};
+    ghost use Rattle.virtio_queue.specs.Any.{next_avail_of, past};
+    ghost use Rattle.virtio_queue.specs.Packed.{PackedVirtqueue};
+    ghost use Rattle.virtio_queue.specs.PackedCopies.{copied};
+    ghost use Rattle.virtio_queue.specs.declared.any.AnyQueue.TheVariants.{Packed};
+    ghost use Rattle.virtio_queue.specs.declared.packed.descriptor.PackedDescriptor.{PackedDescriptor};
+    ghost use Rattle.virtio_queue.specs.declared.packed.state.PackedBuffer.{PackedBuffer};
+    ghost use Rattle.vhost_backend.specs.Flight.{AfterCopies, AfterKnown, AfterOld, AfterPackedStart, AfterRegion, BeginsKnown};
+    ghost use Rattle.vhost_backend.specs.Flight.{AfterStart, FindsCopies, FliesAt, FliesBy, GivesIn, GivesPacked};
+    ghost use Rattle.vhost_backend.specs.Flight.{HappensFirst, HappensIn, HappensNew, Lands, LandsPacked, PopsAgain};
+    ghost use Rattle.vhost_backend.specs.Flight.{PopsCopies, ReadsOld, ReadsRegion, Resumes, WaitsCopies, after_of};
+    ghost use Rattle.vhost_backend.specs.Flight.{found_in, next_again, pops_copies};
+    ghost use Rattle.vhost_backend.specs.PackedFlight.{PackedFlightState, buffer_of};
 
     // Whether its areas can be read.
     fn is_open(&self, way: Option<&Way<'_>>) -> bool
@@ -119,6 +206,90 @@ impl BlockQueue {
         }
     }
 
+    fn go_on_with<H, D: RingMemory<H>>(
+        &mut self,
+        alloc: Global,
+        mem: &D,
+        host: &mut H,
+        place: FlightPlace,
+        start: PackedStart,
+    ) -> Option<RingEvent>
+        requires { D.held mem.now host.old }
+        ensures after { AfterPackedStart (D.steps mem.now) self.old place (Ok start) host.old result self.new host.new }
+        ensures held { D.held mem.now host.new }
+    {
+        let ids = self.asked.len();
+        match PackedFlight::new(alloc, start.in_flight, start.again, start.copies, ids) {
+            Ok(flight) => {
+                track_packed_at(mem, host, Some(place), start.stores.as_slice());
+                mark_logged(mem, host, self.reach.log(), used_ring_of(&self.queue));
+                stand_at(&mut self.queue, start.next_avail, start.next_used);
+                self.flight.go_on_packed(flight);
+                Some(RingEvent::Kick)
+            }
+            Err(_) => None,
+        }
+    }
+
+    fn go_on_packed<H, D: RingMemory<H>>(
+        &mut self,
+        alloc: Global,
+        mem: &D,
+        host: &mut H,
+        place: FlightPlace,
+        start: Result<PackedStart, PackedStartError>,
+    ) -> Option<RingEvent>
+        requires { D.held mem.now host.old }
+        ensures after { AfterPackedStart (D.steps mem.now) self.old place start host.old result self.new host.new }
+        ensures held { D.held mem.now host.new }
+    {
+        match start {
+            Ok(start) => self.go_on_with(alloc, mem, host, place, start),
+            Err(error) => packed_refused(error),
+        }
+    }
+
+    // The flags of the slot that the region names, if it names one.
+    fn read_old<H, D: RingMemory<H>>(
+        mem: &D,
+        host: &mut H,
+        queue: &PackedQueue,
+        slot: Option<u16>,
+    ) -> Result<u16, QueueError>
+        requires { D.held mem.now host.old }
+        ensures reads { ReadsOld (D.steps mem.now) queue.now slot host.old result host.new }
+        ensures held { D.held mem.now host.new }
+    {
+        match slot {
+            Some(slot) => mem.flags_at(host, queue, slot),
+            None => Ok(0),
+        }
+    }
+
+    fn go_on_old<H, D: RingMemory<H>>(
+        &mut self,
+        alloc: Global,
+        mem: &D,
+        host: &mut H,
+        place: FlightPlace,
+        bytes: &RegionBytes,
+        ring: (u16, PackedPosition),
+        flags: Result<u16, QueueError>,
+    ) -> Option<RingEvent>
+        requires { D.held mem.now host.old }
+        ensures after { AfterOld (D.steps mem.now) ring.0 ring.1 self.old place bytes.now flags host.old result self.new
+            host.new }
+        ensures held { D.held mem.now host.new }
+    {
+        match flags {
+            Ok(flags) => {
+                let start = start_by(alloc, bytes, place.descriptors, ring.0, ring.1, flags);
+                self.go_on_packed(alloc, mem, host, place, start)
+            }
+            Err(error) => event_of(refused(error)),
+        }
+    }
+
     fn go_on_from<H, D: RingMemory<H>>(
         &mut self,
         alloc: Global,
@@ -131,9 +302,19 @@ impl BlockQueue {
         ensures after { AfterRegion (D.steps mem.now) self.old place (Ok bytes.now) host.old result self.new host.new }
         ensures held { D.held mem.now host.new }
     {
-        let (size, used) = (size_of(&self.queue), next_used_of(&self.queue));
-        let start = start_split(alloc, bytes.as_slice(), place.descriptors, size, used);
-        self.go_on_by(mem, host, place, start)
+        match &self.queue {
+            AnyQueue::Split(_) => {
+                let (size, used) = (size_of(&self.queue), next_used_of(&self.queue));
+                let start = start_split(alloc, bytes.as_slice(), place.descriptors, size, used);
+                self.go_on_by(mem, host, place, start)
+            }
+            AnyQueue::Packed(queue) => {
+                let (size, base) = (queue.size(), base_in(queue));
+                let slot = packed_old_slot(bytes.as_slice(), size);
+                let flags = Self::read_old(mem, host, queue, slot);
+                self.go_on_old(alloc, mem, host, place, bytes, (size, base), flags)
+            }
+        }
     }
 
     // Reads its part of the region.
@@ -174,51 +355,53 @@ impl BlockQueue {
         }
     }
 
-    // ---- chains that were in flight
+    // ---- chains whose descriptors are known
 
-    fn begin_again<H, D: RingMemory<H>>(
+    fn begin_known<H, D: RingMemory<H>>(
         &mut self,
         alloc: Global,
         mem: &D,
         host: &mut H,
         terms: DeviceLimits,
-        head: u16,
-        chain: Result<Descriptors, QueueError>,
+        found: Found,
     ) -> Option<RingEvent>
         requires held { D.held mem.now host.old }
         requires small { terms.sectors < 2 ^ 55 }
-        ensures after { AfterAgain (D.steps mem.now) terms self.old head chain host.old result self.new host.new }
+        ensures begins { BeginsKnown (D.steps mem.now) terms self.old found host.old result self.new host.new }
         ensures held { D.held mem.now host.new }
     {
-        match chain {
-            Ok(chain) => {
-                let buffer = PackedBuffer { id: head, slots: 1 };
-                let next = self.queue.next_avail();
-                event_of(self.begin(alloc, mem, host, terms, next, (buffer, chain)))
-            }
+        let next = self.queue.next_avail();
+        self.queue.go_back(found.after);
+        event_of(self.begin(alloc, mem, host, terms, next, (found.buffer, found.chain)))
+    }
+
+    // Pops a chain of which the descriptors are known. If a table translates addresses, its bytes are fetched first.
+    fn pop_known<H, D: RingMemory<H>>(
+        &mut self,
+        alloc: Global,
+        mem: &D,
+        host: &mut H,
+        terms: DeviceLimits,
+        way: Option<&Way<'_>>,
+        found: Result<Option<Found>, QueueError>,
+    ) -> Option<RingEvent>
+        requires held { D.held mem.now host.old }
+        requires small { terms.sectors < 2 ^ 55 }
+        ensures pops { AfterKnown (D.steps mem.now) terms (sight_of way.entry) self.old found host.old result self.new
+            host.new }
+        ensures held { D.held mem.now host.new }
+    {
+        if let Some(_) = way {
+            return self.after_look(alloc, mem, host, terms, found);
+        }
+        match found {
+            Ok(Some(found)) => self.begin_known(alloc, mem, host, terms, found),
+            Ok(None) => Some(RingEvent::Emptied),
             Err(error) => event_of(refused(error)),
         }
     }
 
-    // The chain of a head, which is found as one that is popped.
-    fn found_again(
-        &self,
-        head: u16,
-        chain: Result<Descriptors, QueueError>,
-    ) -> Result<Option<Found>, QueueError>
-        ensures { result ≡ found_again self.now head chain }
-    {
-        match chain {
-            Ok(chain) => Ok(Some(Found {
-                chain,
-                buffer: PackedBuffer { id: head, slots: 1 },
-                after: self.queue.next_avail(),
-            })),
-            Err(error) => Err(error),
-        }
-    }
-
-    // Pops a chain again that was in flight.
+    // Pops the chain again that was in flight and comes next.
     fn pop_again<H, D: RingMemory<H>>(
         &mut self,
         alloc: Global,
@@ -226,22 +409,163 @@ impl BlockQueue {
         host: &mut H,
         terms: DeviceLimits,
         way: Option<&Way<'_>>,
-        head: u16,
     ) -> Option<RingEvent>
         requires held { D.held mem.now host.old }
         requires small { terms.sectors < 2 ^ 55 }
-        ensures pops { PopsAgain (D.steps mem.now) terms (sight_of way.entry) self.old head host.old result self.new
-            host.new }
+        ensures pops { (p : PackedBuffer × List PackedDescriptor) → next_again self.old.flight ≡ Some p
+            → PopsAgain (D.steps mem.now) terms (sight_of way.entry) self.old p.0 (next_avail_of self.old.queue) p.1
+            host.old result self.new host.new }
         ensures held { D.held mem.now host.new }
     {
-        let chain = mem.pop_again(host, alloc, &mut self.spare.next, &self.queue, head, &[]);
-        match way {
-            Some(_) => {
-                let found = self.found_again(head, chain);
-                self.after_look(alloc, mem, host, terms, found)
-            }
-            None => self.begin_again(alloc, mem, host, terms, head, chain),
+        let Some((buffer, descriptors)) = self.flight.next() else {
+            return None;
+        };
+        let after = self.queue.next_avail();
+        let list = &mut self.spare.next;
+        let chain = mem.pop_again(host, alloc, list, &self.queue, buffer.id, descriptors);
+        self.pop_known(alloc, mem, host, terms, way, found_as(buffer, after, chain))
+    }
+
+    // ---- chains of a packed ring that keeps what is in flight
+
+    // Looks for the descriptors of the next chain.
+    fn find_copies<H, D: RingMemory<H>>(
+        &mut self,
+        mem: &D,
+        host: &mut H,
+    ) -> Result<bool, QueueError>
+        requires { D.held mem.now host.old }
+        ensures finds { (u : PackedVirtqueue) (k : PackedFlightState) → self.old.queue ≡ Packed u
+            → self.old.flight.packed ≡ Some k → FindsCopies (D.steps mem.now) u k self.old host.old
+            (copied result (found_in self.new.flight.packed)) self.new host.new }
+        ensures held { D.held mem.now host.new }
+    {
+        match &self.queue {
+            AnyQueue::Split(_) => Ok(false),
+            AnyQueue::Packed(queue) => self.flight.find(mem, host, queue),
         }
+    }
+
+    // Pops the chain of the descriptors that were found.
+    fn pop_found<H, D: RingMemory<H>>(
+        &mut self,
+        alloc: Global,
+        mem: &D,
+        host: &mut H,
+        terms: DeviceLimits,
+        way: Option<&Way<'_>>,
+    ) -> Option<RingEvent>
+        requires held { D.held mem.now host.old }
+        requires small { terms.sectors < 2 ^ 55 }
+        ensures pops { let ds = found_in self.old.flight.packed in
+            PopsAgain (D.steps mem.now) terms (sight_of way.entry) self.old (buffer_of ds)
+            (next_avail_of (past self.old.queue (buffer_of ds))) ds host.old result self.new host.new }
+        ensures held { D.held mem.now host.new }
+    {
+        let buffer = buffer_of(self.flight.found());
+        let after = self.queue.next_after(buffer.slots);
+        let (list, found) = (&mut self.spare.next, self.flight.found());
+        let chain = mem.pop_again(host, alloc, list, &self.queue, buffer.id, found);
+        self.pop_known(alloc, mem, host, terms, way, found_as(buffer, after, chain))
+    }
+
+    fn after_copies<H, D: RingMemory<H>>(
+        &mut self,
+        alloc: Global,
+        mem: &D,
+        host: &mut H,
+        terms: DeviceLimits,
+        way: Option<&Way<'_>>,
+        found: Result<bool, QueueError>,
+    ) -> Option<RingEvent>
+        requires held { D.held mem.now host.old }
+        requires small { terms.sectors < 2 ^ 55 }
+        ensures after { AfterCopies (D.steps mem.now) terms (sight_of way.entry)
+            (copied found (found_in self.old.flight.packed)) self.old host.old result self.new host.new }
+        ensures held { D.held mem.now host.new }
+    {
+        match found {
+            Ok(true) => self.pop_found(alloc, mem, host, terms, way),
+            Ok(false) => Some(RingEvent::Emptied),
+            Err(error) => self.pop_known(alloc, mem, host, terms, way, Err(error)),
+        }
+    }
+
+    // There was no chain.
+    fn wait_for_copies<H, D: RingMemory<H>>(
+        &mut self,
+        alloc: Global,
+        mem: &D,
+        host: &mut H,
+        terms: DeviceLimits,
+        way: Option<&Way<'_>>,
+    ) -> Option<RingEvent>
+        requires held { D.held mem.now host.old }
+        requires small { terms.sectors < 2 ^ 55 }
+        ensures waits { (u : PackedVirtqueue) (k : PackedFlightState) → self.old.queue ≡ Packed u
+            → self.old.flight.packed ≡ Some k → WaitsCopies (D.steps mem.now) terms (sight_of way.entry) u k self.old
+            host.old result self.new host.new }
+        ensures held { D.held mem.now host.new }
+    {
+        match self.ask(mem, host) {
+            Ok(true) => {
+                let found = self.find_copies(mem, host);
+                self.after_copies(alloc, mem, host, terms, way, found)
+            }
+            Ok(false) => Some(RingEvent::Emptied),
+            Err(error) => event_of(refused(error)),
+        }
+    }
+
+    // Pops the next chain by its descriptors, or asks the driver to notify if there is none.
+    fn pop_copies<H, D: RingMemory<H>>(
+        &mut self,
+        alloc: Global,
+        mem: &D,
+        host: &mut H,
+        terms: DeviceLimits,
+        way: Option<&Way<'_>>,
+    ) -> Option<RingEvent>
+        requires held { D.held mem.now host.old }
+        requires small { terms.sectors < 2 ^ 55 }
+        ensures pops { (u : PackedVirtqueue) (k : PackedFlightState) → self.old.queue ≡ Packed u
+            → self.old.flight.packed ≡ Some k → PopsCopies (D.steps mem.now) terms (sight_of way.entry) u k self.old
+            host.old result self.new host.new }
+        ensures held { D.held mem.now host.new }
+    {
+        match self.find_copies(mem, host) {
+            Ok(true) => self.after_copies(alloc, mem, host, terms, way, Ok(true)),
+            Ok(false) => self.wait_for_copies(alloc, mem, host, terms, way),
+            Err(error) => self.after_copies(alloc, mem, host, terms, way, Err(error)),
+        }
+    }
+
+    // Whether it pops chains by their descriptors.
+    #[inline(always)]
+    fn copies(&self, way: Option<&Way<'_>>) -> bool
+        ensures { result ≡ pops_copies (sight_of way.entry) self.now }
+    {
+        self.flight.is_packed() && !is_split(&self.queue) && self.is_open(way)
+    }
+
+    fn anew<H, D: RingMemory<H>>(
+        &mut self,
+        alloc: Global,
+        mem: &D,
+        host: &mut H,
+        terms: DeviceLimits,
+        way: Option<&Way<'_>>,
+    ) -> Option<RingEvent>
+        requires held { D.held mem.now host.old }
+        requires small { terms.sectors < 2 ^ 55 }
+        ensures anew { HappensNew (D.steps mem.now) terms (sight_of way.entry) self.old.queue self.old.flight.packed
+            self.old host.old result self.new host.new }
+        ensures held { D.held mem.now host.new }
+    {
+        if self.copies(way) {
+            return self.pop_copies(alloc, mem, host, terms, way);
+        }
+        self.next_event(alloc, mem, host, terms, way)
     }
 
     // ---- turns
@@ -256,14 +580,15 @@ impl BlockQueue {
     ) -> Option<RingEvent>
         requires held { D.held mem.now host.old }
         requires small { terms.sectors < 2 ^ 55 }
-        ensures first { HappensFirst (D.steps mem.now) terms (sight_of way.entry) self.old
-            (slice_get self.old.flight.again 0) host.old result self.new host.new }
+        ensures first { HappensFirst (D.steps mem.now) terms (sight_of way.entry) self.old (next_again self.old.flight)
+            host.old result self.new host.new }
         ensures held { D.held mem.now host.new }
     {
-        if let Some(head) = self.flight.next() {
-            if self.is_open(way) {
-                return self.pop_again(alloc, mem, host, terms, way, head);
-            }
+        if !self.flight.has_next() {
+            return self.anew(alloc, mem, host, terms, way);
+        }
+        if self.is_open(way) {
+            return self.pop_again(alloc, mem, host, terms, way);
         }
         self.next_event(alloc, mem, host, terms, way)
     }
@@ -272,19 +597,20 @@ impl BlockQueue {
     #[inline(always)]
     fn fly<H, D: RingMemory<H>>(&mut self, mem: &D, host: &mut H, chain: Chain)
         requires { D.held mem.now host.old }
-        ensures flies { FliesAt (D.steps mem.now) (slice_get self.old.flight.again 0) chain self.old host.old self.new
-            host.new }
+        ensures flies { FliesAt (D.steps mem.now) (next_again self.old.flight) chain self.old host.old self.new host.new }
         ensures held { D.held mem.now host.new }
     {
-        if self.flight.next().is_some() {
-            self.flight.pass();
+        if self.flight.has_next() {
+            self.flight.pass(chain.id);
             return;
         }
         if let Some(mut kept) = self.flight.kept() {
             let stores = kept.pop(chain.id);
             track_at(mem, host, self.flight.place(), &stores);
             self.flight.set_kept(kept);
+            return;
         }
+        self.flight.fly(mem, host, chain.id);
     }
 
     fn fly_by<H, D: RingMemory<H>>(&mut self, mem: &D, host: &mut H, event: &Option<RingEvent>)
@@ -343,6 +669,44 @@ impl BlockQueue {
         }
     }
 
+    // The same of a packed ring.
+    fn land_packed<H, D: RingMemory<H>>(
+        &self,
+        mem: &D,
+        host: &mut H,
+        stores: Option<PackedReturn>,
+        given: &GiveBack,
+    )
+        requires { D.held mem.now host.old }
+        ensures lands { LandsPacked (D.steps mem.now) given.now self.now (after_of stores) host.old host.new }
+        ensures held { D.held mem.now host.new }
+    {
+        if let (GiveBack::Done, Some(stores)) = (given, stores) {
+            track_packed_at(mem, host, self.flight.place(), &stores.after);
+        }
+    }
+
+    // Returns a chain of a ring that keeps no split part.
+    fn give_back_packed<H, D: RingMemory<H>>(
+        &mut self,
+        mem: &D,
+        host: &mut H,
+        chain: Chain,
+        len: u32,
+    ) -> GiveBack
+        requires { D.held mem.now host.old }
+        ensures gives { GivesPacked (D.steps mem.now) self.old chain len host.old result self.new host.new }
+        ensures held { D.held mem.now host.new }
+    {
+        let stores = self.flight.begin_return(chain.id);
+        if let Some(stores) = stores {
+            track_packed_at(mem, host, self.flight.place(), &stores.before);
+        }
+        let came = self.give_back(mem, host, chain, len);
+        self.land_packed(mem, host, stores, &came);
+        came
+    }
+
     /// Returns a chain whose request was ended, as `give_back`. If its ring's requests in flight are stored in a
     /// region, that names it before the ring does, and has it in flight until after that.
     pub fn give_back_in<H, D: RingMemory<H>>(
@@ -357,7 +721,7 @@ impl BlockQueue {
         ensures held { D.held mem.now host.new }
     {
         let Some(mut kept) = self.flight.kept() else {
-            return self.give_back(mem, host, chain, len);
+            return self.give_back_packed(mem, host, chain, len);
         };
         let stores = kept.begin_return(chain.id);
         track_at(mem, host, self.flight.place(), &stores);
