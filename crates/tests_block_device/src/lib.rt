@@ -4,6 +4,8 @@
 #[cfg(test)]
 mod bench;
 #[cfg(test)]
+mod copies;
+#[cfg(test)]
 mod disks;
 #[cfg(test)]
 mod files;

@@ -7,6 +7,8 @@ mod LawLemmas
 mod LinkedLemmas
 mod LookLemmas
 mod PackedBridgeLemmas
+mod PackedCopyLawLemmas
+mod PackedCopyLemmas
 mod PackedHistoryLemmas
 mod PackedLawLemmas
 mod PackedLookLemmas

@@ -11,6 +11,7 @@ pub mod Linked
 pub mod Looks
 pub mod Notification
 pub mod Packed
+pub mod PackedCopies
 pub mod PackedDriver
 pub mod PackedEvents
 pub mod PackedHistory

@@ -1,5 +1,5 @@
 //! Queues of either kind.
-ghost use Rattle.std.specs.Prelude.{◌≡◌, None, Ok, false, OnOk};
+ghost use Rattle.std.specs.Prelude.{◌≡◌, ℕ, None, Ok, false, OnOk};
 ghost use Rattle.vm_memory_guest.specs.Host.{shape_of, Holds};
 ghost use Rattle.virtio_queue.specs.Again.{again};
 ghost use Rattle.virtio_queue.specs.Any.{AddsUsed, Disables, Enables, HasNone, MayWantChain, MayWantNeeds};
@@ -364,6 +364,18 @@ impl AnyQueue {
         match self {
             AnyQueue::Split(queue) => queue.next_avail(),
             AnyQueue::Packed(queue) => queue.next_avail().to_bits(),
+        }
+    }
+
+    /// What `next_avail` returns after the next chain was popped, if that takes so many slots of a packed queue. One of
+    /// a split queue takes one entry, whatever this number is.
+    #[inline]
+    pub fn next_after(&self, slots: u16) -> u16
+        ensures { (id : ℕ) → result ≡ next_avail_of (past self.now (record { id = id; slots = slots })) }
+    {
+        match self {
+            AnyQueue::Split(queue) => queue.next_avail().wrapping_add(1),
+            AnyQueue::Packed(queue) => queue.next_avail().bits_after(queue.size(), slots),
         }
     }
 

@@ -7,6 +7,7 @@ ghost use Rattle.virtio_queue.specs.Packed.{set_if, state_error, with_next_avail
 mod again;
 mod available;
 mod chain;
+mod copies;
 mod descriptor;
 mod driver;
 mod events;

@@ -54,6 +54,21 @@ impl RingPosition {
         if self.wrap { slot + 0x8000 } else { slot }
     }
 
+    // As 16 bits, the position `count` slots further.
+    pub(crate) fn bits_after(self, size: u16, count: u16) -> u16
+        ensures { result ≡ to_bits (moved size self count) }
+    {
+        let slot = u32::from(self.slot) + u32::from(count);
+        let size = u32::from(size);
+        let (slot, wrap) = if slot < size {
+            (slot, self.wrap)
+        } else {
+            (slot - size, !self.wrap)
+        };
+        let low = (slot % 0x8000) as u16;
+        if wrap { low + 0x8000 } else { low }
+    }
+
     /// The position `count` slots further, at most the size: past the end the wrap counter flips.
     #[inline]
     pub fn moved(self, size: u16, count: u16) -> RingPosition
