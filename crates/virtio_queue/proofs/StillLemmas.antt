@@ -1,5 +1,5 @@
 -- What looks at memory that stands still give: the answer that it holds.
-use Rattle.std.proofs.Common.{◌≡◌, ◌⊎◌, ◌∙◌, ℕ, zero, suc, ◌+◌, ◌==◌, if◌then◌else◌, nat_lt, Bool, true, false, List, [], ◌∷◌, ◌++◌, Option, Some, None, Result, Ok, Err, ap, inl, inr, refl, subst, sym, append-nil, append_assoc}
+use Rattle.std.proofs.Common.{◌≡◌, ◌⊎◌, ◌∙◌, ℕ, zero, suc, ◌==◌, if◌then◌else◌, nat_lt, Bool, true, false, List, [], ◌∷◌, ◌++◌, Option, Some, None, Result, Ok, Err, ap, inl, inr, refl, subst, sym, append-nil, append_assoc}
 use Rattle.vm_memory_base.specs.declared.iotlb.Permissions.TheVariants.{Read}
 use Rattle.vm_memory_device.specs.Chain.{chain_fault}
 use Rattle.vm_memory_device.specs.declared.chain.Segment.{Segment}
@@ -8,7 +8,7 @@ use Rattle.vm_memory_guest.specs.Memory.{Memory}
 use Rattle.virtio_queue.specs.Available as held
 use Rattle.virtio_queue.specs.Available.{Followed, direct, followed, followed_in, if_chain, indirect_len, prefixed, with_indirect}
 use Rattle.virtio_queue.specs.Descriptor.{has_next, is_indirect, segment_of}
-use Rattle.virtio_queue.specs.Fields.{Answers, MayWant, descriptor_at, room_at, window_at, word_at}
+use Rattle.virtio_queue.specs.Fields.{Answers, MayWant, descriptor_at, word_at}
 use Rattle.virtio_queue.specs.Looks.{Finds, Follows, Given, MayWantAny, Step, Tree, and_takes, answer, bare, found_in, gives, if_ok, index_of, keeps, loads, room, row, spot, stores, takes, word, writes}
 use Rattle.virtio_queue.specs.Popping.{MayWantChain, chain_after, chain_from, following, head_after, head_in_slot, next_head, popping, segments_from, with_table}
 use Rattle.virtio_queue.specs.Rings.{ahead, and_then, next_in, slot}

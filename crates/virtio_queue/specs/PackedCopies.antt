@@ -38,3 +38,7 @@ abbrev pub copied : Result Bool QueueError → List PackedDescriptor → Result 
 copied (Ok true) ds = Ok (Some ds)
 copied (Ok false) ds = Ok None
 copied (Err e) ds = Err e
+
+-- the flags of a slot
+abbrev pub flags_in : PackedState → ℕ → Tree ℕ
+flags_in q slot = if_ready q.ready (takes (word q.desc_ring (16 * slot + 14)) (λ flags. gives (Ok flags)))

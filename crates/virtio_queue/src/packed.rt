@@ -11,6 +11,7 @@ mod copies;
 mod descriptor;
 mod driver;
 mod events;
+mod flags;
 mod position;
 mod state;
 mod used;
