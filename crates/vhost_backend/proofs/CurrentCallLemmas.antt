@@ -1,12 +1,11 @@
 -- What a program calls beside runs leaves nothing that leads elsewhere than the front end's messages say.
-use Rattle.std.proofs.Common.{◌≡◌, ◌∙◌, ◌⊎◌, ℕ, ◌==◌, ◌||◌, ◌&&◌, not, nat_lt, Bool, true, false, List, [], length, drop, replicate, Option, Some, None, is_some, option_map, Result, Ok, Err, MatchOption, if◌then◌else◌, refl, ap, sym, subst, inl, inr}
-use Rattle.std.specs.List.{slice_get, slice_set}
+use Rattle.std.proofs.Common.{◌≡◌, ◌∙◌, ℕ, ◌==◌, ◌||◌, ◌&&◌, not, nat_lt, Bool, true, false, List, length, drop, replicate, Option, Some, None, is_some, option_map, Result, Ok, Err, MatchOption, if◌then◌else◌, refl, ap, sym, subst, inl}
+use Rattle.std.specs.List.{slice_get}
 use Rattle.std.specs.declared.alloc.Global.{Global}
 use Rattle.std.proofs.lemmas.List.Elements.{All-nil}
 use Rattle.virtio_queue.specs.Packed as packed
 use Rattle.virtio_queue.specs.declared.any.AnyQueue.TheVariants.{Packed}
-use Rattle.vm_memory_base.specs.Table.{Says, Table, says_nothing}
-use Rattle.vm_memory_guest.specs.Host.{Host}
+use Rattle.vm_memory_base.specs.Table.{Says, says_nothing}
 use Rattle.vhost_message.specs.FrontendReq.{request_of}
 use Rattle.vhost_message.specs.Header.{header_in}
 use Rattle.vhost_message.specs.declared.backend_req.BackendReply.{BackendReply}
@@ -19,11 +18,11 @@ use Rattle.vhost_backend.proofs.CurrentMemoryLemmas.{rings_more}
 use Rattle.vhost_backend.proofs.CurrentRunLemmas.{after_now, answered_queues, now_as, same_now}
 use Rattle.vhost_backend.proofs.CurrentStepLemmas.{hung_up_queues}
 use Rattle.vhost_backend.proofs.OwnWayLemmas.{get-replicate}
-use Rattle.vhost_backend.proofs.StandLemmas.{AllLess, FetchLess, QueueLess, all_itself, all_same, all_stand, all_then, kept_still, set_less, some_is, unasked}
+use Rattle.vhost_backend.proofs.StandLemmas.{AllLess, FetchLess, all_itself, all_same, all_stand, kept_still, set_less, unasked}
 use Rattle.vhost_backend.specs.Backend.{is_free}
 use Rattle.vhost_backend.specs.Behind.{with_reach}
-use Rattle.vhost_backend.specs.BlockBackend.{answered, came, channel_lost, finished_by, hung_up, in_use, is_done, mapped, mapped_at, refused_one, region_at, replied_to, reply_by, reply_for, reply_taken, resized, taken_by, with_change}
-use Rattle.vhost_backend.specs.BlockConnection.{Connects, Maps, done, ended, failed, kicked, new_connection, offered, reply_came, reply_in, sent, taken, taken_whole, tracking, with_backend}
+use Rattle.vhost_backend.specs.BlockBackend.{answered, came, channel_lost, hung_up, in_use, is_done, mapped, mapped_at, region_at, replied_to, reply_by, reply_for, resized, taken_by, with_change}
+use Rattle.vhost_backend.specs.BlockConnection.{Connects, Maps, done, ended, failed, kicked, offered, reply_came, reply_in, sent, taken, taken_whole, tracking, with_backend}
 use Rattle.vhost_backend.specs.BlockQueue.{BlockQueueState, new_queue}
 use Rattle.vhost_backend.specs.ConnectionMemory as memory
 use Rattle.vhost_backend.specs.ConnectionMemory.{MemoryState}
@@ -32,7 +31,6 @@ use Rattle.vhost_backend.specs.Fetch.{FetchState, stopped, waits}
 use Rattle.vhost_backend.specs.Questions.{QuestionsState, after_reply}
 use Rattle.vhost_backend.specs.Reach.{refused}
 use Rattle.vhost_backend.specs.TableUse.{refused_at}
-use Rattle.vhost_backend.specs.declared.backend.Finish.TheVariants as finish
 use Rattle.vhost_backend.specs.declared.block_backend.BlockBackend.{BlockBackend}
 use Rattle.vhost_backend.specs.declared.block_connection.BlockConnection.{BlockConnection}
 use Rattle.vhost_backend.specs.declared.block_queue.Asked.{Asked}

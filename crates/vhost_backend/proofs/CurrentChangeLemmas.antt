@@ -1,5 +1,5 @@
 -- A message that changes the table leaves all that is kept, fetched and under way where messages say from then on.
-use Rattle.std.proofs.Common.{◌≡◌, ◌∙◌, ◌⊎◌, ℕ, zero, suc, ◌+◌, ◌<◌, ◌^◌, ◌||◌, not, Bool, true, false, List, [], ◌∷◌, All, length, Option, Some, None, is_some, IfSome, IsSomeAnd, option_to_list, Result, Ok, Err, MatchBool, MatchOption, MatchResult, if◌then◌else◌, refl, ap, sym, subst, arith, inl, inr}
+use Rattle.std.proofs.Common.{◌≡◌, ◌∙◌, ◌⊎◌, ℕ, zero, suc, ◌+◌, ◌<◌, ◌^◌, not, Bool, true, false, List, length, Option, Some, None, is_some, IfSome, IsSomeAnd, option_to_list, Result, Ok, Err, MatchBool, MatchOption, MatchResult, if◌then◌else◌, refl, ap, sym, subst, arith, inl, inr}
 use Rattle.std.specs.List.{list_any, slice_get, slice_set}
 use Rattle.std.specs.declared.alloc.AllocError.{AllocError}
 use Rattle.std.proofs.lemmas.Bool.{cases_eq, or_parts}
@@ -7,7 +7,7 @@ use Rattle.std.proofs.lemmas.List.Elements.{All-nil}
 use Rattle.std.proofs.lemmas.Option.{slice_get_within}
 use Rattle.vm_memory_base.specs.Table.{InvalidateAll, Says, Table, changed, says}
 use Rattle.vm_memory_base.specs.declared.iotlb.Permissions.{Permissions}
-use Rattle.vhost_iotlb.specs.Kept.{IsReal, SaysNoMore, after_change, differs, event_of}
+use Rattle.vhost_iotlb.specs.Kept.{SaysNoMore, after_change, differs, event_of}
 use Rattle.vhost_iotlb.specs.Leads.{LeadOn}
 use Rattle.vhost_iotlb.specs.declared.kept.Change.{Change}
 use Rattle.vhost_iotlb.specs.declared.kept.Change.TheVariants.{Map, Unmap}
@@ -18,13 +18,13 @@ use Rattle.vhost_backend.proofs.OwnWayLemmas.{get-set_other, get-set_same}
 use Rattle.vhost_backend.proofs.StandLemmas.{HoldsAll, HoldsOne, StaysLaw, none_pass, one_holds, some_is, stand_after}
 use Rattle.vhost_backend.specs.Behind.{asked_uses, with_reach}
 use Rattle.vhost_backend.specs.BlockQueue.{BlockQueueState}
-use Rattle.vhost_backend.specs.BlockTable.{AfterChange, AppliesTo, ChangesBy, ChangesTable, Resumed, settled, settled_by, settled_to}
-use Rattle.vhost_backend.specs.Current.{FetchStands, IsKeptBy, QueueStands, QueuesStand, RequestStands, Stands, after_changes, change_if}
+use Rattle.vhost_backend.specs.BlockTable.{AfterChange, AppliesTo, ChangesBy, ChangesTable, Resumed, settled_by, settled_to}
+use Rattle.vhost_backend.specs.Current.{FetchStands, IsKeptBy, QueueStands, QueuesStand, Stands, after_changes, change_if}
 use Rattle.vhost_backend.specs.Fetch.{FetchState, GoesOn, Resumes, TakesWhatCame, after_drop, is_dropped, waits}
 use Rattle.vhost_backend.specs.KeptRanges.{ForgetsAll}
 use Rattle.vhost_backend.specs.Reach.{Changes, ChangesOthers, ForgetsBoth, ReachState, ResumesFetch, changed_by, dropped, forgotten, most_at, rows_forgotten}
 use Rattle.vhost_backend.specs.RingMemory.{MemoryStep, Returned, forgets, keeps}
-use Rattle.vhost_backend.specs.TableUse.{ChangesAll, ChangesAt, ChangesTo, ResumesAt, ResumesTo, awaited, in_use, is_busy, is_used, kicked_if}
+use Rattle.vhost_backend.specs.TableUse.{ChangesAll, ChangesAt, ChangesTo, ResumesAt, ResumesTo, awaited, in_use, is_used, kicked_if}
 use Rattle.vhost_backend.specs.declared.block_backend.BlockBackend.{BlockBackend}
 use Rattle.vhost_backend.specs.declared.block_queue.Asked.{Asked}
 

@@ -1,5 +1,5 @@
 -- What follows if nothing leads elsewhere than the front end's messages say.
-use Rattle.std.proofs.Common.{◌≡◌, ◌∙◌, ◌⊎◌, ℕ, ◌+◌, ◌-◌, ◌<◌, ◌≤◌, ◌^◌, Bool, true, false, List, [], ◌∷◌, ◌++◌, All, Contains, Option, Some, None, IfSome, IsSomeAnd, if◌then◌else◌, refl, ap, sym, subst, arith, inl, inr}
+use Rattle.std.proofs.Common.{◌≡◌, ◌∙◌, ℕ, ◌+◌, ◌-◌, ◌<◌, ◌≤◌, ◌^◌, Bool, true, false, List, [], ◌∷◌, ◌++◌, All, Contains, Option, Some, None, IfSome, IsSomeAnd, if◌then◌else◌, refl, ap, sym, subst, arith, inl, inr}
 use Rattle.std.specs.List.{slice_get}
 use Rattle.std.proofs.lemmas.List.Elements.{All-contains, All-head, All-tail, All-weaker}
 use Rattle.vm_memory_base.specs.Address.{difference, is_within, step}
@@ -12,10 +12,8 @@ use Rattle.vhost_iotlb.specs.Leads.{LeadOn, LeadsTo}
 use Rattle.vhost_iotlb.specs.declared.kept.Change.{Change}
 use Rattle.vhost_iotlb.specs.declared.kept.Change.TheVariants.{Map, Unmap}
 use Rattle.vhost_iotlb.specs.declared.kept.Kept.{Kept}
-use Rattle.vhost_backend.proofs.StandLemmas.{some_is}
 use Rattle.vhost_backend.specs.BlockQueue.{BlockQueueState}
-use Rattle.vhost_backend.specs.Current.{Current, FetchStands, IsKeptBy, IsKeptFor, IsUsedBy, LeadsNowhere, QueueStands, RequestStands, Stands, after_changes, maps}
-use Rattle.vhost_backend.specs.Fetch.{FetchState}
+use Rattle.vhost_backend.specs.Current.{Current, FetchStands, IsKeptBy, IsUsedBy, LeadsNowhere, QueueStands, Stands, after_changes, maps}
 use Rattle.vhost_backend.specs.declared.block_connection.BlockConnection.{BlockConnection}
 use Rattle.vhost_backend.specs.declared.block_queue.Asked.{Asked}
 

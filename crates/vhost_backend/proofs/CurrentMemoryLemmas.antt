@@ -1,11 +1,11 @@
 -- The table of a connection's rings: what steps on memory make of it.
-use Rattle.std.proofs.Common.{◌≡◌, ◌∙◌, ◌⊎◌, ℕ, ◌+◌, ◌*◌, ◌<◌, ◌^◌, ◌==◌, ◌&&◌, ◌-◌, Bool, true, false, List, [], ◌∷◌, drop, length, Option, Some, None, is_none, min, Result, Ok, Err, is_ok, MatchBool, MatchResult, if◌then◌else◌, refl, ap, sym, subst, inl, inr}
+use Rattle.std.proofs.Common.{◌≡◌, ◌∙◌, ◌⊎◌, ℕ, ◌+◌, ◌*◌, ◌<◌, ◌^◌, ◌==◌, ◌&&◌, ◌-◌, Bool, true, false, List, [], ◌∷◌, drop, length, Option, Some, None, is_none, min, Result, Ok, Err, is_ok, MatchBool, if◌then◌else◌, refl, ap, sym, subst, inl, inr}
 use Rattle.std.specs.Int.{to_le_bytes, w16}
 use Rattle.std.specs.List.{slice_get}
 use Rattle.std.specs.declared.alloc.AllocError.{AllocError}
 use Rattle.vm_memory_base.specs.Address.{difference, is_within}
 use Rattle.vm_memory_base.specs.Table.{Invalidate, Mapping, Set, Table, TableEvent, changed, says, says_after}
-use Rattle.vm_memory_guest.specs.Host.{Host, with_table_at}
+use Rattle.vm_memory_guest.specs.Host.{Host}
 use Rattle.vm_memory_guest.specs.Memory.{Memory}
 use Rattle.vm_memory_base.specs.declared.iotlb.Permissions.TheVariants as permissions
 use Rattle.vm_memory_guest.specs.Access.{windows}

@@ -1,13 +1,9 @@
 -- Along a run nothing leads elsewhere than the front end's messages say.
-use Rattle.std.proofs.Common.{◌≡◌, ◌∙◌, ◌⊎◌, ℕ, zero, suc, ◌==◌, ◌^◌, ◌&&◌, ◌++◌, nat_lt, Bool, true, false, List, [], ◌∷◌, length, Option, Some, None, is_some, option_to_list, Result, Ok, Err, if◌then◌else◌, refl, ap, sym, subst, inl, inr}
-use Rattle.std.specs.List.{slice_get, slice_set}
-use Rattle.std.specs.declared.alloc.AllocError.{AllocError}
-use Rattle.std.proofs.lemmas.Bool.{and_parts}
+use Rattle.std.proofs.Common.{◌≡◌, ◌∙◌, ℕ, zero, suc, ◌^◌, ◌&&◌, ◌++◌, nat_lt, Bool, true, false, List, [], ◌∷◌, length, Option, Some, None, is_some, option_to_list, Ok, Err, if◌then◌else◌, refl, ap, sym, subst, inl, inr}
+use Rattle.std.specs.List.{slice_get}
 use Rattle.std.proofs.lemmas.List.Elements.{All-nil}
 use Rattle.vm_memory_base.specs.Table.{InvalidateAll, Says, Table, changed, says}
-use Rattle.vm_memory_guest.specs.Host.{Host, with_table_at}
-use Rattle.vm_memory_guest.specs.Memory.{Memory}
-use Rattle.vm_memory_guest.specs.declared.host.TlbId.{TlbId}
+use Rattle.vm_memory_guest.specs.Host.{Host}
 use Rattle.vhost_message.specs.declared.regions.MemoryRegion.{MemoryRegion}
 use Rattle.vhost_user.specs.Features.{access_platform, has}
 use Rattle.vhost_user.specs.Log.{log_kept}
@@ -19,20 +15,19 @@ use Rattle.vhost_backend.proofs.CurrentMemoryLemmas.{IsBare, Lent, MissedLaw, Ri
 use Rattle.vhost_backend.proofs.CurrentStepLemmas.{hung_up_queues, steps_less}
 use Rattle.vhost_backend.proofs.CurrentTurnLemmas.{looks_behind, looks_plainly}
 use Rattle.vhost_backend.proofs.KeepLemmas.{looks_keep, steps_keep}
-use Rattle.vhost_backend.proofs.OwnWayLemmas.{get-set_other, get-set_same}
+use Rattle.vhost_backend.proofs.OwnWayLemmas.{get-set_same}
 use Rattle.vhost_backend.proofs.StandLemmas.{HoldsAll, StaysLaw, all_stand, kept_still, set_stands, some_is}
 use Rattle.vhost_backend.specs.Behind.{with_reach}
 use Rattle.vhost_backend.specs.BlockBackend.{Looks, answered, answered_at, hung_up}
 use Rattle.vhost_backend.specs.BlockConnection.{as_negotiated, is_covered, looked_after, pages_in, with_backend}
 use Rattle.vhost_backend.specs.BlockQueue.{BlockQueueState}
 use Rattle.vhost_backend.specs.BlockTable.{ChangesTable, can_ask, memory_lost}
-use Rattle.vhost_backend.specs.ConnectionMemory.{Joins, MemoryState, emptied, first_emptied, forgotten, joined_memory_of, kept_table_of, marks_nothing, memory_of, memory_step, ring_memory_of, ring_table_of, table_step, way_of, with_behind, with_pages}
+use Rattle.vhost_backend.specs.ConnectionMemory.{Joins, MemoryState, emptied, first_emptied, forgotten, joined_memory_of, marks_nothing, memory_of, memory_step, ring_memory_of, ring_table_of, way_of, with_behind, with_pages}
 use Rattle.vhost_backend.specs.Current.{ComesFrom, Current, IsKeptFor, QueuesStand, after_changes, change_by, change_given, change_if, change_of, changes_of}
 use Rattle.vhost_backend.specs.Reach.{cleared}
-use Rattle.vhost_backend.specs.RingMemory.{Logs, MemoryStep, Returned, forgets, keeps}
+use Rattle.vhost_backend.specs.RingMemory.{Logs}
 use Rattle.vhost_backend.specs.Rings.{all_stopped}
 use Rattle.vhost_backend.specs.Run.{Applies, Course, EventBy, Fills, Follows, GivesBy, LooksBy, Move, MoveBy, Moves, Output, Rests, StepsTo, Stops, after_sent, after_stop, does, end_of, end_taken, gives_marks, gives_part, goes_on, looked, looks, loses, open_part, part_ended, takes_end, takes_turn}
-use Rattle.vhost_backend.specs.Sight.{Sight}
 use Rattle.vhost_backend.specs.TableUse.{lost_at, lost_to}
 use Rattle.vhost_backend.specs.declared.block.BlockStep.{BlockStep}
 use Rattle.vhost_backend.specs.declared.block_backend.BlockBackend.{BlockBackend}
@@ -44,8 +39,6 @@ use Rattle.vhost_backend.specs.declared.deeds.Deed.TheVariants as deed
 use Rattle.vhost_backend.specs.declared.deeds.Made.{Made}
 use Rattle.vhost_backend.specs.declared.deeds.Made.TheVariants as made
 use Rattle.vhost_backend.specs.declared.deeds.Why.TheVariants.{Log}
-use Rattle.vhost_backend.specs.declared.request.PartEnd.TheVariants.{Failed}
-use Rattle.vhost_backend.specs.declared.ring_memory.Logged.{Logged}
 use Rattle.vhost_backend.specs.declared.rows.EndRow.{EndRow}
 
 -- ---- queues that stay

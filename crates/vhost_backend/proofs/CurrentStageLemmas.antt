@@ -1,7 +1,7 @@
 -- A stage of a ring whose addresses a table translates leaves all that is kept, fetched and under way for it where the
 -- messages say, and the rings' table with what is kept.
-use Rattle.std.proofs.Common.{◌≡◌, ◌∙◌, ◌⊎◌, ℕ, zero, suc, Bool, true, false, List, [], ◌∷◌, ◌++◌, All, Contains, length, Option, Some, None, option_to_list, IfOk, IfSome, Result, Ok, Err, MatchBool, MatchOption, MatchResult, if◌then◌else◌, refl, ap, sym, subst, arith, inl, inr}
-use Rattle.std.specs.List.{list_all, slice_get, slice_set}
+use Rattle.std.proofs.Common.{◌≡◌, ◌∙◌, ◌⊎◌, ℕ, Bool, true, false, List, [], ◌∷◌, All, Contains, length, Option, Some, None, option_to_list, IfOk, IfSome, Result, Ok, Err, MatchBool, MatchOption, MatchResult, if◌then◌else◌, refl, sym, subst, arith, inl, inr}
+use Rattle.std.specs.List.{list_all}
 use Rattle.std.specs.declared.alloc.AllocError.{AllocError}
 use Rattle.std.proofs.lemmas.List.Elements.{All-append, All-contains, All-contains_itself, All-nil, All-weaker, Contains-append_cases, Contains-append_left, Contains-append_right, Contains-push_cases}
 use Rattle.vm_memory_base.specs.Table.{Says}
@@ -37,7 +37,7 @@ use Rattle.vhost_backend.specs.declared.fetch.State.{State}
 use Rattle.vhost_backend.specs.declared.fetch.State.TheVariants as state
 use Rattle.vhost_backend.specs.declared.pieces.Piece.{Piece}
 use Rattle.vhost_backend.specs.declared.ring.RingEvent.{RingEvent}
-use Rattle.vhost_backend.specs.declared.ring.RingEvent.TheVariants.{Break, Emptied}
+use Rattle.vhost_backend.specs.declared.ring.RingEvent.TheVariants.{Emptied}
 
 -- ---- lists
 

@@ -21,7 +21,6 @@ use Rattle.vhost_backend.specs.BlockQueues.{Asks, Finishes, Gives, WithQueue, ba
 use Rattle.vhost_backend.specs.Fetch.{is_same_place}
 use Rattle.vhost_backend.specs.Marks.{Marks, chain_marks}
 use Rattle.vhost_backend.specs.PageList.{capped}
-use Rattle.vhost_backend.specs.Questions.{stale}
 use Rattle.vhost_backend.specs.Reach.{moved_to, same_log}
 use Rattle.vhost_backend.specs.RingMemory.{MemoryStep, Returned, finishes}
 use Rattle.vhost_backend.specs.SetUp.{base_of, fresh_queue, is_set_up, log_of, moved_queue, part_for}

@@ -1,11 +1,10 @@
 -- A step of a ring's turn leaves all that is kept, fetched and under way where the messages say.
-use Rattle.std.proofs.Common.{◌≡◌, ◌∙◌, ◌⊎◌, ℕ, Bool, true, false, List, [], Contains, Option, Some, None, Result, Ok, Err, MatchBool, MatchOption, refl, ap, sym, subst, inl, inr}
+use Rattle.std.proofs.Common.{◌≡◌, ◌⊎◌, ℕ, Bool, true, false, List, Contains, Option, Some, None, Result, Ok, Err, MatchBool, MatchOption, refl, ap, sym, subst}
 use Rattle.std.specs.List.{slice_get, slice_set}
 use Rattle.std.specs.declared.alloc.AllocError.{AllocError}
 use Rattle.vm_memory_base.specs.Table.{Says, says}
 use Rattle.vm_memory_base.specs.declared.iotlb.Permissions.{Permissions}
 use Rattle.vm_memory_guest.specs.declared.region.error.GuestMemoryError.{GuestMemoryError}
-use Rattle.vm_memory_device.specs.declared.chain.Segment.{Segment}
 use Rattle.virtio_queue.specs.Any.{at_next, next_avail_of, past}
 use Rattle.virtio_queue.specs.declared.any.AnyQueue.{AnyQueue}
 use Rattle.virtio_queue.specs.declared.any.AnyQueue.TheVariants.{Split, Packed}
@@ -18,14 +17,13 @@ use Rattle.vhost_backend.proofs.CurrentStageLemmas.{LeadsLaw, after_look, behind
 use Rattle.vhost_backend.proofs.FlightLemmas.{flies_else, resumes_is}
 use Rattle.vhost_backend.proofs.KeepLemmas.{IsPlain, asks_keep, flies_keep, known_here_keeps, next_keeps, resumes_keep}
 use Rattle.vhost_backend.proofs.StandLemmas.{AskedLess, HoldsAll, HoldsOne, QueueLess, alike, began_asked, less_as, less_stands, one_holds, queue_itself, queue_then, unasked}
-use Rattle.vhost_backend.specs.Backend.{BackendState}
 use Rattle.vhost_backend.specs.Behind.{HappensBy}
 use Rattle.vhost_backend.specs.BlockBackend.{Looks, TakesTurn, looked, terms_of, told}
-use Rattle.vhost_backend.specs.BlockQueue.{AfterAsk, AfterPop, AfterRead, Asks, BlockQueueState, HappensNext, Pops, PopsBy, ReadsBy, begun, has_place, popped, read_by, with_queue}
+use Rattle.vhost_backend.specs.BlockQueue.{AfterAsk, AfterPop, AfterRead, Asks, BlockQueueState, HappensNext, Pops, ReadsBy, begun, has_place, popped, read_by, with_queue}
 use Rattle.vhost_backend.specs.BlockQueues.{Turns}
 use Rattle.vhost_backend.specs.BlockTable.{asked_by, asked_for}
 use Rattle.vhost_backend.specs.BlockTurn as turn
-use Rattle.vhost_backend.specs.Current.{IsKeptBy, QueueStands}
+use Rattle.vhost_backend.specs.Current.{IsKeptBy}
 use Rattle.vhost_backend.specs.Flight.{AfterAskCopies, AfterCopies, AfterFirst, AfterKnown, FindsCopies, Flies, HappensFirst, HappensIn, HappensNew, PopsAgain, PopsCopies, Resumes, found_as, gone_to, is_due, is_open, next_again}
 use Rattle.vhost_backend.specs.PackedFlight.{PackedFlightState, buffer_of}
 use Rattle.vhost_backend.specs.declared.fetch.Found.{Found}
@@ -41,8 +39,6 @@ use Rattle.vhost_backend.specs.declared.block_backend.BlockBackend.{BlockBackend
 use Rattle.vhost_backend.specs.declared.block_queue.Pop.{Pop}
 use Rattle.vhost_backend.specs.declared.block_queue.Pop.TheVariants as pop
 use Rattle.vhost_backend.specs.declared.ring.RingEvent.{RingEvent}
-use Rattle.vhost_backend.specs.declared.ring.RingEvent.TheVariants.{Kick}
-use Rattle.vhost_backend.specs.declared.rings.Event.TheVariants as event
 
 -- ---- a ring whose addresses go through no table
 

@@ -1,7 +1,5 @@
 -- What a step of a turn leaves of its queue, if the ring's requests in flight are stored in a region.
 use Rattle.std.proofs.Common.{◌≡◌, ◌⊎◌, ◌∙◌, ℕ, zero, suc, Bool, true, false, ◌&&◌, List, [], ◌∷◌, drop, length, Option, Some, None, is_none, Result, Ok, Err, MatchBool, MatchOption, refl, ap, sym, subst, inl, inr}
-use Rattle.std.specs.List.{slice_get}
-use Rattle.std.specs.declared.alloc.AllocError.{AllocError}
 use Rattle.vm_memory_base.specs.Table.{says}
 use Rattle.vm_memory_guest.specs.declared.region.error.GuestMemoryError.{GuestMemoryError}
 use Rattle.vm_memory_device.specs.declared.chain.Segment.{Segment}
@@ -33,7 +31,7 @@ use Rattle.vhost_backend.specs.Behind.{HappensBy, IsWaiting}
 use Rattle.vhost_backend.specs.BlockQueue.{Asks, Begins, BlockQueueState, CopiesNone, FlightState, FoundNone, GivesBack, begun, event_of, has_place, popped, refused, shortened, with_asked, with_flight}
 use Rattle.vhost_backend.specs.Fetch.{FetchState}
 use Rattle.vhost_backend.specs.Flight.{AfterAskCopies, AfterCopies, AfterFirst, AfterKnown, AfterOld, AfterPackedStart, AfterStart, AfterUsed, Flies, FliesAt, FliesBy, FliesPacked, GivesIn, GivesPacked, GoesOnFrom, HappensFirst, HappensIn, HappensNew, Lands, PopsAgain, PopsCopies, ReadsRegion, Resumes, TracksAt, WaitsCopies, base_in, found_as, gone_to, is_due, is_open, next_again, packed_refused, start_refused, with_kept}
-use Rattle.vhost_backend.specs.Reach.{ReachState, waited_for}
+use Rattle.vhost_backend.specs.Reach.{waited_for}
 use Rattle.vhost_backend.specs.RingMemory.{MemoryStep, Returned, begins, finds_copies}
 use Rattle.vhost_backend.specs.Sight.{Sight}
 use Rattle.vhost_backend.specs.declared.block_queue.GiveBack.{GiveBack}

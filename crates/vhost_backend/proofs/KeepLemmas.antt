@@ -1,5 +1,5 @@
 -- What each call on memory keeps is kept by a step and by a look: whatever leads from one memory to another.
-use Rattle.std.proofs.Common.{◌≡◌, ℕ, Bool, true, false, List, [], ◌∷◌, drop, Option, Some, None, Result, Ok, Err, MatchBool, MatchOption, MatchResult, sym, subst, zero, suc, length, is_some, IsSomeAnd, refl}
+use Rattle.std.proofs.Common.{◌≡◌, ℕ, Bool, true, false, List, [], ◌∷◌, drop, Option, Some, None, Result, Ok, Err, MatchBool, MatchOption, MatchResult, sym, subst, zero, suc, length, is_some, IsSomeAnd}
 use Rattle.std.specs.List.{slice_get, slice_set, list_any}
 use Rattle.std.specs.declared.alloc.AllocError.{AllocError}
 use Rattle.vm_memory_base.specs.Table.{Says, Table, says}

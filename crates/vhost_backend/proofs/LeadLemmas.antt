@@ -1,5 +1,5 @@
 -- Each move of a run is something that happens to the connection, or nothing, and so is each run.
-use Rattle.std.proofs.Common.{◌≡◌, ℕ, ◌^◌, nat_lt, Bool, true, false, List, [], ◌∷◌, if◌then◌else◌, ap, inl, inr, is_some, ◌∙◌, ◌⊎◌, ◌==◌, Option, Some, None, refl, sym}
+use Rattle.std.proofs.Common.{◌≡◌, ℕ, ◌^◌, nat_lt, Bool, true, false, List, [], ◌∷◌, if◌then◌else◌, ap, inl, inr, is_some}
 use Rattle.vhost_backend.specs.BlockBackend.{gone_on, answered}
 use Rattle.vhost_backend.specs.BlockConnection.{looked_after, with_backend}
 use Rattle.vhost_backend.specs.BlockTable.{memory_lost}

@@ -1,7 +1,6 @@
 -- What a packed ring stores of its requests in flight is what the theorem on crashes has.
-use Rattle.std.proofs.Common.{◌≡◌, ◌⊎◌, ◌∙◌, ℕ, Bool, true, false, ◌&&◌, List, [], ◌∷◌, ◌++◌, Option, Some, None, Result, Ok, Err, MatchBool, MatchOption, refl, ap, sym, subst, inl, inr}
+use Rattle.std.proofs.Common.{◌≡◌, ◌∙◌, ℕ, Bool, true, false, List, [], ◌∷◌, ◌++◌, Option, Some, None, Result, Ok, Err, MatchBool, MatchOption, refl, ap, sym, subst}
 use Rattle.std.specs.Prelude.{map, if◌then◌else◌}
-use Rattle.std.specs.List.{slice_get}
 use Rattle.virtio_blk.specs.declared.request.DeviceLimits.{DeviceLimits}
 use Rattle.virtio_queue.specs.Any.{next_avail_of, past}
 use Rattle.virtio_queue.specs.Packed.{PackedVirtqueue}
@@ -11,7 +10,7 @@ use Rattle.virtio_queue.specs.declared.error.QueueError.{QueueError}
 use Rattle.virtio_queue.specs.declared.packed.descriptor.PackedDescriptor.{PackedDescriptor}
 use Rattle.virtio_queue.specs.declared.packed.state.PackedBuffer.{PackedBuffer}
 use Rattle.vhost_inflight.specs.Packed.{PackedKept, add_stores, after_add, after_begin_pop, begin_pop_stores, can_add, can_begin_pop, can_end_pop, end_pop_head, end_pop_mark, end_pop_stores}
-use Rattle.vhost_inflight.specs.PackedCrash.{Deed, Flags, Id, Pop, Pops, Refused, Region, World, add_deeds, after_adds, begin_deeds, effect, end_deeds, is_next, pop_effect, unless}
+use Rattle.vhost_inflight.specs.PackedCrash.{Deed, Flags, Id, Pops, Refused, Region, add_deeds, after_adds, begin_deeds, end_deeds, pop_effect, unless}
 use Rattle.vhost_inflight.specs.declared.packed.PackedStore.{PackedStore}
 use Rattle.vhost_inflight.specs.declared.packed_region.PackedCopy.{PackedCopy}
 use Rattle.vhost_inflight.specs.Split.{after_pop as split_after, pop_stores}
@@ -19,7 +18,7 @@ use Rattle.vhost_backend.proofs.CrashLemmas.{flies_in}
 use Rattle.vhost_backend.proofs.InFlightLemmas.{Same, again_same, happens_same, known_same}
 use Rattle.vhost_backend.specs.Behind.{HappensBy}
 use Rattle.vhost_backend.specs.BlockQueue.{BlockQueueState, FlightState}
-use Rattle.vhost_backend.specs.Flight.{AfterAskCopies, AfterCopies, AfterFirst, FindsCopies, Flies, FliesAt, FliesIn, FliesPacked, HappensFirst, HappensIn, HappensNew, PopsAgain, PopsCopies, TracksAt, is_open, next_again, passed_too, with_kept}
+use Rattle.vhost_backend.specs.Flight.{AfterAskCopies, AfterCopies, AfterFirst, FindsCopies, FliesAt, FliesIn, FliesPacked, HappensFirst, HappensIn, HappensNew, PopsAgain, PopsCopies, TracksAt, is_open, next_again, passed_too, with_kept}
 use Rattle.vhost_backend.specs.PackedCrash.{IsPop, PopsPackedBy, packed_to, stores_in}
 use Rattle.vhost_backend.specs.PackedFlight.{AddsAll, PackedFlightState, StoresPop, TracksPacked, buffer_of, copy_by, first_again, listed, passed, popped_found, stores_if}
 use Rattle.vhost_backend.specs.RingMemory.{MemoryStep, Returned}

@@ -2,15 +2,12 @@
 use Rattle.std.proofs.Common.{◌≡◌, ◌∙◌, ℕ, Bool, true, false, ◌&&◌, List, ◌∷◌, ◌++◌, Option, Some, None, MatchOption, refl, ap, sym, subst}
 use Rattle.std.specs.Prelude.{map, nat_lt, length, if◌then◌else◌}
 use Rattle.virtio_queue.specs.Packed.{PackedVirtqueue}
-use Rattle.virtio_queue.specs.declared.any.AnyQueue.TheVariants.{Packed}
 use Rattle.vhost_inflight.specs.Packed.{PackedKept, begin_return_stores, can_return, end_return_stores, entry_of, is_in_flight}
-use Rattle.vhost_inflight.specs.PackedCrash.{Deed, Effect, Flags, Id, Region, Return, World, effect, id_of, return_effect, unless}
+use Rattle.vhost_inflight.specs.PackedCrash.{Deed, Flags, Id, Region, Return, World, effect, id_of, return_effect, unless}
 use Rattle.vhost_inflight.specs.PackedStart.{chain_of}
 use Rattle.vhost_inflight.specs.Split.{after_return as split_after, begin_return_stores as split_begin}
 use Rattle.vhost_inflight.specs.declared.packed.PackedReturn.{PackedReturn}
-use Rattle.vhost_inflight.specs.declared.packed.PackedStore.{PackedStore}
 use Rattle.vhost_inflight.specs.declared.packed_region.PackedPosition.{PackedPosition}
-use Rattle.vhost_inflight.specs.declared.split.SplitInFlight.{SplitInFlight}
 use Rattle.vhost_backend.specs.BlockQueue.{BlockQueueState, FlightState, GivesBack, with_flight}
 use Rattle.vhost_backend.specs.Flight.{GivesIn, GivesPacked, Lands, LandsPacked, TracksAt, after_of, base_in, before_of, returned_too, returns_by, with_kept}
 use Rattle.vhost_backend.specs.PackedCrash.{ReturnsPackedBy, packed_to}

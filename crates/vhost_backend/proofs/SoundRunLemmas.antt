@@ -1,8 +1,8 @@
 -- Along a run the queues have what rings have under way, and what is to be returned.
-use Rattle.std.proofs.Common.{◌≡◌, ◌⊎◌, ℕ, ◌==◌, ◌^◌, nat_lt, Bool, true, false, List, [], ◌∷◌, Option, Some, None, if◌then◌else◌, refl, ap, sym, subst, inl, inr, is_some}
+use Rattle.std.proofs.Common.{◌≡◌, ℕ, ◌^◌, nat_lt, Bool, true, false, List, [], ◌∷◌, if◌then◌else◌, refl, ap, sym, subst, inl, inr, is_some}
 use Rattle.vhost_user.specs.Features.{access_platform, has}
 use Rattle.vhost_user.specs.Log.{log_kept}
-use Rattle.vhost_backend.specs.BlockBackend.{gone_on, hung_up}
+use Rattle.vhost_backend.specs.BlockBackend.{hung_up}
 use Rattle.vhost_backend.specs.BlockConnection.{as_negotiated, is_covered, looked_after, pages_in, with_backend}
 use Rattle.vhost_backend.specs.BlockTable.{memory_lost}
 use Rattle.vhost_backend.specs.ConnectionMemory.{emptied, memory_step, table_step, with_behind, with_pages, way_of}

@@ -1,12 +1,11 @@
 -- What a stage of a ring whose addresses a table translates leaves of its queue.
-use Rattle.std.proofs.Common.{◌≡◌, ◌⊎◌, ◌∙◌, Bool, true, false, List, [], ◌∷◌, set, Option, Some, None, Result, Ok, Err, IfOk, MatchBool, MatchOption, MatchResult, refl, ap, sym, subst, inl, inr}
+use Rattle.std.proofs.Common.{◌≡◌, ◌⊎◌, ◌∙◌, Bool, true, false, List, [], ◌∷◌, set, Option, Some, None, Result, Ok, Err, IfOk, MatchBool, MatchOption, refl, ap, sym, subst, inl, inr}
 use Rattle.std.specs.declared.alloc.AllocError.{AllocError}
 use Rattle.vm_memory_base.specs.Table.{Says}
 use Rattle.vm_memory_base.specs.declared.iotlb.IovaRange.{IovaRange}
 use Rattle.vm_memory_base.specs.declared.iotlb.Permissions.TheVariants.{Read}
 use Rattle.vm_memory_guest.specs.declared.region.error.GuestMemoryError.{GuestMemoryError}
 use Rattle.vm_memory_device.specs.declared.chain.Segment.{Segment}
-use Rattle.virtio_queue.specs.Any.{at_next}
 use Rattle.virtio_queue.specs.declared.any.AnyQueue.{AnyQueue}
 use Rattle.virtio_queue.specs.declared.error.QueueError.{QueueError}
 use Rattle.virtio_queue.specs.declared.packed.state.PackedBuffer.{PackedBuffer}
@@ -15,13 +14,12 @@ use Rattle.virtio_blk.specs.declared.request.Request.{Request}
 use Rattle.virtio_blk.specs.declared.request.Request.TheVariants.{Refused}
 use Rattle.vhost_iotlb.specs.declared.kept.Kept.{Kept}
 use Rattle.vhost_backend.proofs.TurnLemmas.{read_asked, refused_is}
-use Rattle.vhost_backend.specs.Behind.{AfterAskBehind, AfterFind, AfterLook, AfterLookUp, BeginsFetched, Fetches, FetchesChain, FetchesNext, FetchesRow, Finds, FindsNext, GivesUp, HappensBehind, IsWaiting, KeepsRows, ReachesRing, ReadsBehind, TakesFetched, Uses, WaitsBehind, begun_behind, chain_begun, fetching, found_by, gone_on, is_refused, missed_by, open_terms, or_empty, origin_of, past_found, read_on, status_begun, with_fetch, with_reach}
-use Rattle.vhost_backend.specs.BlockQueue.{Asks, BlockQueueState, FoundNone, Reads, event_of, has_place, popped, refused, shortened}
-use Rattle.vhost_backend.specs.Fetch.{FetchState, begun, guest_chain, has_gap, ring_wants, waits, want}
+use Rattle.vhost_backend.specs.Behind.{AfterLookUp, BeginsFetched, Fetches, FetchesChain, FetchesNext, FetchesRow, Finds, FindsNext, GivesUp, HappensBehind, IsWaiting, KeepsRows, ReachesRing, ReadsBehind, TakesFetched, Uses, WaitsBehind, begun_behind, fetching, gone_on, missed_by, open_terms, or_empty, origin_of, past_found, read_on, with_fetch, with_reach}
+use Rattle.vhost_backend.specs.BlockQueue.{BlockQueueState, FoundNone, event_of, has_place, popped, refused, shortened}
+use Rattle.vhost_backend.specs.Fetch.{FetchState, begun, guest_chain, has_gap, waits, want}
 use Rattle.vhost_backend.specs.Reach.{forgotten, rows_forgotten}
 use Rattle.vhost_backend.specs.RingMemory.{MemoryStep, Returned, begins, pops}
 use Rattle.vhost_backend.specs.declared.block_queue.Asked.{Asked}
-use Rattle.vhost_backend.specs.declared.block_queue.Pop.TheVariants as pop
 use Rattle.vhost_backend.specs.declared.block_queue.behind.Origin.{Origin}
 use Rattle.vhost_backend.specs.declared.fetch.Found.{Found}
 use Rattle.vhost_backend.specs.declared.fetch.Goal.{Goal}

@@ -1,8 +1,8 @@
 -- Ranges and queues that lead where they are said to lead, and what leaves them so.
-use Rattle.std.proofs.Common.{◌≡◌, ◌∙◌, ◌⊎◌, ℕ, zero, suc, ◌||◌, Bool, true, false, List, [], ◌∷◌, ◌++◌, All, Contains, Option, Some, None, IfSome, refl, ap, sym, subst, inl, inr}
+use Rattle.std.proofs.Common.{◌≡◌, ◌∙◌, ◌⊎◌, ℕ, zero, suc, Bool, false, List, [], ◌∷◌, All, Contains, Option, Some, None, IfSome, refl, ap, sym, subst, inl, inr}
 use Rattle.std.specs.List.{list_any, slice_get, slice_set}
 use Rattle.std.proofs.lemmas.Bool.{cases_eq, or_parts}
-use Rattle.std.proofs.lemmas.List.Elements.{All-append, All-cons, All-head, All-nil, All-tail, Contains-append_cases, Contains-append_left, Contains-append_right}
+use Rattle.std.proofs.lemmas.List.Elements.{All-cons, All-head, All-nil, All-tail}
 use Rattle.vm_memory_base.specs.Table.{Says}
 use Rattle.vhost_iotlb.specs.Kept.{IsCurrent, IsReal, after_change, differs}
 use Rattle.vhost_iotlb.specs.declared.kept.Change.{Change}
@@ -13,8 +13,6 @@ use Rattle.vhost_backend.specs.Current.{FetchStands, IsKeptBy, IsKeptFor, QueueS
 use Rattle.vhost_backend.specs.Fetch.{FetchState}
 use Rattle.vhost_backend.specs.Reach.{ReachState}
 use Rattle.vhost_backend.specs.declared.block_queue.Asked.{Asked}
-use Rattle.vhost_backend.specs.declared.fetch.Goal.{Goal}
-use Rattle.vhost_backend.specs.declared.fetch.Goal.TheVariants as goal
 
 -- ---- lists
 

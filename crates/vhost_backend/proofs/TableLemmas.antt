@@ -9,7 +9,7 @@ use Rattle.vhost_iotlb.specs.declared.kept.Change.{Change}
 use Rattle.vhost_backend.specs.Behind.{with_reach}
 use Rattle.vhost_backend.specs.BlockBackend.{reply_for, refused_one}
 use Rattle.vhost_backend.specs.BlockQueue.{BlockQueueState}
-use Rattle.vhost_backend.specs.BlockTable.{AfterChange, ChangesBy, ChangesTable, Resumed, asked_by, asked_for, memory_lost, settled, settled_by, settled_to}
+use Rattle.vhost_backend.specs.BlockTable.{AfterChange, ChangesBy, ChangesTable, Resumed, asked_by, asked_for, memory_lost, settled_by, settled_to}
 use Rattle.vhost_backend.specs.Questions.{QuestionsState, stale, wanted}
 use Rattle.vhost_backend.specs.Reach.{Changes, ReachState, ResumesFetch, cleared, refused}
 use Rattle.vhost_backend.specs.RingMemory.{MemoryStep, Returned}

@@ -1,5 +1,5 @@
 -- Each ring that waits is asked for or looked at after a look, and none waits at the beginning.
-use Rattle.std.proofs.Common.{◌≡◌, ◌⊎◌, ◌∙◌, ℕ, ◌<◌, ◌≤◌, not, Bool, true, false, List, [], length, replicate, Option, Some, None, is_some, Result, Ok, Err, IsSomeAnd, MatchBool, MatchOption, refl, ap, sym, subst, inl, inr, arith, ◌∷◌, ◌++◌}
+use Rattle.std.proofs.Common.{◌≡◌, ◌∙◌, ℕ, ◌<◌, ◌≤◌, not, Bool, true, false, List, [], length, replicate, Option, Some, None, is_some, Result, Ok, Err, IsSomeAnd, MatchBool, MatchOption, refl, ap, sym, subst, inl, inr, arith, ◌∷◌, ◌++◌}
 use Rattle.std.specs.List.{slice_get, slice_set}
 use Rattle.std.specs.declared.alloc.Global.{Global}
 use Rattle.std.proofs.Math.ListN.{length-set}

@@ -18,11 +18,10 @@ use Rattle.vhost_message.specs.declared.refusal.Refusal.TheVariants.{Direction}
 use Rattle.vhost_user.specs.Reply.{refused}
 use Rattle.vhost_user.specs.declared.vring.NotRunning.{NotRunning}
 use Rattle.vhost_user.specs.declared.vring.RunningVring.{RunningVring}
-use Rattle.virtio_queue.specs.declared.error.QueueError.{QueueError}
-use Rattle.vhost_backend.specs.Backend.{BackendState, after_message, is_free, is_over, mapping_at}
+use Rattle.vhost_backend.specs.Backend.{BackendState, is_free, is_over, mapping_at}
 use Rattle.vhost_backend.specs.BlockBackend.{Acts, ActsFirst, GivesBackAt, Looks, Returns, Steps, StepsFrom, TakesTurn, after_reach, answered, answered_at, asked_by, asked_first_by, asked_more_by, broke_if, called_up, came, counted, ended_by, ended_with, finished_by, gone_on, hung_up, is_done, looked, mapped, mapped_at, messaged, placed_by, replied, said_last, stepped_on_by, terms_of, told, in_use, taken_by, with_change, reply_by, replied_to}
 use Rattle.vhost_backend.specs.Flight.{HappensIn}
-use Rattle.vhost_backend.specs.BlockQueue.{BlockQueueState, HappensNext}
+use Rattle.vhost_backend.specs.BlockQueue.{BlockQueueState}
 use Rattle.vhost_backend.specs.BlockQueues.{Turns, based, set_up_at}
 use Rattle.vhost_backend.specs.BlockTurn as turn
 use Rattle.vhost_backend.specs.Messages.{Came, Done, Told, HungUp, stepped}

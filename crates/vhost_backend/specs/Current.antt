@@ -10,7 +10,6 @@ use Rattle.vhost_iotlb.specs.declared.kept.Kept.{Kept}
 use Rattle.vhost_backend.specs.Behind.{or_empty}
 use Rattle.vhost_backend.specs.BlockQueue.{BlockQueueState}
 use Rattle.vhost_backend.specs.Fetch.{FetchState, guest_chain}
-use Rattle.vhost_backend.specs.Given.{no_counts}
 use Rattle.vhost_backend.specs.Reach.{ReachState}
 use Rattle.vhost_backend.specs.Run.{Course, Follows, GivesBy, Move, MoveBy, Moves, RunsBy, after_sent, begun, does}
 use Rattle.vhost_backend.specs.declared.block_connection.BlockConnection.{BlockConnection}

@@ -1,18 +1,18 @@
 -- The stores of a packed ring to its part of a region, as those that the theorem on crashes has.
-use Rattle.std.specs.Prelude.{◌≡◌, ◌⊎◌, ℕ, Bool, true, false, List, [], ◌∷◌, ◌++◌, drop, map, take, Option, Some, None}
+use Rattle.std.specs.Prelude.{◌≡◌, ◌⊎◌, ℕ, true, false, List, [], ◌∷◌, ◌++◌, drop, map, take, Option, Some, None}
 use Rattle.virtio_queue.specs.declared.any.AnyQueue.{AnyQueue}
 use Rattle.virtio_queue.specs.declared.any.AnyQueue.TheVariants.{Split, Packed}
 use Rattle.virtio_queue.specs.declared.packed.descriptor.PackedDescriptor.{PackedDescriptor}
 use Rattle.virtio_queue.specs.declared.packed.state.PackedState.{PackedState}
 use Rattle.vhost_inflight.specs.Packed.{PackedKept}
-use Rattle.vhost_inflight.specs.PackedCrash.{Deed, Effect, Flags, Id, Pop, Pops, Refused, Region, Return, World, effect, is_next}
+use Rattle.vhost_inflight.specs.PackedCrash.{Deed, Effect, Flags, Id, Pop, Pops, Refused, Region, World, effect, is_next}
 use Rattle.vhost_inflight.specs.declared.packed.PackedStore.{PackedStore}
 use Rattle.vhost_inflight.specs.declared.packed_region.PackedCopy.{PackedCopy}
 use Rattle.vhost_inflight.specs.declared.packed_region.PackedPosition.{PackedPosition}
 use Rattle.vhost_inflight.specs.declared.packed_start.PackedAgain.{PackedAgain}
 use Rattle.vhost_backend.specs.BlockQueue.{BlockQueueState, FlightState, GivesBack, with_flight}
 use Rattle.vhost_backend.specs.Flight.{base_in}
-use Rattle.vhost_backend.specs.PackedFlight.{PackedFlightState, TracksPacked, copy_by, descriptor_by, head_of, popped_found, returned_by}
+use Rattle.vhost_backend.specs.PackedFlight.{PackedFlightState, TracksPacked, copy_by, popped_found, returned_by}
 use Rattle.vhost_backend.specs.RingMemory.{MemoryStep, Returned}
 use Rattle.vhost_backend.specs.declared.block_queue.GiveBack.TheVariants as back
 use Rattle.vhost_backend.specs.declared.flight.FlightPlace.{FlightPlace}

@@ -7,7 +7,7 @@ use Rattle.vhost_backend.specs.BlockConnection.{looked_after, with_backend}
 use Rattle.vhost_backend.specs.BlockTable.{ChangesTable, memory_lost}
 use Rattle.vhost_backend.specs.BlockQueues.{chain_of}
 use Rattle.vhost_backend.specs.ConnectionMemory.{Joins, MemoryState, emptied, forgotten, memory_step, table_step, way_of, with_pages}
-use Rattle.vhost_backend.specs.Given.{Lays, Lies, Puts, is_left, len_of_part, no_counts, part_action, piece_row, place_from, rest_of}
+use Rattle.vhost_backend.specs.Given.{Lays, Lies, Puts, len_of_part, no_counts, part_action, piece_row, place_from, rest_of}
 use Rattle.vhost_backend.specs.PageList.{NoneToMark, Pages, TakesRange}
 use Rattle.vhost_backend.specs.Rings.{all_stopped, has_next}
 use Rattle.vhost_backend.specs.Rows.{flag_of, mark_row, row_of}

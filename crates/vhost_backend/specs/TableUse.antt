@@ -1,6 +1,6 @@
 -- What the queues of a back end use of the table that translates their rings' addresses, and what becomes of that by a
 -- change of the table.
-use Rattle.std.specs.Prelude.{◌≡◌, ℕ, zero, suc, Bool, true, false, List, [], length, slice_get, slice_set, Option, Some, None, is_some, Result, Ok, Err, IsSomeAnd, MatchOption}
+use Rattle.std.specs.Prelude.{◌≡◌, ℕ, zero, suc, Bool, true, false, List, length, slice_get, slice_set, Option, Some, None, is_some, Result, Ok, Err, IsSomeAnd, MatchOption}
 use Rattle.std.specs.List.{list_any}
 use Rattle.std.specs.declared.alloc.AllocError.{AllocError}
 use Rattle.vm_memory_base.specs.Table.{Says}

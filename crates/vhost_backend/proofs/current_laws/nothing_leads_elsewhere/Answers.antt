@@ -1,5 +1,4 @@
 use Rattle.std.proofs.Common.{[], refl, subst}
-use Rattle.vm_memory_base.specs.Table.{Says}
 use Rattle.vhost_backend.proofs.CurrentCallLemmas.{done_now, ended_now, failed_now, kicked_now, lost_now, mapped_now, new_now, reply_now, resized_now, sent_now, taken_now, tracking_now}
 use Rattle.vhost_backend.proofs.CurrentRunLemmas.{fills_now, moves_now, same_now}
 use Rattle.vhost_backend.specs.Current.{Current, after_changes, run_changes}

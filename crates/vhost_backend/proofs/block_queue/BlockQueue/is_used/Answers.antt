@@ -1,4 +1,4 @@
-use Rattle.std.proofs.Common.{◌≡◌, false, is_some, refl}
+use Rattle.std.proofs.Common.{◌≡◌, false, is_some}
 use Rattle.std.specs.List.{list_any}
 use Rattle.vhost_backend.proofs.UseLemmas.{idle_uses_nothing}
 use Rattle.vhost_backend.proofs.block_queue.BlockQueue.is_used.Goals as goal

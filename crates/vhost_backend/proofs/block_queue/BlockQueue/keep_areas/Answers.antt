@@ -1,4 +1,4 @@
-use Rattle.std.proofs.Common.{◌≡◌, ap}
+use Rattle.std.proofs.Common.{ap}
 use Rattle.vhost_backend.specs.BlockQueue.{BlockQueueState}
 use Rattle.vhost_backend.specs.Reach.{ReachState}
 use Rattle.vhost_backend.proofs.block_queue.BlockQueue.keep_areas.Goals as goal

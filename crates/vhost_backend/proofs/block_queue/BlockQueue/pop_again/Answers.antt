@@ -1,4 +1,4 @@
-use Rattle.std.proofs.Common.{◌≡◌, ◌∙◌, List, Some, subst}
+use Rattle.std.proofs.Common.{◌∙◌, List, subst}
 use Rattle.virtio_queue.specs.Any.{next_avail_of}
 use Rattle.virtio_queue.specs.declared.packed.descriptor.PackedDescriptor.{PackedDescriptor}
 use Rattle.virtio_queue.specs.declared.packed.state.PackedBuffer.{PackedBuffer}
