@@ -10,8 +10,7 @@
 # which is named, or memory is missing, and 4 if none failed but one was too slow. More variants run only if they are
 # named: quick does a part of the work of default, two-queues and move in 3 GiB of memory, soak works for
 # REAL_GUEST_SOAK seconds (an hour by default) behind a lazy IOMMU and watches the memory and the descriptors of the
-# back end, qemu, qemu-lazy, qemu-move and qemu-quick have QEMU's own device in place of ours, and packed-sigterm and
-# packed-sigkill fail: of a packed ring nothing is kept over an end of the back end.
+# back end, and qemu, qemu-lazy, qemu-move and qemu-quick have QEMU's own device in place of ours.
 #
 # The guest is Debian's kernel with an initial RAM disk of busybox, made here: tools/real_guest_init.sh is its first
 # process. QEMU emulates the processor, so no KVM is needed.
@@ -80,7 +79,8 @@ variant() {
     esac
 }
 VARIANTS=(default no-event-idx no-indirect packed packed-no-event-idx packed-no-indirect packed-strict
-    queue-16 queue-256 queue-1024 two-queues huge-pages read-only no-flush sigterm sigkill two-queues-sigkill grow
+    queue-16 queue-256 queue-1024 two-queues huge-pages read-only no-flush
+    sigterm sigkill two-queues-sigkill packed-sigterm packed-sigkill grow
     strict-8 strict-64 strict lazy-8 lazy-64 lazy
     move move-file strict-move strict-move-file packed-move)
 

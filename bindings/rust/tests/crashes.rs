@@ -18,13 +18,19 @@ fn requests() -> u64 {
 #[test]
 fn whatever_a_crash_leaves_is_served_once_and_in_order() {
     let mut player = Player::new(1);
-    for (size, descriptors, ring, rings, base, event_idx) in [
-        (1, 1, 0, 1, 0, true),
-        (2, 5, 1, 2, 0xfffe, false),
-        (4, 4, 0, 3, 0xfff0, true),
-        (16, 16, 1, 2, 77, false),
+    for (is_packed, size, descriptors, ring, rings, base, event_idx) in [
+        (false, 1, 1, 0, 1, 0, true),
+        (false, 2, 5, 1, 2, 0xfffe, false),
+        (false, 4, 4, 0, 3, 0xfff0, true),
+        (false, 16, 16, 1, 2, 77, false),
+        (true, 1, 1, 0, 1, 0x8000, true),
+        (true, 2, 5, 1, 2, 1, false),
+        (true, 4, 4, 0, 3, 0x8003, true),
+        (true, 7, 9, 1, 2, 0x8005, false),
+        (true, 16, 16, 0, 1, 15, true),
     ] {
         let case = Case {
+            is_packed,
             size,
             descriptors,
             ring,
@@ -32,7 +38,9 @@ fn whatever_a_crash_leaves_is_served_once_and_in_order() {
             event_idx,
             base,
         };
-        player.play(&case, requests());
+        // A packed ring has many stores for each.
+        let requests = if is_packed { requests() / 20 } else { requests() };
+        player.play(&case, requests);
         println!("{case:?}: {:?}", player.counts);
     }
 }

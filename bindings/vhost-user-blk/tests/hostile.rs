@@ -87,12 +87,14 @@ impl Things {
         }
     }
 
-    // The region of requests in flight is fresh, mostly, or has anything, or what the last program left.
-    fn fill_region(&self, numbers: &mut Numbers) {
-        let bytes = match numbers.below(8) {
+    // The region of requests in flight is fresh, mostly, or has anything, or what a run leaves but for some bytes, or
+    // what the last program left.
+    fn fill_region(&self, is_packed: bool, numbers: &mut Numbers) {
+        let bytes = match numbers.below(10) {
             0 => return,
             1 => numbers.bytes(REGION),
             2 => (0..REGION).map(|_| numbers.below(8) as u8 / 7).collect(),
+            3 | 4 => nearly_right(is_packed, numbers),
             _ => vec![0; REGION],
         };
         std::os::unix::fs::FileExt::write_all_at(&File::from(again(&self.region)), &bytes, 0).unwrap();
@@ -122,6 +124,25 @@ impl Things {
             _ => (),
         }
     }
+}
+
+// A region with nothing in flight, as a run leaves it for a ring that has not come far, but for some bytes.
+fn nearly_right(is_packed: bool, numbers: &mut Numbers) -> Vec<u8> {
+    let mut bytes = vec![0; REGION];
+    let mut put = |at: usize, word: u16| bytes[at..at + 2].copy_from_slice(&word.to_le_bytes());
+    put(8, 1);
+    put(10, 16);
+    let len = if is_packed { 32 + 32 * 16 } else { 16 + 16 * 16 };
+    if is_packed {
+        // Each entry leads to the next one. Both positions are in the first slot, with wrap counters of 1.
+        (0..16).for_each(|entry| put(32 + 32 * entry + 2, entry as u16 + 1));
+        put(20, 0x0101);
+    }
+    for _ in 0..numbers.below(4) {
+        let at = 8 + numbers.below(len - 8) as usize;
+        bytes[at] = numbers.below(18) as u8;
+    }
+    bytes
 }
 
 // The messages of a front end that keeps the protocol.
@@ -381,7 +402,7 @@ fn survive_front_ends(mut program: Program) {
             ring(&mut numbers)
         };
         std::os::unix::fs::FileExt::write_all_at(&file, &bytes, 0).unwrap();
-        things.fill_region(&mut numbers);
+        things.fill_region(is_packed, &mut numbers);
         let mut messages = usual(&things, ram.as_raw_fd(), is_packed, &mut numbers);
         change(&mut messages, &things, &mut numbers);
         sent += messages.len();

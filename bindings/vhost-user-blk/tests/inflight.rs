@@ -2,8 +2,9 @@
 
 mod front_end;
 
-use front_end::inflight::{read_of, set_up, started, Head, SIZE};
+use front_end::inflight::{read_of, set_up, started, started_packed, Head, SIZE};
 use front_end::log::{begin, taken, LOG_LEN};
+use front_end::packed::{Driver, Place, FRESH, PACKED};
 use front_end::*;
 use std::collections::BTreeMap;
 use std::fs::File;
@@ -18,13 +19,13 @@ const LEN: usize = 1 << 20;
 const UNSUPPORTED: u32 = 11;
 
 // Another program goes on, and nobody notifies it.
-fn go_on(front: &mut FrontEnd, program: &Program, features: u64, region: &Region, base: u16) {
+fn go_on(front: &mut FrontEnd, program: &Program, features: u64, region: &Region, base: u32) {
     front.connect_again(program);
     front.negotiate(features);
     set_up(front, features, Some(region));
     for index in 0..front.rings.len() {
         take(&front.rings[index].kick);
-        front.restart_ring(index, base);
+        front.restart_at(index, base);
     }
 }
 
@@ -34,9 +35,15 @@ fn kill(program: Program) {
 
 #[test]
 fn a_region_is_made_for_a_front_end() {
-    let program = Program::start("inflight_made", LEN, &["--queues", "3"]);
+    for (name, features) in [("inflight_made", USUAL), ("inflight_made_packed", PACKED)] {
+        expect_regions(name, features);
+    }
+}
+
+fn expect_regions(name: &str, features: u64) {
+    let program = Program::start(name, LEN, &["--queues", "3"]);
     let mut front = program.connect();
-    front.negotiate(USUAL);
+    front.negotiate(features);
     let descriptors = program.descriptors();
     for (rings, size) in [(1, 1), (1, 64), (3, 128), (3, 1024)] {
         let region = front.new_region(rings, size);
@@ -94,7 +101,7 @@ fn expect_served_again(name: &str, words: &[&str], features: u64, base: u16) {
     }
     let program = Program::start_again(&folder, words);
     let used = front.used_idx(0);
-    go_on(&mut front, &program, features, &region, used);
+    go_on(&mut front, &program, features, &region, used.into());
     let heads = [0; 3].map(|_| front.take_used(0).0);
     assert_eq!(heads, [0, 1, 2]);
     program.rest();
@@ -109,9 +116,112 @@ fn expect_served_again(name: &str, words: &[&str], features: u64, base: u16) {
     assert_eq!(region.head(0), head);
 }
 
+// The refused request that comes back first is returned over the descriptor of the one that is under way. The base that
+// the front end sends is stale.
+#[test]
+fn a_packed_request_is_served_again_after_a_kill() {
+    for (name, words, features) in [
+        ("inflight_packed", &[][..], PACKED),
+        ("inflight_packed_event_idx", &[], PACKED | EVENT_IDX),
+        ("inflight_packed_iommu", IOMMU, PACKED | ACCESS_PLATFORM),
+    ] {
+        for (slot, wrap) in [(0, true), (SIZE - 1, false), (SIZE - 2, true)] {
+            expect_packed_served_again(name, words, features, Place { slot, wrap });
+        }
+    }
+}
+
+fn expect_packed_served_again(name: &str, words: &[&str], features: u64, first: Place) {
+    let program = Program::start_on_a_hole(name, 4 << 30, words);
+    let folder = program.folder.clone();
+    let (mut driver, region) = started_packed(&program, features, first);
+    driver.publish_long(0, 0, 0, &[(8 << 20, 4 << 20); 512]);
+    driver.publish_long(1, UNSUPPORTED, 0, &[(9 << 20, 16)]);
+    driver.kick();
+    assert_eq!(driver.take(), (1, 0));
+    program.wait_for_work();
+    kill(program);
+    assert!(!driver.is_back());
+    assert_eq!(region.in_flight(0), [0]);
+    let head = region.packed_head(0);
+    assert_eq!([head.used, head.old_used], [first.moved(SIZE, 1).bits(); 2]);
+    // What comes meanwhile, with the id that came back, too.
+    for (id, sector) in [(1, 5), (2, 7)] {
+        driver.publish_long(id, 0, sector, &[(10 << 20, 512)]);
+    }
+    let program = Program::start_again(&folder, words);
+    go_on(&mut driver.front, &program, features, &region, FRESH);
+    let lens = [(0, (2 << 30) + 1), (1, 513), (2, 513)];
+    assert_eq!([0; 3].map(|_| driver.take()), lens);
+    program.rest();
+    region.expect_settled(0, first.moved(SIZE, 4));
+}
+
+// The driver of a split ring or of a packed one.
+enum Side {
+    Split(FrontEnd),
+    Packed(Driver),
+}
+
+impl Side {
+    fn front(&mut self) -> &mut FrontEnd {
+        match self {
+            Side::Split(front) => front,
+            Side::Packed(driver) => &mut driver.front,
+        }
+    }
+
+    // Makes a request available.
+    fn publish(&mut self, head: u16, kind: u32, sector: u64, len: u32, in_table: bool) {
+        match self {
+            Side::Split(front) => {
+                front.put_request(0, head, kind, sector, len);
+                front.publish(0, head);
+            }
+            Side::Packed(driver) => {
+                let chain = driver.chain(head / 3, kind, sector, len);
+                if in_table {
+                    driver.publish_table(head, &chain);
+                } else {
+                    driver.publish(head, &chain);
+                }
+            }
+        }
+    }
+
+    fn is_back(&self) -> bool {
+        match self {
+            Side::Split(front) => front.used_idx(0) != front.rings[0].next_used,
+            Side::Packed(driver) => driver.is_back(),
+        }
+    }
+
+    fn take(&mut self) -> (u16, u32) {
+        match self {
+            Side::Split(front) => {
+                let (head, len) = front.take_used(0);
+                (head as u16, len)
+            }
+            Side::Packed(driver) => driver.take(),
+        }
+    }
+
+    // Where the ring goes on is in the region, and of a split ring in the ring.
+    fn any_base(&self, numbers: &mut Numbers) -> u32 {
+        match self {
+            Side::Split(front) => {
+                let bases = [front.used_idx(0), front.rings[0].next_used, 0xfff0];
+                numbers.of(&bases).into()
+            }
+            Side::Packed(driver) => numbers.of(&[FRESH, driver.used.base(), driver.avail.base()]),
+        }
+    }
+}
+
 // Each request that is published comes back once, and those that are served in their order.
 struct Load {
-    front: FrontEnd,
+    side: Side,
+    features: u64,
     region: Region,
     numbers: Numbers,
     free: Vec<u16>,
@@ -122,10 +232,18 @@ struct Load {
 }
 
 impl Load {
-    fn new(program: &Program) -> Load {
-        let (front, region) = started(program, USUAL, 0xfff0);
+    fn new(program: &Program, features: u64) -> Load {
+        let (side, region) = if features & RING_PACKED == 0 {
+            let (front, region) = started(program, features, 0xfff0);
+            (Side::Split(front), region)
+        } else {
+            let first = Place { slot: 60, wrap: false };
+            let (driver, region) = started_packed(program, features, first);
+            (Side::Packed(driver), region)
+        };
         Load {
-            front,
+            side,
+            features,
             region,
             numbers: Numbers(7),
             free: (0..20).map(|place| 3 * place).collect(),
@@ -140,11 +258,11 @@ impl Load {
         for _ in 0..=self.numbers.below(20) {
             let count = 1 + self.numbers.below(20);
             self.publish(count);
-            self.front.kick(0);
+            self.side.front().kick(0);
             self.take();
         }
         self.publish(20);
-        self.front.kick(0);
+        self.side.front().kick(0);
         let moment = Duration::from_micros(self.numbers.below(300));
         let since = Instant::now();
         while since.elapsed() < moment {}
@@ -160,34 +278,35 @@ impl Load {
             let (sector, len) = (self.numbers.below(1000), 512 * (1 + self.numbers.below(16)) as u32);
             let is_served = !self.numbers.one_in(4);
             let kind = if is_served { 0 } else { UNSUPPORTED };
-            self.front.put_request(0, head, kind, sector, len);
             self.published += 1;
             self.out
                 .insert(head, (self.published, is_served.then_some((sector, len))));
-            self.front.publish(0, head);
+            let in_table = self.numbers.one_in(2);
+            self.side.publish(head, kind, sector, len, in_table);
         }
     }
 
     fn take(&mut self) {
-        let (head, len) = self.front.take_used(0);
-        let asked = self.out.remove(&(head as u16));
+        let (head, len) = self.side.take();
+        let asked = self.out.remove(&head);
         let (number, asked) = asked.unwrap_or_else(|| panic!("head {head} comes back, which is not out"));
-        let (data, status) = self.front.places(0, head as u16);
-        let status = self.front.read(status, 1)[0];
+        let front = self.side.front();
+        let (data, status) = front.places(0, head);
+        let status = front.read(status, 1)[0];
         if let Some((sector, wanted)) = asked {
             assert!(number > self.served, "{number} comes back after {}", self.served);
             self.served = number;
             assert_eq!((status, len), (0, wanted + 1));
-            assert_eq!(self.front.read(data, wanted as usize), read_of(sector, wanted as usize));
+            assert_eq!(front.read(data, wanted as usize), read_of(sector, wanted as usize));
         } else {
             // The data before the status are not written.
             assert_eq!((status, len), (2, 0));
         }
-        self.free.push(head as u16);
+        self.free.push(head);
     }
 
     fn take_all(&mut self) {
-        while self.front.used_idx(0) != self.front.rings[0].next_used {
+        while self.side.is_back() {
             self.take();
         }
     }
@@ -195,9 +314,18 @@ impl Load {
 
 #[test]
 fn each_request_comes_back_once_over_many_kills() {
-    let mut program = Program::start("inflight_load", LEN, &[]);
+    kill_under_load("inflight_load", USUAL);
+}
+
+#[test]
+fn each_packed_request_comes_back_once_over_many_kills() {
+    kill_under_load("inflight_load_packed", PACKED);
+}
+
+fn kill_under_load(name: &str, features: u64) {
+    let mut program = Program::start(name, LEN, &[]);
     let folder = program.folder.clone();
-    let mut load = Load::new(&program);
+    let mut load = Load::new(&program, features);
     let (begun, mut caught) = (Instant::now(), 0);
     while caught < 10 && begun.elapsed() < LONG {
         load.work();
@@ -209,11 +337,8 @@ fn each_request_comes_back_once_over_many_kills() {
             load.publish(more);
         }
         program = Program::start_again(&folder, &[]);
-        // Where the ring goes on is in the region and in the ring.
-        let base = load
-            .numbers
-            .of(&[load.front.used_idx(0), load.front.rings[0].next_used, 0xfff0]);
-        go_on(&mut load.front, &program, USUAL, &load.region, base);
+        let base = load.side.any_base(&mut load.numbers);
+        go_on(load.side.front(), &program, load.features, &load.region, base);
     }
     println!("{caught} kills among requests, {} requests", load.published);
     assert!(caught > 0, "no request was under way when the program was killed");
@@ -223,6 +348,9 @@ fn each_request_comes_back_once_over_many_kills() {
     program.rest();
     load.take_all();
     assert_eq!(load.region.in_flight(0), []);
+    if let Side::Packed(driver) = &load.side {
+        load.region.expect_settled(0, driver.used);
+    }
 }
 
 // The region of another ring lies after that of the first, and the file has other bytes beside it.
@@ -230,65 +358,111 @@ fn each_request_comes_back_once_over_many_kills() {
 fn a_region_lies_where_the_front_end_says() {
     let program = Program::start("inflight_place", LEN, &["--queues", "2"]);
     for offset in [0, 3 * 4096, 64, 4096 + 192] {
-        let mut front = program.connect();
-        front.negotiate(USUAL | BLK_MQ);
-        let mut region = front.new_region(2, SIZE);
-        let len = 1 << 16;
-        region.file = memfd(len);
-        File::from(again(&region.file))
-            .write_all_at(&[0xa5; 1 << 16], 0)
-            .unwrap();
-        region.offset = offset;
-        region.write(0, &vec![0; region.size as usize]);
-        set_up(&mut front, USUAL, Some(&region));
-        for index in 0..2 {
-            front.start_ring(SIZE, 7);
-            assert_eq!(front.read_disk(index, 3, 512), read_of(3, 512));
-            assert_eq!(front.read_disk(index, 4, 512), read_of(4, 512));
+        for features in [USUAL, PACKED] {
+            expect_region_at(&program, features, offset);
         }
-        program.rest();
-        for ring in 0..2 {
-            assert_eq!(region.head(ring).version, 1);
-            assert_eq!(region.head(ring).used_idx, 9);
-            assert_eq!(region.in_flight(ring), []);
-        }
-        let mut bytes = vec![0; len];
-        File::from(again(&region.file)).read_exact_at(&mut bytes, 0).unwrap();
-        let is_beside = |at: &usize| !(offset..offset + region.size).contains(&(*at as u64));
-        assert!((0..len).filter(is_beside).all(|at| bytes[at] == 0xa5));
     }
 }
 
-// The crash may lie between a store to the used ring and its mark. This ring has three pages, and what is served now
-// lies in the first one.
+// Where a packed ring begins in place of the index 7.
+const SEVENTH: Place = Place { slot: 7, wrap: false };
+
+// A new ring of this number serves two requests.
+fn serve_two(mut front: FrontEnd, index: usize) -> FrontEnd {
+    if front.is_packed {
+        let mut driver = Driver::at(front, SIZE, SEVENTH);
+        for sector in [3, 4] {
+            assert_eq!(driver.request(5, 0, sector, 512), (0, 513));
+            assert_eq!(driver.data(512), read_of(sector, 512));
+        }
+        return driver.front;
+    }
+    front.start_ring(SIZE, 7);
+    for sector in [3, 4] {
+        assert_eq!(front.read_disk(index, sector, 512), read_of(sector, 512));
+    }
+    front
+}
+
+fn expect_region_at(program: &Program, features: u64, offset: u64) {
+    let mut front = program.connect();
+    front.negotiate(features | BLK_MQ);
+    let mut region = front.new_region(2, SIZE);
+    let len = 1 << 16;
+    region.file = memfd(len);
+    File::from(again(&region.file))
+        .write_all_at(&[0xa5; 1 << 16], 0)
+        .unwrap();
+    region.offset = offset;
+    region.write(0, &vec![0; region.size as usize]);
+    set_up(&mut front, features, Some(&region));
+    for index in 0..2 {
+        front = serve_two(front, index);
+    }
+    program.rest();
+    for ring in 0..2 {
+        assert_eq!(region.in_flight(ring), []);
+        if region.is_packed {
+            // Each request took three slots.
+            region.expect_settled(ring, SEVENTH.moved(SIZE, 6));
+        } else {
+            assert_eq!(region.head(ring).version, 1);
+            assert_eq!(region.head(ring).used_idx, 9);
+        }
+    }
+    let mut bytes = vec![0; len];
+    File::from(again(&region.file)).read_exact_at(&mut bytes, 0).unwrap();
+    let is_beside = |at: &usize| !(offset..offset + region.size).contains(&(*at as u64));
+    assert!((0..len).filter(is_beside).all(|at| bytes[at] == 0xa5));
+}
+
+// The crash may lie between a store to the ring and its mark. The used ring has three pages, and a packed ring four,
+// and what is served now lies in the first one.
 #[test]
-fn the_used_ring_is_marked_after_a_start() {
-    let program = Program::start("inflight_log", LEN, &[]);
+fn what_a_killed_program_stored_is_marked_after_a_start() {
+    for (name, features) in [("inflight_log", USUAL), ("inflight_log_packed", PACKED)] {
+        expect_marked(name, features);
+    }
+}
+
+fn expect_marked(name: &str, features: u64) {
+    let program = Program::start(name, LEN, &[]);
     let folder = program.folder.clone();
     let mut front = program.connect();
-    front.negotiate(USUAL);
+    front.negotiate(features);
     let region = front.new_region(1, 1024);
-    set_up(&mut front, USUAL, Some(&region));
-    front.start_ring(1024, 0);
-    front.read_disk(0, 1, 512);
+    set_up(&mut front, features, Some(&region));
+    let (base, place, count) = if region.is_packed {
+        let mut driver = Driver::new(front, 1024);
+        driver.request(0, 0, 1, 512);
+        front = driver.front;
+        (FRESH, front.parts(0).0 as u64, 4)
+    } else {
+        front.start_ring(1024, 0);
+        front.read_disk(0, 1, 512);
+        (1, front.used_ring(0), 3)
+    };
     kill(program);
     let program = Program::start_again(&folder, &[]);
     front.connect_again(&program);
-    front.negotiate(USUAL);
-    set_up(&mut front, USUAL, Some(&region));
+    front.negotiate(features);
+    set_up(&mut front, features, Some(&region));
     let rings = std::mem::take(&mut front.rings);
-    let log = begin(&mut front, USUAL, LOG_LEN);
+    let log = begin(&mut front, features, LOG_LEN);
     front.rings = rings;
     let (number, kick) = (u64::to_le_bytes(0), again(&front.rings[0].kick));
     assert!(front.is_done(SET_VRING_NUM, &two(0, 1024), &[]));
-    assert!(front.is_done(SET_VRING_BASE, &two(0, 1), &[]));
+    assert!(front.is_done(SET_VRING_BASE, &two(0, base), &[]));
     let logged = front.addresses(0, true);
     assert!(front.is_done(SET_VRING_ADDR, &logged, &[]));
     assert!(front.is_done(SET_VRING_KICK, &number, &[&kick]));
     assert!(front.is_done(SET_VRING_ENABLE, &two(0, 1), &[]));
     program.rest();
-    let (page, taken) = (front.used_ring(0) / PAGE, taken(&log));
-    assert!((page..page + 3).all(|it| taken.contains(&it)), "{taken:?}, not {page}");
+    let (page, taken) = (place / PAGE, taken(&log));
+    assert!(
+        (page..page + count).all(|it| taken.contains(&it)),
+        "{taken:?}, not {page}"
+    );
 }
 
 // Without a region, and with one for fewer rings, a ring is served as before.
@@ -303,8 +477,20 @@ fn a_ring_without_a_region_is_served() {
         front.start_ring(SIZE, 0);
         assert_eq!(front.read_disk(index, 3, 512), read_of(3, 512));
     }
-    // The feature has to be accepted.
+    // A packed ring, too, takes the base of the front end then.
     drop(front);
+    let mut front = program.connect();
+    front.negotiate(PACKED);
+    front.set_memory();
+    let mut driver = Driver::at(front, SIZE, Place { slot: 9, wrap: false });
+    assert_eq!(driver.request(4, 0, 3, 512), (0, 513));
+    let base = driver.front.stop_ring(0);
+    assert_eq!(base, driver.base());
+    driver.front.restart_at(0, base);
+    assert_eq!(driver.request(4, 0, 4, 512), (0, 513));
+    assert_eq!(driver.data(512), read_of(4, 512));
+    // The feature has to be accepted.
+    drop(driver);
     let mut front = program.connect();
     front.ask_u64(GET_FEATURES);
     let protocol = front.ask_u64(GET_PROTOCOL_FEATURES) & !INFLIGHT_SHMFD;

@@ -3,7 +3,8 @@
 
 mod front_end;
 
-use front_end::inflight::{read_of, set_up, started, SIZE};
+use front_end::inflight::{read_of, set_up, started, started_packed, SIZE};
+use front_end::packed::{Driver, Place, PACKED};
 use front_end::*;
 use std::fs::File;
 use std::os::fd::AsRawFd;
@@ -11,10 +12,17 @@ use std::os::unix::net::UnixStream;
 
 const LEN: usize = 1 << 20;
 
+// Where a region changes, how many bytes, and to what.
+type Change = (u64, usize, u64);
+
 // A front end that is refused by a message of its own, after which the next one is served.
 fn expect_refused(program: &mut Program, what: &str, refuse: impl FnOnce(&mut FrontEnd, Region)) {
+    expect_refused_with(program, USUAL, what, refuse);
+}
+
+fn expect_refused_with(program: &mut Program, features: u64, what: &str, refuse: impl FnOnce(&mut FrontEnd, Region)) {
     let mut front = program.connect();
-    front.negotiate(USUAL);
+    front.negotiate(features);
     let region = front.new_region(1, SIZE);
     refuse(&mut front, region);
     assert!(front.is_let_go(), "{what}");
@@ -60,6 +68,15 @@ fn a_region_that_is_not_there_is_refused() {
         let what = format!("{size} bytes from {offset} on, {rings} rings of {descriptors}");
         expect_refused(&mut program, &what, |front, region| {
             let payload = inflight(size, offset, rings, descriptors);
+            assert!(!front.is_done(SET_INFLIGHT_FD, &payload, &[&region.file]), "{what}");
+        });
+    }
+    // For packed rings it has more bytes: these are too few for one ring or two, or those of a split ring.
+    for (size, rings) in [(2111, 1), (2080, 1), (4223, 2), (1088, 1)] {
+        let what = format!("{size} bytes, {rings} packed rings of {SIZE}");
+        expect_refused_with(&mut program, PACKED, &what, |front, region| {
+            assert_eq!(region.size, 2112);
+            let payload = inflight(size, 0, rings, SIZE);
             assert!(!front.is_done(SET_INFLIGHT_FD, &payload, &[&region.file]), "{what}");
         });
     }
@@ -130,7 +147,7 @@ fn a_region_of_guest_memory_is_refused() {
 fn a_region_with_wild_values_breaks_its_ring() {
     let mut program = Program::start("inflight_wild", LEN, &["--queues", "2"]);
     let (entry, last) = (|head: u64| 16 + 16 * head, u64::from(SIZE) - 1);
-    // Of a region that was used once: where it changes, how many bytes, and to what.
+    // Of a region that was used once.
     for (what, changes) in [
         ("another version", &[(8, 2, 2)][..]),
         ("another version", &[(8, 2, 0xffff)]),
@@ -159,7 +176,7 @@ fn a_region_with_wild_values_breaks_its_ring() {
     }
 }
 
-fn expect_broken(program: &mut Program, what: &str, changes: &[(u64, usize, u64)]) {
+fn expect_broken(program: &mut Program, what: &str, changes: &[Change]) {
     let (mut front, region) = started(program, USUAL, 0);
     front.read_disk(0, 1, 512);
     front.stop_ring(0);
@@ -190,6 +207,134 @@ fn expect_broken(program: &mut Program, what: &str, changes: &[(u64, usize, u64)
     assert!(program.lives());
 }
 
+// The place of an entry of a packed ring's region.
+const fn entry(index: u64) -> u64 {
+    32 + 32 * index
+}
+
+// The first three entries have a chain in flight with the request that was served last, and the others are free.
+const ONE_IN_FLIGHT: [Change; 6] = [
+    (12, 2, 3),
+    (14, 2, 3),
+    (entry(0), 1, 1),
+    (entry(0) + 4, 2, 2),
+    (entry(0) + 6, 2, 3),
+    (entry(0) + 8, 8, 1),
+];
+
+// What else a region says, in which that chain is in flight.
+const WILD: [(&str, &[Change]); 27] = {
+    let last = SIZE as u64 - 1;
+    [
+        ("another version", &[(8, 2, 2)]),
+        ("another version", &[(8, 2, 0xffff)]),
+        ("other descriptors", &[(10, 2, 63)]),
+        ("other descriptors", &[(10, 2, 65)]),
+        ("other descriptors", &[(10, 2, 0)]),
+        // Both positions are the same: the place before the call counts.
+        ("a free list outside of the region", &[(14, 2, 65)]),
+        ("a free list outside of the region", &[(14, 2, 0xffff)]),
+        ("a free list that leads outside", &[(entry(5) + 2, 2, 65)]),
+        ("a free list that leads outside", &[(entry(last) + 2, 2, 0xfffe)]),
+        ("a free list that loops", &[(entry(5) + 2, 2, 5)]),
+        ("a free list that loops", &[(entry(last) + 2, 2, 3)]),
+        ("a free list that loops by way of the chain", &[(entry(last) + 2, 2, 2)]),
+        ("a position outside of the ring", &[(16, 2, 64)]),
+        ("a position outside of the ring", &[(18, 2, 64)]),
+        ("a position outside of the ring", &[(16, 2, 0xffff), (18, 2, 0xffff)]),
+        ("a mark that is none", &[(entry(0), 1, 2)]),
+        ("a mark that is none", &[(entry(7), 1, 2)]),
+        ("a mark that is none", &[(entry(last), 1, 0xff)]),
+        ("a count that no run reaches", &[(entry(0) + 8, 8, 1 << 63)]),
+        ("a count that no run reaches", &[(entry(0) + 8, 8, u64::MAX)]),
+        ("a chain of no entries", &[(entry(0) + 6, 2, 0)]),
+        ("a chain longer than the ring", &[(entry(0) + 6, 2, 65)]),
+        ("a chain that loops", &[(entry(1) + 2, 2, 0), (entry(0) + 4, 2, 0)]),
+        (
+            "a chain that leads outside",
+            &[(entry(1) + 2, 2, 64), (entry(0) + 4, 2, 64)],
+        ),
+        (
+            "a chain with a free entry",
+            &[(entry(1) + 2, 2, 9), (entry(0) + 4, 2, 9)],
+        ),
+        ("a chain that ends elsewhere", &[(entry(0) + 4, 2, 1)]),
+        // The chain's second entry is the only one of another chain.
+        (
+            "an entry of two chains",
+            &[
+                (entry(1), 1, 1),
+                (entry(1) + 4, 2, 1),
+                (entry(1) + 6, 2, 1),
+                (entry(1) + 8, 8, 2),
+            ],
+        ),
+    ]
+};
+
+#[test]
+fn a_packed_region_with_wild_values_breaks_its_ring() {
+    let mut program = Program::start("inflight_wild_packed", LEN, &["--queues", "2"]);
+    // Without another change the chain is served again.
+    let (mut driver, region, next) = stopped_in_flight(&program, &[]);
+    driver.front.restart_at(0, next.base());
+    assert_eq!(driver.take(), (0, 513));
+    assert_eq!(driver.data(512), read_of(1, 512));
+    program.rest();
+    region.expect_settled(0, next.moved(SIZE, 3));
+    drop(driver);
+    for (what, changes) in WILD {
+        expect_packed_broken(&mut program, what, changes);
+    }
+}
+
+// A ring that is stopped, with one request in its next three slots, which the region has in flight; with changes.
+fn stopped_in_flight(program: &Program, changes: &[Change]) -> (Driver, Region, Place) {
+    let first = Place { slot: 0, wrap: true };
+    let (mut driver, region) = started_packed(program, PACKED, first);
+    assert_eq!(driver.request(0, 0, 1, 512), (0, 513));
+    driver.front.stop_ring(0);
+    let next = first.moved(SIZE, 3);
+    region.expect_settled(0, next);
+    // All entries are free in a row: the first three, which the request had, too.
+    assert_eq!(region.packed_head(0).free_head, 0);
+    for index in 0..SIZE {
+        assert_eq!(region.entry(0, index)[2..4], (index + 1).to_le_bytes());
+    }
+    for &(at, len, value) in ONE_IN_FLIGHT.iter().chain(changes) {
+        region.write(at, &value.to_le_bytes()[..len]);
+    }
+    let chain = driver.chain(0, 0, 1, 512);
+    driver.publish(0, &chain);
+    take(&driver.front.rings[0].err);
+    (driver, region, next)
+}
+
+fn expect_packed_broken(program: &mut Program, what: &str, changes: &[Change]) {
+    let (mut driver, region, next) = stopped_in_flight(program, changes);
+    let before = region.read(0, region.size as usize);
+    driver.front.restart_at(0, next.base());
+    assert!(can_read(&driver.front.rings[0].err, LONG), "{what}: the ring goes on");
+    driver.kick();
+    program.rest();
+    assert!(!driver.is_back(), "{what}");
+    assert_eq!(region.read(0, region.size as usize), before, "{what}");
+    // Another ring is served, and this one after its region was replaced: then the front end's base counts.
+    let mut other = Driver::new(driver.front, SIZE);
+    assert_eq!(other.request(3, 0, 6, 512), (0, 513), "{what}");
+    assert_eq!(other.data(512), read_of(6, 512), "{what}");
+    driver.front = other.front;
+    driver.front.stop_ring(0);
+    let region = driver.front.new_region(1, SIZE);
+    assert!(driver.front.give_region(&region));
+    take(&driver.front.rings[0].kick);
+    driver.front.restart_at(0, next.base());
+    assert_eq!(driver.take(), (0, 513), "{what}");
+    program.rest();
+    region.expect_settled(0, next.moved(SIZE, 3));
+    assert!(program.lives());
+}
+
 // A ring that has more descriptors than the region is for.
 #[test]
 fn a_region_that_is_too_small_breaks_its_ring() {
@@ -204,6 +349,20 @@ fn a_region_that_is_too_small_breaks_its_ring() {
     front.rings.clear();
     front.start_ring(32, 0);
     assert_eq!(front.read_disk(0, 2, 512), read_of(2, 512));
+    drop(front);
+    let mut front = program.connect();
+    front.negotiate(PACKED);
+    let region = front.new_region(1, 32);
+    set_up(&mut front, PACKED, Some(&region));
+    let mut driver = Driver::new(front, 33);
+    assert!(can_read(&driver.front.rings[0].err, LONG));
+    driver.front.stop_ring(0);
+    driver.front.rings.clear();
+    let mut driver = Driver::new(driver.front, 32);
+    assert_eq!(driver.request(7, 0, 2, 512), (0, 513));
+    assert_eq!(driver.data(512), read_of(2, 512));
+    program.rest();
+    region.expect_settled(0, driver.used);
 }
 
 #[test]
@@ -228,6 +387,21 @@ fn a_region_that_goes_away_ends_the_connection() {
         assert!(program.lives());
         program.expect_said("guest memory disappeared");
     }
+    // A packed ring stores to the first entry and to the front.
+    let mut front = program.connect();
+    front.negotiate(PACKED);
+    let mut region = front.new_region(1, SIZE);
+    region.file = memfd(region.size as usize);
+    set_up(&mut front, PACKED, Some(&region));
+    let mut driver = Driver::new(front, SIZE);
+    assert_eq!(driver.request(0, 0, 2, 512), (0, 513));
+    program.rest();
+    File::from(again(&region.file)).set_len(0).unwrap();
+    let chain = driver.chain(0, 0, 2, 512);
+    driver.publish(0, &chain);
+    driver.kick();
+    assert!(driver.front.is_let_go());
+    assert!(program.lives());
     let (mut front, _region) = started(&program, USUAL, 0);
     assert_eq!(front.read_disk(0, 2, 512), read_of(2, 512));
 }

@@ -30,9 +30,10 @@ pub struct Machine {
 }
 
 /// The messages by which a front end starts a back end with a ring.
-pub fn messages(case: &Case, base: u16) -> VecDeque<(Vec<u8>, usize)> {
+pub fn messages(case: &Case, base: u32) -> VecDeque<(Vec<u8>, usize)> {
     let of = |request, payload: &[u8], descriptors| (message(request, 0, payload), descriptors);
     let events = if case.event_idx { EVENT_IDX } else { 0 };
+    let packed = if case.is_packed { RING_PACKED } else { 0 };
     let two = |number: u32| words(&[case.ring, number]);
     let size = case.part() as u64 * u64::from(case.rings);
     let place = |part: usize| USER + part as u64;
@@ -40,11 +41,11 @@ pub fn messages(case: &Case, base: u16) -> VecDeque<(Vec<u8>, usize)> {
     let protocol = MQ | REPLY_ACK | INFLIGHT_SHMFD;
     VecDeque::from([
         of(SET_PROTOCOL_FEATURES, &longs(&[protocol]), 0),
-        of(SET_FEATURES, &longs(&[FEATURES | events]), 0),
+        of(SET_FEATURES, &longs(&[FEATURES | events | packed]), 0),
         of(SET_INFLIGHT_FD, &inflight(size, 0, case.rings, case.descriptors), 1),
         of(SET_MEM_TABLE, &table(&[[0, RAM as u64, USER, 0]]), 1),
         of(SET_VRING_NUM, &two(case.size.into()), 0),
-        of(SET_VRING_BASE, &two(base.into()), 0),
+        of(SET_VRING_BASE, &two(base), 0),
         of(SET_VRING_ADDR, &addresses(case.ring, 0, parts), 0),
         of(SET_VRING_CALL, &longs(&[case.ring.into()]), 1),
         of(SET_VRING_KICK, &longs(&[case.ring.into()]), 1),
@@ -73,7 +74,7 @@ fn mapping_of(file: impl AsFd, known: usize) -> usize {
 impl Machine {
     pub fn new(case: &Case) -> Machine {
         let offer = Offer {
-            features: FEATURES | EVENT_IDX | FLUSH,
+            features: FEATURES | EVENT_IDX | FLUSH | RING_PACKED,
             protocol_features: MQ | REPLY_ACK | INFLIGHT_SHMFD,
             queues: case.rings.into(),
             max_queue_size: 16,

@@ -2,7 +2,9 @@
 
 pub mod driver;
 pub mod machine;
+pub mod packed;
 pub mod play;
+pub mod split;
 pub mod watch;
 
 use crate::guest::Guest;
@@ -22,6 +24,7 @@ pub const REGION: usize = PAGE;
 /// Where a back end begins, and what it has.
 #[derive(Clone, Copy, Debug)]
 pub struct Case {
+    pub is_packed: bool,
     /// How many descriptors the ring has.
     pub size: u16,
     /// For how many the region is.
@@ -30,14 +33,15 @@ pub struct Case {
     pub ring: u32,
     pub rings: u16,
     pub event_idx: bool,
-    /// The index at which the ring begins.
+    /// The index at which a split ring begins, or the place of a packed one: a slot, and the wrap counter on top.
     pub base: u16,
 }
 
 impl Case {
     /// How many bytes of the region a ring has.
     pub fn part(&self) -> usize {
-        (16 + 16 * usize::from(self.descriptors)).next_multiple_of(64)
+        let unit = if self.is_packed { 32 } else { 16 };
+        (unit + unit * usize::from(self.descriptors)).next_multiple_of(64)
     }
 }
 

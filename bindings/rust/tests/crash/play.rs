@@ -45,8 +45,12 @@ impl Player {
     pub fn play(&mut self, case: &Case, requests: u64) {
         self.shared[0].region.write(0, &[0; super::REGION]);
         let driver = Driver::new(case, &self.shared[0]);
-        let mut play = self.start(case, driver, 0, case.base, true);
-        while play.driver.next_sector < requests {
+        let base = match case.is_packed {
+            true => u32::from(case.base) << 16 | u32::from(case.base),
+            false => case.base.into(),
+        };
+        let mut play = self.start(case, driver, 0, base, true);
+        while play.driver.published < requests {
             self.step(case, &mut play, true);
         }
         self.finish(case, &mut play);
@@ -54,7 +58,7 @@ impl Player {
     }
 
     // Starts a back end, and has it go on without a kick.
-    fn start(&mut self, case: &Case, driver: Driver, level: usize, base: u16, is_watched: bool) -> Play {
+    fn start(&mut self, case: &Case, driver: Driver, level: usize, base: u32, is_watched: bool) -> Play {
         let wanted = driver.not_back(&self.shared[level]);
         self.counts.most_again = self.counts.most_again.max(wanted.len());
         let mut play = Play {
@@ -99,10 +103,8 @@ impl Player {
         let mut driver = before.driver.clone();
         self.shared[level].load(image);
         self.counts.crashes[before.level] += 1;
-        let stale = self.numbers.any() as u16;
         driver.go_on(&self.shared[level], &mut self.numbers);
-        let used = driver.used_idx(&self.shared[level]);
-        let base = if self.numbers.one_in(2) { used } else { stale };
+        let base = driver.base(case, &self.shared[level], &mut self.numbers);
         // What follows a start is watched like the start now and then.
         let is_watched = level == 1;
         let mut play = self.start(case, driver, level, base, is_watched);
@@ -143,16 +145,8 @@ impl Player {
         }
         let shared = &self.shared[play.level];
         play.driver.take(shared, usize::MAX);
-        assert_eq!(play.driver.out(), []);
         assert_eq!(play.machine.served, play.wanted);
         let part = shared.region.read(case.part() * case.ring as usize, case.part());
-        let used_idx = play.driver.used_idx(shared);
-        assert_eq!(part[8..12], [1_u16, case.descriptors].map(u16::to_le_bytes).concat());
-        assert_eq!(part[14..16], used_idx.to_le_bytes());
-        let marks = part[16..]
-            .chunks_exact(16)
-            .take(case.descriptors.into())
-            .map(|it| it[0]);
-        assert_eq!(marks.max(), Some(0));
+        play.driver.expect_settled(case, shared, &part);
     }
 }

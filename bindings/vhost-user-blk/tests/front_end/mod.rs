@@ -7,6 +7,7 @@ pub mod inflight;
 pub mod link;
 pub mod log;
 pub mod numbers;
+pub mod packed;
 pub mod program;
 #[path = "../../../rust/tests/front_end/protocol.rs"]
 pub mod protocol;
@@ -97,6 +98,8 @@ pub struct FrontEnd {
     pub ram: OwnedFd,
     map: Map,
     pub rings: Vec<Ring>,
+    /// Whether its rings are packed.
+    pub is_packed: bool,
 }
 
 impl Deref for FrontEnd {
@@ -123,6 +126,7 @@ impl FrontEnd {
             map: Map::new(&ram, 0, RAM),
             ram,
             rings: Vec::new(),
+            is_packed: false,
         }
     }
 
@@ -140,6 +144,7 @@ impl FrontEnd {
         self.send(SET_PROTOCOL_FEATURES, 0, &protocol.to_le_bytes(), &[]);
         self.send(SET_OWNER, 0, &[], &[]);
         self.send(SET_FEATURES, 0, &features.to_le_bytes(), &[]);
+        self.is_packed = features & RING_PACKED != 0;
     }
 
     // ---- the I/O table
@@ -270,7 +275,14 @@ impl FrontEnd {
             next_used: 0,
             base: RING * (index as u64 + 1),
         });
-        self.write(self.rings[index].base as usize, &[0; 0x8000]);
+        let ring = self.rings[index].base as usize;
+        self.write(ring, &[0; 0x8000]);
+        // Each slot was used in the round before the one that comes to it next.
+        let (first, wrap) = (base >> 16 & 0x7fff, base >> 31 == 1);
+        for slot in 0..size {
+            let flags = if (u32::from(slot) < first) == wrap { 0x8080 } else { 0 };
+            self.word(ring + 16 * usize::from(slot) + 14).store(flags, SeqCst);
+        }
         self.restart_at(index, base);
         index
     }
