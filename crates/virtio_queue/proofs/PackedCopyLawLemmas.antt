@@ -1,5 +1,5 @@
 -- A pop of a packed queue, and a chain that is made of copies of its descriptors.
-use Rattle.std.proofs.Common.{◌≡◌, ◌∙◌, ℕ, zero, suc, ◌+◌, ◌-◌, ◌*◌, if◌then◌else◌, Bool, true, false, List, [], ◌∷◌, ◌++◌, length, map, take, slice_get, Option, Some, None, Result, Ok, Err, ap, inl, inr, refl, subst, sym, arith}
+use Rattle.std.proofs.Common.{◌≡◌, ◌∙◌, ℕ, zero, suc, ◌+◌, ◌-◌, ◌*◌, if◌then◌else◌, Bool, true, false, List, [], ◌∷◌, ◌++◌, length, map, take, slice_get, Option, Some, None, Result, Ok, Err, ap, refl, sym, arith}
 use Rattle.std.proofs.Math.Path.{fun_ext}
 use Rattle.std.proofs.Math.Seq.{get_or-append_seam, take-append_seam}
 use Rattle.std.proofs.lemmas.List.{length-append, map-append}
@@ -8,32 +8,24 @@ use Rattle.vm_memory_device.specs.Chain.{chain_fault}
 use Rattle.vm_memory_device.specs.declared.chain.Segment.{Segment}
 use Rattle.vm_memory_guest.specs.Host.{Host}
 use Rattle.vm_memory_guest.specs.Memory.{Memory}
-use Rattle.virtio_queue.specs.Again.{chain_of_copies, segments_of}
+use Rattle.virtio_queue.specs.Again.{segments_of}
 use Rattle.virtio_queue.specs.Available.{if_chain}
-use Rattle.virtio_queue.specs.Looks.{Follows, Given, Step, Tree, and_takes, answer, gives, if_ok, if_ready, keeps, takes, found_in, row, word}
+use Rattle.virtio_queue.specs.Looks.{Tree, and_takes, answer, gives, if_ok, if_ready, keeps, takes, found_in, row, word}
 use Rattle.virtio_queue.specs.Packed.{slot_after, slots_out}
-use Rattle.virtio_queue.specs.PackedCopies.{copies_after, copies_found, copies_known, copying}
-use Rattle.virtio_queue.specs.PackedLaws.{buffer_of_copies, chain_of_found, popping_copies}
+use Rattle.virtio_queue.specs.PackedCopies.{copies_after, copies_found, copies_known}
+use Rattle.virtio_queue.specs.PackedLaws.{bare_tree, buffer_of_copies, chain_of_found, popping_copies}
 use Rattle.virtio_queue.specs.PackedPopping.{Taken, chain_after, chain_known, chain_made, chain_taken, last_after, listing, popping, with_known}
 use Rattle.virtio_queue.specs.PackedRing.{is_available, is_last, packed_of, segment_of}
 use Rattle.virtio_queue.specs.Rings.{and_then}
 use Rattle.virtio_queue.specs.declared.error.QueueError.{QueueError}
-use Rattle.virtio_queue.specs.declared.error.QueueError.TheVariants as errors
 use Rattle.virtio_queue.specs.declared.packed.descriptor.PackedDescriptor.{PackedDescriptor}
 use Rattle.virtio_queue.specs.declared.packed.state.PackedBuffer.{PackedBuffer}
 use Rattle.virtio_queue.specs.declared.packed.state.PackedState.{PackedState}
-use Rattle.virtio_queue.proofs.LookLemmas.{then_fails, then_follows}
 use Rattle.virtio_queue.proofs.StillLemmas.{same_then}
 
 -- ---- trees
 
--- the same steps, with nothing to keep
-abbrev bare : {T : Type 0} → Tree T → Tree T
-bare (gives r) = gives r
-bare (takes s k) = takes s (λ v. bare (k v))
-bare (keeps t) = bare t
-
-bare_then : {S T : Type 0} (t : Tree S) (f : S → Tree T) → bare (and_takes t f) ≡ and_takes (bare t) (λ x. bare (f x))
+bare_then : {S T : Type 0} (t : Tree S) (f : S → Tree T) → bare_tree (and_takes t f) ≡ and_takes (bare_tree t) (λ x. bare_tree (f x))
 bare_then (gives (Ok x)) f = refl
 bare_then (gives (Err e)) f = refl
 bare_then (takes s k) f = ap (takes s) (fun_ext (λ v. bare_then (k v) f))
@@ -46,30 +38,10 @@ then_twice (gives (Err e)) f g = refl
 then_twice (takes s k) f g = ap (takes s) (fun_ext (λ v. then_twice (k v) f g))
 then_twice (keeps t) f g = ap keeps (then_twice t f g)
 
--- what follows it follows the other, if no allocation failed
-bare_follows : {M T : Type 0} (look : M → (s : Step) → Result (Given s) QueueError → M → Type 0) (t : Tree T)
-    (old new : M) (result : Result T QueueError) → (result ≡ Err errors.Memory → ⊥)
-    → Follows look t old result new → Follows look (bare t) old result new
-bare_follows look (gives r) old new result well h = h
-bare_follows look (takes s k) old new result well (Ok v, mid, looked, rest) =
-    (Ok v, mid, looked, bare_follows look (k v) mid new result well rest)
-bare_follows look (takes s k) old new result well (Err e, mid, looked, rest) = (Err e, mid, looked, rest)
-bare_follows look (keeps t) old new result well (inl h) = bare_follows look t old new result well h
-bare_follows look (keeps t) old new result well (inr h) = absurd (well h.0)
-
-follows_bare : {M T : Type 0} (look : M → (s : Step) → Result (Given s) QueueError → M → Type 0) (t : Tree T)
-    (old new : M) (result : Result T QueueError) → Follows look (bare t) old result new
-    → Follows look t old result new
-follows_bare look (gives r) old new result h = h
-follows_bare look (takes s k) old new result (Ok v, mid, looked, rest) =
-    (Ok v, mid, looked, follows_bare look (k v) mid new result rest)
-follows_bare look (takes s k) old new result (Err e, mid, looked, rest) = (Err e, mid, looked, rest)
-follows_bare look (keeps t) old new result h = inl (follows_bare look t old new result h)
-
 module _ {B : Type 0} (m : Memory) (host : Host B) where
-  answer_bare : {T : Type 0} (t : Tree T) → answer m host (bare t) ≡ answer m host t
+  answer_bare : {T : Type 0} (t : Tree T) → answer m host (bare_tree t) ≡ answer m host t
   answer_bare (gives r) = refl
-  answer_bare (takes s k) = same_then m host (found_in m host s) (λ v. answer m host (bare (k v)))
+  answer_bare (takes s k) = same_then m host (found_in m host s) (λ v. answer m host (bare_tree (k v)))
       (λ v. answer m host (k v)) (λ v. answer_bare (k v))
   answer_bare (keeps t) = answer_bare t
 
@@ -126,19 +98,19 @@ module _ (q : PackedState) (ready : q.ready ≡ true) where
     buffer_is : buffer_of_copies (ds ++ d ∷ []) ≡ record { id = d.id; slots = length ds + 1 }
     buffer_is = rw (last_is ds d, length-append ds (d ∷ [])) refl
 
-    copied_chain : bare (chain_of_found q (Some (ds ++ d ∷ []))) ≡ bare (and_takes (chain_taken whole) some)
+    copied_chain : bare_tree (chain_of_found q (Some (ds ++ d ∷ []))) ≡ bare_tree (and_takes (chain_taken whole) some)
     copied_chain = rw ready (
-        ap (λ t. bare (made_of t (buffer_of_copies (ds ++ d ∷ [])))) segments_are
-        ∙ ap (λ b. bare (made_of (last_after (map segment_of ds) d) b)) buffer_is
-        ∙ ap bare (checks whole (last_after (map segment_of ds) d)))
+        ap (λ t. bare_tree (made_of t (buffer_of_copies (ds ++ d ∷ [])))) segments_are
+        ∙ ap (λ b. bare_tree (made_of (last_after (map segment_of ds) d) b)) buffer_is
+        ∙ ap bare_tree (checks whole (last_after (map segment_of ds) d)))
 
   -- ---- slot by slot
 
   abbrev from_copies : Tree (List PackedDescriptor) → Tree (Option (PackedBuffer × List Segment))
-  from_copies t = and_takes (bare t) (λ ds. bare (chain_of_found q (Some ds)))
+  from_copies t = and_takes (bare_tree t) (λ ds. bare_tree (chain_of_found q (Some ds)))
 
   abbrev from_taken : Tree Taken → Tree (Option (PackedBuffer × List Segment))
-  from_taken t = and_takes (bare t) (λ t. bare (and_takes (chain_taken t) some))
+  from_taken t = and_takes (bare_tree t) (λ t. bare_tree (and_takes (chain_taken t) some))
 
   module _ (ring size : ℕ) where
     abbrev Same : ℕ → List PackedDescriptor → ℕ → Option ℕ → Type 0
@@ -172,57 +144,35 @@ module _ (q : PackedState) (ready : q.ready ≡ true) where
 
   -- the next slot is available or not
   by_available : (flags : ℕ) (available : Bool)
-      → bare (and_takes (if available then and_takes (copies_known q flags) found else gives (Ok None))
+      → bare_tree (and_takes (if available then and_takes (copies_known q flags) found else gives (Ok None))
       (chain_of_found q))
-      ≡ bare (if available then and_takes (chain_known q flags) some else gives (Ok None))
+      ≡ bare_tree (if available then and_takes (chain_known q flags) some else gives (Ok None))
   by_available flags true =
-      ap bare (then_twice (copies_known q flags) found (chain_of_found q))
+      ap bare_tree (then_twice (copies_known q flags) found (chain_of_found q))
       ∙ bare_then (copies_known q flags) (λ ds. chain_of_found q (Some ds))
       ∙ same_slots q.desc_ring q.size (q.size - slots_out q.size q.next_avail q.next_used) [] q.next_avail.slot
       (Some flags)
       ∙ sym (bare_then (listing q.desc_ring q.size (q.size - slots_out q.size q.next_avail q.next_used) [] 0
       q.next_avail.slot (Some flags)) (λ t. and_takes (chain_taken t) some))
-      ∙ ap bare (sym (then_twice (listing q.desc_ring q.size (q.size - slots_out q.size q.next_avail q.next_used) [] 0
+      ∙ ap bare_tree (sym (then_twice (listing q.desc_ring q.size (q.size - slots_out q.size q.next_avail q.next_used) [] 0
       q.next_avail.slot (Some flags)) chain_taken some))
   by_available flags false = refl
 
   same_ready : takes (word q.desc_ring (16 * q.next_avail.slot + 14))
-      (λ flags. bare (and_takes (copies_found q flags) (chain_of_found q)))
-      ≡ takes (word q.desc_ring (16 * q.next_avail.slot + 14)) (λ flags. bare (chain_after q flags))
+      (λ flags. bare_tree (and_takes (copies_found q flags) (chain_of_found q)))
+      ≡ takes (word q.desc_ring (16 * q.next_avail.slot + 14)) (λ flags. bare_tree (chain_after q flags))
   same_ready = ap (takes (word q.desc_ring (16 * q.next_avail.slot + 14)))
       (fun_ext (λ flags. by_available flags (is_available flags q.next_avail.wrap)))
 
 by_ready : (q : PackedState) (ready : Bool) → q.ready ≡ ready
-    → bare (and_takes (if_ready ready (takes (word q.desc_ring (16 * q.next_avail.slot + 14)) (copies_found q)))
+    → bare_tree (and_takes (if_ready ready (takes (word q.desc_ring (16 * q.next_avail.slot + 14)) (copies_found q)))
     (chain_of_found q))
-    ≡ bare (if_ready ready (takes (word q.desc_ring (16 * q.next_avail.slot + 14)) (chain_after q)))
+    ≡ bare_tree (if_ready ready (takes (word q.desc_ring (16 * q.next_avail.slot + 14)) (chain_after q)))
 by_ready q true is = same_ready q is
 by_ready q false is = refl
 
-same_trees : (q : PackedState) → bare (popping_copies q) ≡ bare (popping q)
+pub same_trees : (q : PackedState) → bare_tree (popping_copies q) ≡ bare_tree (popping q)
 same_trees q = by_ready q q.ready refl
-
-module _ {M : Type 0} (look : M → (s : Step) → Result (Given s) QueueError → M → Type 0) (q : PackedState) where
-  pub copies_pop : (old new : M) (result : Result (Option (PackedBuffer × List Segment)) QueueError)
-      → (result ≡ Err errors.Memory → ⊥) → Follows look (popping_copies q) old result new
-      → Follows look (popping q) old result new
-  copies_pop old new result well h = follows_bare look (popping q) old new result
-      (subst (λ t. Follows look t old result new) (same_trees q)
-      (bare_follows look (popping_copies q) old new result well h))
-
-  pub copies_pop_by_one : (old mid new : M) (ds : List PackedDescriptor) (result : Result (List Segment) QueueError)
-      → (result ≡ Err errors.Memory → ⊥) → Follows look (copying q) old (Ok (Some ds)) mid
-      → Follows look (chain_of_copies q ds) mid result new
-      → Follows look (popping q) old (and_then result (λ ss. Ok (Some (buffer_of_copies ds, ss)))) new
-  copies_pop_by_one old mid new ds (Ok ss) well first rest = copies_pop old new (Ok (Some (buffer_of_copies ds, ss)))
-      (λ bad. absurd (cc))
-      (then_follows look (copying q) (chain_of_found q) old mid new (Some ds) (Ok (Some (buffer_of_copies ds, ss)))
-      first (then_follows look (chain_of_copies q ds) (λ ss. gives (Ok (Some (buffer_of_copies ds, ss)))) mid new new ss
-      (Ok (Some (buffer_of_copies ds, ss))) rest (refl, refl)))
-  copies_pop_by_one old mid new ds (Err e) well first rest = copies_pop old new (Err e)
-      (λ bad. well (let same : e ≡ errors.Memory = cc in ap Err same))
-      (then_follows look (copying q) (chain_of_found q) old mid new (Some ds) (Err e) first
-      (then_fails look (chain_of_copies q ds) (λ ss. gives (Ok (Some (buffer_of_copies ds, ss)))) mid new e rest))
 
 pub copies_pop_still : {B : Type 0} (m : Memory) (host : Host B) (q : PackedState)
     → answer m host (popping_copies q) ≡ answer m host (popping q)

@@ -3,7 +3,7 @@ use Rattle.std.specs.Prelude.{◌≡◌, ℕ, ◌-◌, ◌^◌, false, List, [],
 use Rattle.vm_memory_device.specs.declared.chain.Segment.{Segment}
 use Rattle.virtio_queue.specs.Again.{chain_of_copies}
 use Rattle.virtio_queue.specs.Descriptor.{has_flag}
-use Rattle.virtio_queue.specs.Looks.{Tree, and_takes, gives}
+use Rattle.virtio_queue.specs.Looks.{Tree, and_takes, gives, keeps, takes}
 use Rattle.virtio_queue.specs.Packed.{slot_after}
 use Rattle.virtio_queue.specs.PackedCopies.{copying}
 use Rattle.virtio_queue.specs.PackedHistory.{Cell}
@@ -40,3 +40,9 @@ chain_of_found q (Some ds) =
 
 abbrev pub popping_copies : PackedState → Tree (Option (PackedBuffer × List Segment))
 popping_copies q = and_takes (copying q) (chain_of_found q)
+
+-- the same looks, where no allocation may fail
+abbrev pub bare_tree : {T : Type 0} → Tree T → Tree T
+bare_tree (gives r) = gives r
+bare_tree (takes s k) = takes s (λ v. bare_tree (k v))
+bare_tree (keeps t) = bare_tree t

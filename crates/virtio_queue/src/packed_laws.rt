@@ -1,32 +1,28 @@
 //! What becomes of the chains of a packed queue: each function here is a theorem, and does nothing.
 ghost use Rattle.std.specs.Prelude.{◌≡◌, ℕ, ◌<◌, ◌≤◌, ◌^◌, true, false, List, length, take, slice_get, IsTrue, Option};
-ghost use Rattle.std.specs.Prelude.{Some, None, Result, Ok, Err};
+ghost use Rattle.std.specs.Prelude.{Some, None, Result, Ok};
 ghost use Rattle.vm_memory_device.specs.declared.chain.Segment.{Segment};
 ghost use Rattle.vm_memory_guest.specs.Host.{Host};
 ghost use Rattle.vm_memory_guest.specs.Memory.{Memory};
-ghost use Rattle.virtio_queue.specs.Again.{chain_of_copies};
-ghost use Rattle.virtio_queue.specs.Looks.{Follows, answer};
+ghost use Rattle.virtio_queue.specs.Looks.{answer};
 ghost use Rattle.virtio_queue.specs.Packed.{PackedVirtqueue, are_positions, at_base, base_of, moved, of_bits, to_bits};
 ghost use Rattle.virtio_queue.specs.Packed.{with_positions};
-ghost use Rattle.virtio_queue.specs.PackedCopies.{copying};
 ghost use Rattle.virtio_queue.specs.PackedEvents.{is_passed};
 ghost use Rattle.virtio_queue.specs.PackedHistory.{Cell, Entry, Event, Pop, Return, Ring, Story, AllMay, after};
 ghost use Rattle.virtio_queue.specs.PackedHistory.{chain_to_pop, entry_to_take, first, is_available_cell, is_used_cell};
 ghost use Rattle.virtio_queue.specs.PackedHistory.{story, used_cell};
-ghost use Rattle.virtio_queue.specs.PackedLaws.{AreInSlots, Marks, buffer_of_copies, popping_copies};
+ghost use Rattle.virtio_queue.specs.PackedLaws.{AreInSlots, Marks, bare_tree, popping_copies};
 ghost use Rattle.virtio_queue.specs.PackedPopping.{popping};
 ghost use Rattle.virtio_queue.specs.PackedRing.{Listed, after_pop, buffer_of, is_available, is_last, is_used, listed};
 ghost use Rattle.virtio_queue.specs.PackedRing.{next_chain, next_flags, next_listed, popped};
 ghost use Rattle.virtio_queue.specs.PackedUsed.{after_used, used_flags};
 ghost use Rattle.virtio_queue.specs.Rings.{and_then};
 ghost use Rattle.virtio_queue.specs.declared.error.QueueError.{QueueError};
-ghost use Rattle.virtio_queue.specs.declared.error.QueueError.TheVariants as errors;
 ghost use Rattle.virtio_queue.specs.declared.packed.descriptor.PackedDescriptor.{PackedDescriptor};
 ghost use Rattle.virtio_queue.specs.declared.packed.position.RingPosition.{RingPosition};
 ghost use Rattle.virtio_queue.specs.declared.packed.state.PackedBuffer.{PackedBuffer};
 ghost use Rattle.virtio_queue.specs.declared.packed.state.PackedState.{PackedState};
 
-use crate::looks::Looks;
 use vm_memory_base::Bitmap;
 
 /// A chain is what lies in slots that follow one another, across the end of the ring: descriptors that another follows,
@@ -41,17 +37,11 @@ pub fn packed_chains_lie_slot_by_slot()
         → length l.front < most → listed descriptor size most i ≡ Ok l }
 {}
 
-/// A chain that is made of copies of its descriptors is the one that a pop takes, whatever a driver writes meanwhile.
-/// Both take the same looks in the same order, and make the same of what these find. Only where an allocation may fail
+/// A chain that is made of copies of its descriptors is the one that a pop takes, whatever a driver writes meanwhile:
+/// both take the same looks in the same order, and make the same of what these find. Only where an allocation may fail
 /// differs.
-pub fn packed_chains_are_made_of_their_copies<L: Looks, B: Bitmap>()
-    ensures looks { (q : PackedState) (old new : L) (result : Result (Option (PackedBuffer × List Segment)) QueueError)
-        → (result ≡ Err errors.Memory → ⊥) → Follows L.looks (popping_copies q) old result new
-        → Follows L.looks (popping q) old result new }
-    ensures chain { (q : PackedState) (old mid new : L) (ds : List PackedDescriptor)
-        (result : Result (List Segment) QueueError) → (result ≡ Err errors.Memory → ⊥)
-        → Follows L.looks (copying q) old (Ok (Some ds)) mid → Follows L.looks (chain_of_copies q ds) mid result new
-        → Follows L.looks (popping q) old (and_then result (λ ss. Ok (Some (buffer_of_copies ds, ss)))) new }
+pub fn packed_chains_are_made_of_their_copies<B: Bitmap>()
+    ensures looks { (q : PackedState) → bare_tree (popping_copies q) ≡ bare_tree (popping q) }
     ensures still { (m : Memory) (host : Host B) (q : PackedState)
         → answer m host (popping_copies q) ≡ answer m host (popping q) }
 {}
