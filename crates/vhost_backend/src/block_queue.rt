@@ -10,6 +10,7 @@ ghost use Rattle.vhost_backend.specs.RingMemory.{needs};
 
 mod behind;
 mod change;
+mod copies;
 mod flight;
 mod limits;
 mod marks;

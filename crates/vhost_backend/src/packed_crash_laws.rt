@@ -1,5 +1,5 @@
-//! What a packed ring stores of its requests in flight is what the theorem on crashes speaks of: each function here is a
-//! theorem, and does nothing.
+//! What a packed ring stores of its requests in flight is what the theorem on crashes speaks of: each function here is
+//! a theorem, and does nothing.
 ghost use Rattle.std.specs.Prelude.{◌≡◌, ◌^◌, ◌<◌, ◌≤◌, ℕ, List, None, Ok, Option, Some, length, true};
 ghost use Rattle.virtio_blk.specs.declared.request.DeviceLimits.{DeviceLimits};
 ghost use Rattle.virtio_queue.specs.Packed.{PackedVirtqueue};
@@ -25,9 +25,9 @@ use crate::ring_memory::RingMemory;
 use vhost_inflight::packed_laws::{every_crash_leaves_what_was_popped, one_list_is_served_again};
 
 /// A packed ring whose requests in flight are stored in a region stores there at each pop the descriptors that its look
-/// found, as the theorem has a pop of these, and at each return what the theorem has a return of the chain's entry store,
-/// in that order, and keeps what it has them keep. What was in flight when it was started is popped again, and nothing is
-/// stored for that.
+/// found, as the theorem has a pop of these, and at each return what the theorem has a return of the chain's entry
+/// store, in that order, and keeps what it has them keep. What was in flight when it was started is popped again, and
+/// nothing is stored for that.
 pub fn packed_calls_store_what_the_theorem_has<H, D: RingMemory<H>>()
     ensures pops { (mem : D) (way : Option Sight) (terms : DeviceLimits) (q new_q : BlockQueueState) (old new : H)
         (chain : Chain) (parts bytes : ℕ) (p : FlightPlace) (k : PackedFlightState)
@@ -48,12 +48,12 @@ pub fn packed_calls_store_what_the_theorem_has<H, D: RingMemory<H>>()
         new_q new }
 {}
 
-/// A back end of a packed ring is cut off after any of its stores, and another one takes its place, time and again, while
-/// the driver goes on in slots that were used. If the ring's part of the region and the flags of the slot that it names are
-/// what that left, its start goes through, or finds no memory and is tried again. It stores what the theorem has a start
-/// store, and then pops again the chains that the guest sees as popped and not returned, each of them with its
-/// descriptors, in the order of their pops, and none else. It pops its next chain after all that were popped. Where the
-/// front end lets the ring begin counts for a fresh region alone.
+/// A back end of a packed ring is cut off after any of its stores, and another one takes its place, time and again,
+/// while the driver goes on in slots that were used. If the ring's part of the region and the flags of the slot that it
+/// names are what that left, its start goes through, or finds no memory and is tried again. It stores what the theorem
+/// has a start store, and then pops again the chains that the guest sees as popped and not returned, each of them with
+/// its descriptors, in the order of their pops, and none else. It pops its next chain after all that were popped. Where
+/// the front end lets the ring begin counts for a fresh region alone.
 pub fn packed_rings_go_on_after_every_crash<H, D: RingMemory<H>>()
     ensures { (mem : D) (q new_q : BlockQueueState) (old new : H) (a : Option RingEvent) (p : FlightPlace)
         (u : PackedVirtqueue) (bytes : List ℕ) (flags began : ℕ) (r : PackedRegion) (ring : ℕ → ℕ) (events : List Event)

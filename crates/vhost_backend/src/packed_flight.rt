@@ -340,7 +340,8 @@ impl PackedFlight {
         id: u16,
     )
         requires { D.held mem.now host.old }
-        ensures stores { StoresPop (D.steps mem.now) place self.old.kept (map copy_by self.old.found) host.old host.new }
+        ensures stores { StoresPop (D.steps mem.now) place self.old.kept (map copy_by self.old.found) host.old
+            host.new }
         ensures popped { self.new ≡ popped_found id self.old }
         ensures held { D.held mem.now host.new }
     {

@@ -9,8 +9,8 @@ ghost use Rattle.vhost_iotlb.specs.Kept.{IsReal};
 ghost use Rattle.vhost_backend.specs.RingMarks.{marked_through, range_marked};
 ghost use Rattle.vhost_backend.specs.RingMemory.{ByLooks, ChangesTable, HoldsAll, Logs, MemoryStep, Returned};
 ghost use Rattle.vhost_backend.specs.RingMemory.{adds_used, begins, enables, finds_copies, finishes, forgets, keeps};
-ghost use Rattle.vhost_backend.specs.RingMemory.{marks};
-ghost use Rattle.vhost_backend.specs.RingMemory.{marks_ring, needs, pops, pops_again, reads_flags, reads_region, reads_used};
+ghost use Rattle.vhost_backend.specs.RingMemory.{marks, reads_used};
+ghost use Rattle.vhost_backend.specs.RingMemory.{marks_ring, needs, pops, pops_again, reads_flags, reads_region};
 ghost use Rattle.vhost_backend.specs.RingMemory.{tracks};
 
 use crate::page_list::PageList;
