@@ -179,6 +179,7 @@ fn lengths(request: u64) -> Option<(u64, u64)> {
         9 => Some((40, 40)),
         22 => Some((32, 32)),
         24 | 25 => Some((12, 268)),
+        31 | 32 => Some((20, 24)),
         _ => None,
     }
 }
