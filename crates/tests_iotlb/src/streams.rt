@@ -363,7 +363,7 @@ fn expect_counts(alloc: Global, seed: u64, wanted: Counts) -> Result<(), Fail> {
 fn changed_streams(rt: HostRuntime) -> Result<(), Fail> {
     // One of these messages is an INVALIDATE (0, 0).
     let counts = [
-        137398, 21017, 1154, 2434, 1660, 298, 4, 730, 3667, 0, 87, 2441,
+        137398, 21017, 1154, 2435, 1660, 298, 4, 730, 3667, 0, 87, 2440,
     ];
     expect_counts(rt.alloc(), 1, counts)
 }
@@ -371,7 +371,7 @@ fn changed_streams(rt: HostRuntime) -> Result<(), Fail> {
 #[test]
 fn more_changed_streams(rt: HostRuntime) -> Result<(), Fail> {
     let counts = [
-        136719, 20901, 1185, 2515, 1609, 270, 6, 777, 3498, 0, 102, 2497,
+        136719, 20901, 1185, 2516, 1609, 270, 6, 777, 3498, 0, 102, 2496,
     ];
     expect_counts(rt.alloc(), 2, counts)
 }
@@ -379,7 +379,7 @@ fn more_changed_streams(rt: HostRuntime) -> Result<(), Fail> {
 #[test]
 fn again_more_changed_streams(rt: HostRuntime) -> Result<(), Fail> {
     let counts = [
-        136505, 20883, 1135, 2486, 1671, 304, 2, 739, 3615, 0, 100, 2516,
+        136505, 20883, 1135, 2490, 1671, 304, 2, 739, 3615, 0, 100, 2512,
     ];
     expect_counts(rt.alloc(), 3, counts)
 }
