@@ -1,6 +1,6 @@
 //! What a connection served.
 
-use crate::back_end::{Part, Way};
+use crate::back_end::Way;
 use std::fmt;
 
 /// What was served.
@@ -40,10 +40,10 @@ impl Stats {
 
     // Counts a part.
     #[inline]
-    pub(crate) fn part(&mut self, part: &Part<'_>, is_served: bool) {
-        match part.way {
-            Way::Read if is_served => self.bytes_read += part.len,
-            Way::Write if is_served => self.bytes_written += part.len,
+    pub(crate) fn part(&mut self, way: Way, len: u64, is_served: bool) {
+        match way {
+            Way::Read if is_served => self.bytes_read += len,
+            Way::Write if is_served => self.bytes_written += len,
             Way::Flush => self.syncs += 1,
             _ => (),
         }
