@@ -1,27 +1,42 @@
 //! A front end that is served, by events of its descriptors.
 
-use crate::system::{Epoll, EDGE, LEVEL};
+use crate::engine::Engine;
+use crate::system::{self, Epoll, EDGE, LEVEL};
 use crate::{say, Program};
+use std::cell::RefMut;
 use std::convert::Infallible;
 use std::error::Error;
 use std::io;
+use std::mem;
 use std::os::fd::{AsFd, BorrowedFd};
 use std::os::unix::net::UnixStream;
-use std::time::Instant;
+use std::time::{Duration, Instant};
 use vm_memory_proved::back_end::{BackEnd, Part, TableCounts, Way};
 use vm_memory_proved::block_device::{names_of_features, BlockDevice};
-use vm_memory_proved::connection::{Connection, Device, Ended, Event};
+use vm_memory_proved::connection::{Begun, Connection, Device, Ended, Event, Ticket};
 use vm_memory_proved::Pieces;
 
-/// The numbers of descriptors: of signals, and of the socket. The back end's own channel and the rings come after them.
+/// The numbers of descriptors: of signals, and of the socket. The back end's own channel and the rings come after them,
+/// and the disk last.
 pub const SIGNALS: u64 = 0;
 pub const SOCKET: u64 = 1;
 const CHANNEL: u64 = 2;
 const RINGS: u64 = 3;
+const DISK: u64 = u64::MAX;
+
+// So often at most what ended meanwhile is told before events are looked for again.
+const ROUNDS: u32 = 8;
+
+// How long what the system could not take waits.
+const PAUSE: Duration = Duration::from_millis(1);
 
 struct Served<'a> {
     program: &'a Program,
     epoll: Epoll,
+    // What has many requests under way at once, if that is wanted.
+    engine: RefMut<'a, Option<Engine>>,
+    // The system could not take all.
+    has_left: bool,
     // What was said last of the features.
     features: [String; 2],
 }
@@ -37,6 +52,13 @@ impl Device for Served<'_> {
                 pieces.fill(&disk.name);
                 Ok(())
             }
+        }
+    }
+
+    fn begin(&mut self, part: &Part<'_>, pieces: Pieces<'_>, ticket: Ticket) -> Begun {
+        match self.engine.as_mut() {
+            Some(engine) if part.way != Way::Name => engine.begin(part, pieces, ticket),
+            _ => Begun::Ended(ticket, self.serve(part, pieces)),
         }
     }
 
@@ -70,28 +92,51 @@ impl Device for Served<'_> {
 /// Serves a front end until its connection ends. An error says what it lacked from the beginning.
 pub fn serve(program: &Program, socket: UnixStream) -> Result<Ended, Box<dyn Error>> {
     let options = &program.options;
-    let disk = BlockDevice {
+    let epoll = Epoll::new()?;
+    epoll.watch(program.signals.as_fd(), SIGNALS, LEVEL)?;
+    let engine = program.engine.borrow_mut();
+    if let Some(engine) = engine.as_ref() {
+        epoll.watch(engine.descriptor(), DISK, LEVEL)?;
+    }
+    let features = Default::default();
+    let mut served = Served {
+        program,
+        epoll,
+        engine,
+        has_left: false,
+        features,
+    };
+    let (rings, watchdog) = (options.queues, &program.watchdog);
+    let back_end = disk_of(program).open()?;
+    let mut connection = Connection::new(socket, back_end, rings, watchdog, &mut served)?;
+    if served.engine.is_some() {
+        connection.serve_at_once(options.any_order);
+    }
+    let ended = served.turns(&mut connection).expect_err("turns end by an error");
+    let left = served.drain(&mut connection, matches!(ended, Ended::HungUp));
+    if options.stats.is_some() {
+        say_stats(program, &connection);
+    }
+    match left {
+        0 => Ok(ended),
+        left => {
+            // The system may use them until the process is gone.
+            mem::forget((connection, served.engine.take()));
+            program.left.set(left);
+            Ok(Ended::failed("the disk")(program.expect_nothing_left().unwrap_err()))
+        }
+    }
+}
+
+fn disk_of(program: &Program) -> BlockDevice {
+    let options = &program.options;
+    BlockDevice {
         sectors: program.disk.sectors.get(),
         queues: options.queues,
         read_only: options.read_only,
         write_through: options.write_through,
         iotlb_limit: options.iotlb_limit,
-    };
-    let epoll = Epoll::new()?;
-    epoll.watch(program.signals.as_fd(), SIGNALS, LEVEL)?;
-    let features = Default::default();
-    let mut served = Served {
-        program,
-        epoll,
-        features,
-    };
-    let (rings, watchdog) = (options.queues, &program.watchdog);
-    let mut connection = Connection::new(socket, disk.open()?, rings, watchdog, &mut served)?;
-    let ended = served.turns(&mut connection).expect_err("turns end by an error");
-    if options.stats.is_some() {
-        say_stats(program, &connection);
     }
-    Ok(ended)
 }
 
 impl Served<'_> {
@@ -101,22 +146,117 @@ impl Served<'_> {
         let mut due = next();
         loop {
             let left = due.map(|time| time.saturating_duration_since(Instant::now()));
-            let time = left.into_iter().chain(connection.time_to_wait()).min();
+            let time = left
+                .into_iter()
+                .chain(connection.time_to_wait())
+                .chain(self.pause())
+                .min();
             self.epoll.wait(time, &mut ready).map_err(Ended::failed("waiting"))?;
             for &number in &ready {
                 match number {
                     SIGNALS => take_signals(program, connection)?,
                     SOCKET => connection.take(Event::Socket, self)?,
                     CHANNEL => connection.take(Event::Channel, self)?,
+                    // What ended is told in any case.
+                    DISK => (),
                     number => connection.take(Event::Kick((number - RINGS) as u32), self)?,
                 }
             }
-            connection.run(self)?;
+            self.work(connection)?;
             if due.is_some_and(|time| time <= Instant::now()) {
                 say_stats(program, connection);
                 due = next();
             }
         }
+    }
+}
+
+impl Served<'_> {
+    // Tells what ended, does what follows, and has the system begin what it is asked for.
+    fn work(&mut self, connection: &mut Connection<'_>) -> Result<(), Ended> {
+        self.take_ends(connection);
+        for _ in 0..ROUNDS {
+            connection.run(self)?;
+            if let Some(engine) = self.engine.as_mut() {
+                self.has_left = !engine.submit().map_err(Ended::failed("the disk"))?;
+            }
+            // Some end at once.
+            if !self.take_ends(connection) && !self.goes_on() {
+                break;
+            }
+        }
+        Ok(())
+    }
+
+    fn goes_on(&self) -> bool {
+        self.engine.as_ref().is_some_and(Engine::goes_on)
+    }
+
+    fn take_ends(&mut self, connection: &mut Connection<'_>) -> bool {
+        let mut has_some = false;
+        while let Some((ticket, done)) = self.engine.as_mut().and_then(Engine::next_end) {
+            connection.ended(ticket, done);
+            has_some = true;
+        }
+        has_some
+    }
+
+    // Waits until nothing is under way, and returns how much is, if the program is to end and that takes too long. If
+    // the connection is well, requests that end by that are returned.
+    fn drain(&mut self, connection: &mut Connection<'_>, mut is_well: bool) -> usize {
+        let Some(engine) = self.engine.as_mut() else {
+            return 0;
+        };
+        engine.stop();
+        connection.pop_no_more();
+        let (program, mut last) = (self.program, None);
+        is_well = is_well && self.work(connection).is_ok();
+        while self.engine.as_ref().is_some_and(Engine::is_busy) {
+            let now = Instant::now();
+            if program.is_ending.get() {
+                last = last.or(Some(now + program.options.drain));
+            }
+            if last.is_some_and(|last| last <= now) {
+                break;
+            }
+            let time = last.map(|last| last - now).into_iter().chain(self.pause()).min();
+            self.wait_for_ends(time);
+            is_well = match is_well {
+                true => self.work(connection).is_ok(),
+                false => self.drop_ends(),
+            };
+        }
+        self.engine.as_mut().map_or(0, |engine| match engine.load() {
+            0 => {
+                engine.restart();
+                0
+            }
+            load => load,
+        })
+    }
+
+    // How long the program may wait for events before it asks the system once more.
+    fn pause(&self) -> Option<Duration> {
+        match self.goes_on() {
+            true => Some(Duration::ZERO),
+            false => self.has_left.then_some(PAUSE),
+        }
+    }
+
+    // Waits for something that ended, or a signal.
+    fn wait_for_ends(&self, time: Option<Duration>) {
+        let engine = self.engine.as_ref().expect("something is under way");
+        if let Err(error) = system::wait_for([self.program.signals.as_fd(), engine.descriptor()], time) {
+            say!("the disk cannot be waited for: {error}");
+        }
+        self.program.take_signals();
+    }
+
+    fn drop_ends(&mut self) -> bool {
+        let engine = self.engine.as_mut().expect("something is under way");
+        while engine.next_end().is_some() {}
+        self.has_left = !engine.submit().unwrap_or(false);
+        false
     }
 }
 
@@ -144,7 +284,7 @@ fn say_stats(program: &Program, connection: &Connection<'_>) {
     if connection.has_log() {
         say!("log: {} pages", stats.logged);
     }
-    if program.disk.sync_failed.get() {
+    if program.disk.syncs.has_failed() {
         say!("the image: a sync failed");
     }
 }

@@ -8,6 +8,8 @@ use std::fs::{File, OpenOptions};
 use std::io::{self, ErrorKind::WouldBlock, Seek, SeekFrom};
 use std::os::unix::ffi::OsStrExt;
 use std::path::Path;
+use std::rc::Rc;
+use std::sync::Arc;
 use std::thread;
 use std::time::Duration;
 use vm_memory_proved::block::SECTOR_LEN;
@@ -20,13 +22,42 @@ const MOMENT: u32 = 10;
 const PAUSE: Duration = Duration::from_millis(50);
 
 pub struct Disk {
-    pub file: File,
+    /// What has the lock, and reads and writes.
+    pub file: Arc<File>,
     pub sectors: Cell<u64>,
     /// The file's name, cut or filled up with zeros.
     pub name: [u8; 20],
     sync: fn(&File) -> io::Result<()>,
-    /// A sync failed.
-    pub sync_failed: Cell<bool>,
+    pub syncs: Rc<Syncs>,
+}
+
+/// Whether a sync failed. Then each later flush fails: the system may have dropped what it could not write, and the
+/// next sync would succeed without it.
+#[derive(Default)]
+pub struct Syncs {
+    has_failed: Cell<bool>,
+}
+
+impl Syncs {
+    pub fn has_failed(&self) -> bool {
+        self.has_failed.get()
+    }
+
+    /// No sync failed.
+    pub fn expect_good(&self) -> io::Result<()> {
+        match self.has_failed.get() {
+            true => Err(io::Error::other("an earlier sync failed")),
+            false => Ok(()),
+        }
+    }
+
+    /// A sync ended so.
+    pub fn ended(&self, done: io::Result<()>) -> io::Result<()> {
+        done.inspect_err(|error| {
+            self.has_failed.set(true);
+            say!("the image cannot be made stable: {error}; until the program is started again, each flush fails");
+        })
+    }
 }
 
 impl Disk {
@@ -43,13 +74,12 @@ impl Disk {
         let mut name = [0; 20];
         name.iter_mut().zip(base.as_bytes()).for_each(|(to, from)| *to = *from);
         let sectors = Cell::new(sectors_of(&file)?);
-        let sync_failed = Cell::new(false);
         Ok(Disk {
-            file,
+            file: Arc::new(file),
             sectors,
             name,
             sync,
-            sync_failed,
+            syncs: Rc::default(),
         })
     }
 
@@ -66,16 +96,10 @@ impl Disk {
         false
     }
 
-    /// Makes what was written stable. If that failed once, it always fails: the system may have dropped what it could
-    /// not write, and the next sync would succeed without it.
+    /// Makes what was written stable. If that failed once, it always fails.
     pub fn flush(&self) -> io::Result<()> {
-        if self.sync_failed.get() {
-            return Err(io::Error::other("an earlier sync failed"));
-        }
-        (self.sync)(&self.file).inspect_err(|error| {
-            self.sync_failed.set(true);
-            say!("the image cannot be made stable: {error}; until the program is started again, each flush fails");
-        })
+        self.syncs.expect_good()?;
+        self.syncs.ended((self.sync)(&self.file))
     }
 }
 
@@ -126,12 +150,12 @@ mod tests {
         let file = File::open("/dev/null").unwrap();
         let disk = Disk::new(file, OsStr::new("null"), sync).unwrap();
         assert!(disk.flush().is_ok());
-        assert!(!disk.sync_failed.get());
+        assert!(!disk.syncs.has_failed());
         assert_eq!(disk.flush().unwrap_err().raw_os_error(), Some(libc::EIO));
-        assert!(disk.sync_failed.get());
+        assert!(disk.syncs.has_failed());
         for _ in 0..3 {
             assert!(disk.flush().is_err());
         }
-        assert!(disk.sync_failed.get());
+        assert!(disk.syncs.has_failed());
     }
 }

@@ -12,7 +12,8 @@ use std::time::Duration;
 
 pub const USAGE: &str = "\
 usage: vhost-user-blk --socket PATH --image FILE [--read-only] [--write-through] [--queues N] [--iommu]
-           [--iotlb-limit N] [--stats SECONDS] [--no-lock]
+           [--iotlb-limit N] [--stats SECONDS] [--no-lock] [--aio io_uring|threads|none] [--depth N] [--any-order]
+           [--drain SECONDS]
        vhost-user-blk --fd N --image FILE ..
        vhost-user-blk --print-capabilities | --version | --help
 
@@ -30,6 +31,12 @@ has then. A value may also follow a =, as in --fd=3.
   --iommu           the guest may have an IOMMU: ACCESS_PLATFORM is offered
   --iotlb-limit N   with --iommu: how many I/O ranges are kept, 8 to 65536; the default is 65536
   --stats SECONDS   prints requests, bytes and errors this often, and at the end of a connection
+  --aio WAY         how FILE is read and written: io_uring or threads serve many requests at once, and none one after
+                    another; the default is the first of these that the system allows
+  --depth N         how many requests of each queue are under way at once, 1 to 1024; the default is 128
+  --any-order       requests may always complete in any order, and not only if a front end keeps those in flight or the
+                    ring is packed: if the program is killed, a guest may lose requests
+  --drain SECONDS   how long the end waits for what is under way, 0 to 86400; the default is 10
   --no-lock         serves FILE even if another program has locked it, and does not lock it
   --print-capabilities
                     prints, as JSON, what a manager of QEMU asks of a back end
@@ -77,10 +84,24 @@ pub struct Options {
     pub iotlb_limit: Option<u32>,
     pub stats: Option<Duration>,
     pub is_locked: bool,
+    /// How the image is read and written, if it is not what the system allows.
+    pub aio: Option<Aio>,
+    pub depth: u32,
+    pub any_order: bool,
+    pub drain: Duration,
+}
+
+/// How the image is read and written.
+#[derive(Clone, Copy, Debug, PartialEq, Eq)]
+pub enum Aio {
+    Uring,
+    Threads,
+    /// One request after another.
+    None,
 }
 
 // The options, those of the same meaning by its first name, and whether they have a value.
-const NAMES: [(&str, &str, bool); 12] = [
+const NAMES: [(&str, &str, bool); 16] = [
     ("--socket", "--socket", true),
     ("--socket-path", "--socket", true),
     ("--fd", "--fd", true),
@@ -93,6 +114,10 @@ const NAMES: [(&str, &str, bool); 12] = [
     ("--iotlb-limit", "--iotlb-limit", true),
     ("--stats", "--stats", true),
     ("--no-lock", "--no-lock", false),
+    ("--aio", "--aio", true),
+    ("--depth", "--depth", true),
+    ("--any-order", "--any-order", false),
+    ("--drain", "--drain", true),
 ];
 
 impl Asked {
@@ -147,6 +172,8 @@ fn options_of(mut read: HashMap<&str, OsString>) -> Result<Options, String> {
     let number = |name, range| number(name, read.get(name), range);
     let (fd, queues) = (number("--fd", 3..=i32::MAX as u32)?, number("--queues", 1..=256)?);
     let (limit, stats) = (number("--iotlb-limit", 8..=65_536)?, number("--stats", 1..=86_400)?);
+    let (depth, drain) = (number("--depth", 1..=1024)?, number("--drain", 0..=86_400)?);
+    let aio = read.remove("--aio").map(aio_of).transpose()?;
     let source = match (read.remove("--socket"), fd) {
         (Some(path), None) => Source::Path(path.into()),
         (None, Some(number)) => Source::Descriptor(number as RawFd),
@@ -167,7 +194,23 @@ fn options_of(mut read: HashMap<&str, OsString>) -> Result<Options, String> {
         iotlb_limit: iommu.then_some(limit.unwrap_or(65_536)),
         stats: stats.map(|seconds| Duration::from_secs(seconds.into())),
         is_locked: !read.contains_key("--no-lock"),
+        aio,
+        depth: depth.unwrap_or(128),
+        any_order: read.contains_key("--any-order"),
+        drain: Duration::from_secs(drain.unwrap_or(10).into()),
     })
+}
+
+fn aio_of(word: OsString) -> Result<Aio, String> {
+    match word.to_str() {
+        Some("io_uring") => Ok(Aio::Uring),
+        Some("threads") => Ok(Aio::Threads),
+        Some("none") => Ok(Aio::None),
+        _ => Err(format!(
+            "--aio takes io_uring, threads or none, not {}",
+            word.to_string_lossy()
+        )),
+    }
 }
 
 fn number(word: &str, value: Option<&OsString>, range: RangeInclusive<u32>) -> Result<Option<u32>, String> {
@@ -212,15 +255,22 @@ mod tests {
             iotlb_limit: None,
             stats: None,
             is_locked: true,
+            aio: None,
+            depth: 128,
+            any_order: false,
+            drain: Duration::from_secs(10),
         };
         assert_eq!(options(&asked), usual);
-        let more = "--read-only --queues 256 --stats 5 --iommu --iotlb-limit 8";
+        let more = "--read-only --queues 256 --stats 5 --iommu --iotlb-limit 8 --depth 1024 --any-order --drain 0";
         let more: Vec<_> = more.split(' ').collect();
         let wanted = Options {
             read_only: true,
             queues: 256,
             stats: Some(Duration::from_secs(5)),
             iotlb_limit: Some(8),
+            depth: 1024,
+            any_order: true,
+            drain: Duration::ZERO,
             ..usual
         };
         assert_eq!(options(&[&asked[..], &more].concat()), wanted);
@@ -237,12 +287,16 @@ mod tests {
     // QEMU's names, and values after a =, of which the first one counts.
     #[test]
     fn words_are_those_of_back_ends() {
+        let asked = ["--socket", "s", "--image", "i"];
         let it = options(&["--socket-path=a=b", "--blk-file=/i", "--read-only", "--no-lock"]);
         assert_eq!((it.source, it.image), (Source::Path("a=b".into()), "/i".into()));
         assert!(it.read_only && !it.is_locked && it.iotlb_limit.is_none());
         let it = options(&["--fd=3", "--image", "--x=y", "--queues=2", "--write-through", "--iommu"]);
         assert_eq!((it.source, it.image), (Source::Descriptor(3), "--x=y".into()));
         assert_eq!((it.queues, it.write_through, it.iotlb_limit), (2, true, Some(65_536)));
+        for (word, wanted) in [("io_uring", Aio::Uring), ("threads", Aio::Threads), ("none", Aio::None)] {
+            assert_eq!(options(&[&asked[..], &["--aio", word]].concat()).aio, Some(wanted));
+        }
         let it = options(&["--fd", "2147483647", "--blk-file", "i"]);
         assert_eq!(it.source, Source::Descriptor(i32::MAX));
         // Words that are no options do not matter then.
@@ -274,6 +328,10 @@ mod tests {
                 &["--socket", "s", "--image", "i", "--iotlb-limit", "8"],
                 "--iotlb-limit needs --iommu",
             ),
+            (&["--depth", "0"], "--depth takes a number from 1 to 1024, not 0"),
+            (&["--depth=1025"], "--depth takes a number from 1 to 1024, not 1025"),
+            (&["--drain", "-1"], "--drain takes a number from 0 to 86400, not -1"),
+            (&["--aio", "uring"], "--aio takes io_uring, threads or none, not uring"),
             (&["--stats", "x"], "--stats takes a number from 1 to 86400, not x"),
             (&["--fd=2"], "--fd takes a number from 3 to 2147483647, not 2"),
             (

@@ -2,7 +2,7 @@
 
 mod front_end;
 
-use front_end::inflight::{read_of, set_up, started, Head, SIZE};
+use front_end::inflight::{read_of, set_up, started, SIZE};
 use front_end::log::{begin, taken, LOG_LEN};
 use front_end::*;
 use std::collections::BTreeMap;
@@ -16,6 +16,10 @@ use std::time::{Duration, Instant};
 
 const LEN: usize = 1 << 20;
 const UNSUPPORTED: u32 = 11;
+
+// Requests are served one after another, or many at once by threads.
+const ONE: &[&str] = &["--aio", "none"];
+const THREADS: &[&str] = &["--aio", "threads"];
 
 // Another program goes on, and nobody notifies it.
 fn go_on(front: &mut FrontEnd, program: &Program, features: u64, region: &Region, base: u16) {
@@ -63,9 +67,15 @@ fn a_region_is_made_for_a_front_end() {
 #[test]
 fn a_request_is_served_again_after_a_kill() {
     for (name, words, features) in [
-        ("inflight_killed", &[][..], USUAL),
-        ("inflight_killed_event_idx", &[], USUAL | EVENT_IDX),
-        ("inflight_killed_iommu", IOMMU, USUAL | ACCESS_PLATFORM),
+        ("inflight_killed", ONE, USUAL),
+        ("inflight_killed_event_idx", ONE, USUAL | EVENT_IDX),
+        (
+            "inflight_killed_iommu",
+            &["--iommu", "--aio", "none"],
+            USUAL | ACCESS_PLATFORM,
+        ),
+        ("inflight_killed_uring", &[], USUAL | EVENT_IDX),
+        ("inflight_killed_threads", THREADS, USUAL),
     ] {
         for base in [0, 0xffff] {
             expect_served_again(name, words, features, base);
@@ -95,21 +105,24 @@ fn expect_served_again(name: &str, words: &[&str], features: u64, base: u16) {
     let program = Program::start_again(&folder, words);
     let used = front.used_idx(0);
     go_on(&mut front, &program, features, &region, used);
-    let heads = [0; 3].map(|_| front.take_used(0).0);
+    let mut heads = [0; 3].map(|_| front.take_used(0).0);
+    let is_in_order = words.ends_with(&ONE[1..]);
+    if !is_in_order {
+        // The long one comes last.
+        assert_eq!(heads[2], 0);
+        heads.sort();
+    }
     assert_eq!(heads, [0, 1, 2]);
     program.rest();
     assert_eq!(front.used_idx(0), base.wrapping_add(4));
     assert_eq!(region.in_flight(0), []);
-    let head = Head {
-        version: 1,
-        descriptors: SIZE,
-        last_batch_head: 2,
-        used_idx: base.wrapping_add(4),
-    };
-    assert_eq!(region.head(0), head);
+    let head = region.head(0);
+    assert_eq!((head.version, head.descriptors), (1, SIZE));
+    assert_eq!(head.last_batch_head, if is_in_order { 2 } else { 0 });
+    assert_eq!(head.used_idx, base.wrapping_add(4));
 }
 
-// Each request that is published comes back once, and those that are served in their order.
+// Each request that is published comes back once, and those that are served one after another in their order.
 struct Load {
     front: FrontEnd,
     region: Region,
@@ -119,10 +132,11 @@ struct Load {
     out: BTreeMap<u16, (u64, Option<(u64, u32)>)>,
     published: u64,
     served: u64,
+    is_in_order: bool,
 }
 
 impl Load {
-    fn new(program: &Program) -> Load {
+    fn new(program: &Program, is_in_order: bool) -> Load {
         let (front, region) = started(program, USUAL, 0xfff0);
         Load {
             front,
@@ -132,6 +146,7 @@ impl Load {
             out: BTreeMap::new(),
             published: 0,
             served: 0,
+            is_in_order,
         }
     }
 
@@ -175,7 +190,8 @@ impl Load {
         let (data, status) = self.front.places(0, head as u16);
         let status = self.front.read(status, 1)[0];
         if let Some((sector, wanted)) = asked {
-            assert!(number > self.served, "{number} comes back after {}", self.served);
+            let is_next = number > self.served || !self.is_in_order;
+            assert!(is_next, "{number} comes back after {}", self.served);
             self.served = number;
             assert_eq!((status, len), (0, wanted + 1));
             assert_eq!(self.front.read(data, wanted as usize), read_of(sector, wanted as usize));
@@ -195,9 +211,19 @@ impl Load {
 
 #[test]
 fn each_request_comes_back_once_over_many_kills() {
-    let mut program = Program::start("inflight_load", LEN, &[]);
+    for (name, words) in [
+        ("inflight_load", ONE),
+        ("inflight_load_uring", &[]),
+        ("inflight_load_threads", THREADS),
+    ] {
+        kill_often(name, words);
+    }
+}
+
+fn kill_often(name: &str, words: &[&str]) {
+    let mut program = Program::start(name, LEN, words);
     let folder = program.folder.clone();
-    let mut load = Load::new(&program);
+    let mut load = Load::new(&program, words == ONE);
     let (begun, mut caught) = (Instant::now(), 0);
     while caught < 10 && begun.elapsed() < LONG {
         load.work();
@@ -208,7 +234,7 @@ fn each_request_comes_back_once_over_many_kills() {
             load.take_all();
             load.publish(more);
         }
-        program = Program::start_again(&folder, &[]);
+        program = Program::start_again(&folder, words);
         // Where the ring goes on is in the region and in the ring.
         let base = load
             .numbers
