@@ -130,6 +130,11 @@ impl Vectors {
         Vectors(vectors)
     }
 
+    /// All of them.
+    pub fn all(&self) -> &[Vector] {
+        &self.0
+    }
+
     /// Those from one on, as many as the system takes at once.
     #[inline]
     pub fn from(&self, from: usize) -> &[Vector] {

@@ -1,12 +1,15 @@
 //! The disk: a file or a block device.
 
+use crate::direct::Blocks;
+use crate::options::Options;
 use crate::say;
-use crate::system;
+use crate::system::{self, Buffers};
 use std::cell::Cell;
 use std::ffi::OsStr;
 use std::fs::{File, OpenOptions};
 use std::io::{self, ErrorKind::WouldBlock, Seek, SeekFrom};
 use std::os::unix::ffi::OsStrExt;
+use std::os::unix::fs::OpenOptionsExt;
 use std::path::Path;
 use std::rc::Rc;
 use std::sync::Arc;
@@ -25,6 +28,8 @@ pub struct Disk {
     /// What has the lock, and reads and writes.
     pub file: Arc<File>,
     pub sectors: Cell<u64>,
+    /// How what is read and written past the page cache has to lie.
+    pub blocks: Option<Blocks>,
     /// The file's name, cut or filled up with zeros.
     pub name: [u8; 20],
     sync: fn(&File) -> io::Result<()>,
@@ -62,12 +67,26 @@ impl Syncs {
 
 impl Disk {
     /// Opens the image, and locks it if that is asked for. Bytes after its last whole sector are not part of the disk.
-    pub fn open(path: &Path, read_only: bool, is_locked: bool) -> io::Result<Disk> {
-        let file = OpenOptions::new().read(true).write(!read_only).open(path)?;
-        if is_locked {
-            lock(&file, path, read_only)?;
+    pub fn open(path: &Path, options: &Options) -> io::Result<Disk> {
+        let mut how = OpenOptions::new();
+        how.read(true).write(!options.read_only);
+        if options.is_direct {
+            how.custom_flags(libc::O_DIRECT);
         }
-        Disk::new(file, path.file_name().unwrap_or_default(), File::sync_data)
+        let file = how.open(path).map_err(|error| match error.raw_os_error() {
+            Some(libc::EINVAL) if options.is_direct => no_direct(),
+            _ => error,
+        })?;
+        if options.is_locked {
+            lock(&file, path, options.read_only)?;
+        }
+        let mut disk = Disk::new(file, path.file_name().unwrap_or_default(), File::sync_data)?;
+        if options.is_direct {
+            let blocks = blocks_of(&disk.file)?;
+            expect_whole(disk.sectors.get(), blocks)?;
+            disk.blocks = Some(blocks);
+        }
+        Ok(disk)
     }
 
     fn new(file: File, base: &OsStr, sync: fn(&File) -> io::Result<()>) -> io::Result<Disk> {
@@ -77,6 +96,7 @@ impl Disk {
         Ok(Disk {
             file: Arc::new(file),
             sectors,
+            blocks: None,
             name,
             sync,
             syncs: Rc::default(),
@@ -85,13 +105,17 @@ impl Disk {
 
     /// Looks at the size of the image again, and returns whether it is another one.
     pub fn measure(&self) -> bool {
-        match sectors_of(&self.file) {
+        let sectors = sectors_of(&self.file).and_then(|sectors| match self.blocks {
+            Some(blocks) => expect_whole(sectors, blocks).map(|()| sectors),
+            None => Ok(sectors),
+        });
+        match sectors {
             Ok(sectors) if self.sectors.replace(sectors) != sectors => {
                 say!("the image has {sectors} sectors now");
                 return true;
             }
             Ok(_) => (),
-            Err(error) => say!("the size of the image is not known: {error}"),
+            Err(error) => say!("the disk keeps its size: {error}"),
         }
         false
     }
@@ -106,6 +130,39 @@ impl Disk {
 fn sectors_of(mut file: &File) -> io::Result<u64> {
     // A block device has its length here alone.
     Ok(file.seek(SeekFrom::End(0))? / SECTOR_LEN as u64)
+}
+
+fn no_direct() -> io::Error {
+    io::Error::other("--direct: its file system has no O_DIRECT")
+}
+
+// How what is read and written past the page cache has to lie.
+fn blocks_of(file: &File) -> io::Result<Blocks> {
+    match system::blocks_of(file) {
+        Some((0, _) | (_, 0)) => Err(no_direct()),
+        Some((memory, disk)) => Ok(Blocks { memory, disk }),
+        // The system does not say. A read tells.
+        None => {
+            let fits = |&len: &u64| {
+                Buffers::new(1, len as usize)
+                    .and_then(|it| it.read_first(file, len as usize))
+                    .is_ok()
+            };
+            let len = [512, 1024, 2048, 4096].into_iter().find(fits).ok_or_else(no_direct)?;
+            Ok(Blocks { memory: len, disk: len })
+        }
+    }
+}
+
+// A part of a block at the end of the disk could not be written without the rest of it.
+fn expect_whole(sectors: u64, blocks: Blocks) -> io::Result<()> {
+    match sectors * SECTOR_LEN as u64 % blocks.disk {
+        0 => Ok(()),
+        _ => Err(io::Error::other(format!(
+            "--direct: its {sectors} sectors are no whole blocks of {} bytes",
+            blocks.disk
+        ))),
+    }
 }
 
 // Locks the image against other programs that lock it, by the descriptor that reads and writes it.

@@ -3,6 +3,7 @@
 //! What makes them is a [`System`]: the kernel's rings, or threads. Here is what both have in common: how many of a
 //! ring are under way, what goes on after a short transfer, and which flush is served by which sync.
 
+use crate::direct::Direct;
 use crate::disk::Syncs;
 use crate::system;
 use std::collections::VecDeque;
@@ -94,6 +95,8 @@ struct Line {
 pub struct Engine {
     system: Box<dyn System>,
     syncs: Rc<Syncs>,
+    // What jobs go through that are past the page cache.
+    direct: Option<Direct>,
     // Of each ring so many are under way.
     depth: usize,
     lines: Vec<Line>,
@@ -119,10 +122,13 @@ pub struct Engine {
 
 impl Engine {
     /// Nothing is under way. Each ring may have `depth` reads and writes.
-    pub fn new(system: Box<dyn System>, syncs: Rc<Syncs>, depth: usize) -> Engine {
+    pub fn new(system: Box<dyn System>, syncs: Rc<Syncs>, direct: Option<Direct>, depth: usize) -> Engine {
+        // Past the page cache nothing is to be had at once.
+        let tries_now = direct.is_none();
         Engine {
             system,
             syncs,
+            direct,
             depth,
             lines: Vec::new(),
             next_line: 0,
@@ -131,8 +137,8 @@ impl Engine {
             tickets: Vec::new(),
             free: Vec::new(),
             spare: Vec::new(),
-            reads_now: true,
-            writes_now: true,
+            reads_now: tries_now,
+            writes_now: tries_now,
             flushing: Vec::new(),
             flushes: Vec::new(),
             ends: VecDeque::new(),
@@ -233,7 +239,40 @@ impl Engine {
             self.tickets.len() - 1
         });
         self.tickets[number] = Some(ticket);
-        self.system.begin(number, job);
+        let begun = match &mut self.direct {
+            Some(direct) => direct.begin(number, job),
+            None => Ok(Some(job)),
+        };
+        match begun {
+            Ok(Some(job)) => self.system.begin(number, job),
+            // It waits for others.
+            Ok(None) => (),
+            Err(error) => self.end(number, Err(error)),
+        }
+    }
+
+    fn end(&mut self, number: usize, done: io::Result<()>) {
+        let ticket = self.tickets[number].take().expect("it is under way");
+        self.free.push(number);
+        self.lines[ticket.ring() as usize].under_way -= 1;
+        self.under_way -= 1;
+        self.ends.push_back((ticket, done));
+        if let Some(direct) = &mut self.direct {
+            direct.forget(number);
+        }
+    }
+
+    // Begins what waited for others that have ended.
+    fn begin_next(&mut self) {
+        while let Some((number, begun)) = self.direct.as_mut().and_then(Direct::next) {
+            match begun {
+                Ok(job) => {
+                    self.goes_on = true;
+                    self.system.begin(number, job);
+                }
+                Err(error) => self.end(number, Err(error)),
+            }
+        }
     }
 
     fn put_away(&mut self, vectors: Vectors) {
@@ -309,11 +348,8 @@ impl Engine {
                     let is_stable = self.syncs.ended(done).is_ok();
                     self.end_flushes(is_stable);
                 } else {
-                    let ticket = self.tickets[number].take().expect("it is under way");
-                    self.free.push(number);
-                    self.lines[ticket.ring() as usize].under_way -= 1;
-                    self.under_way -= 1;
-                    return Some((ticket, done));
+                    self.end(number, done);
+                    self.begin_next();
                 }
             }
         }
@@ -330,7 +366,15 @@ impl Engine {
             Err(error) => Some(Err(error)),
             Ok(_) if job.what == What::Sync => Some(Ok(())),
             Ok(0) => Some(Err(ErrorKind::UnexpectedEof.into())),
-            Ok(count) => job.passes(count).then_some(Ok(())),
+            Ok(count) if !job.passes(count) => None,
+            Ok(_) => match self.direct.as_mut().map_or(Ok(None), |direct| direct.ended(number)) {
+                Ok(None) => Some(Ok(())),
+                Ok(Some(next)) => {
+                    job = next;
+                    None
+                }
+                Err(error) => Some(Err(error)),
+            },
         };
         match result {
             None => {
@@ -358,6 +402,8 @@ impl Engine {
     }
 }
 
+#[cfg(test)]
+mod blocks;
 #[cfg(test)]
 mod systems;
 #[cfg(test)]

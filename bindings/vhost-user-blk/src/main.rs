@@ -5,6 +5,7 @@
 #![deny(unsafe_code, unsafe_op_in_unsafe_fn)]
 
 mod device;
+mod direct;
 mod disk;
 mod engine;
 mod options;
@@ -16,6 +17,7 @@ mod threads;
 mod uring;
 
 use device::{SIGNALS, SOCKET};
+use direct::Direct;
 use disk::Disk;
 use engine::{Engine, System};
 use options::{Aio, Asked, Options, Source, USAGE};
@@ -143,7 +145,7 @@ fn inherit(number: RawFd) -> io::Result<Fronts> {
 
 impl Program {
     fn new(options: Options) -> Result<Program, Box<dyn Error>> {
-        let disk = Disk::open(&options.image, options.read_only, options.is_locked);
+        let disk = Disk::open(&options.image, &options);
         let disk = disk.map_err(|error| named(&options.image, error))?;
         let (signals, epoll) = (system::signals()?, Epoll::new()?);
         epoll.watch(signals.as_fd(), SIGNALS, LEVEL)?;
@@ -260,8 +262,13 @@ fn engine_of(options: &Options, disk: &Disk) -> Result<Option<(Engine, String)>,
             Err(error) => (threads()?, format!("threads, since io_uring is not to be had: {error}")),
         },
     };
-    let engine = Engine::new(system, Rc::clone(&disk.syncs), options.depth as usize);
-    Ok(Some((engine, format!("the image is read and written by {name}"))))
+    let direct = disk.blocks.map(Direct::new).transpose()?;
+    let past = disk
+        .blocks
+        .map(|it| format!(", past the page cache in blocks of {} bytes", it.disk));
+    let engine = Engine::new(system, Rc::clone(&disk.syncs), direct, options.depth as usize);
+    let past = past.unwrap_or_default();
+    Ok(Some((engine, format!("the image is read and written{past} by {name}"))))
 }
 
 // Whether the system has no room for one more now.

@@ -13,7 +13,7 @@ use std::time::Duration;
 pub const USAGE: &str = "\
 usage: vhost-user-blk --socket PATH --image FILE [--read-only] [--write-through] [--queues N] [--iommu]
            [--iotlb-limit N] [--stats SECONDS] [--no-lock] [--aio io_uring|threads|none] [--depth N] [--any-order]
-           [--drain SECONDS]
+           [--drain SECONDS] [--direct]
        vhost-user-blk --fd N --image FILE ..
        vhost-user-blk --print-capabilities | --version | --help
 
@@ -37,6 +37,7 @@ has then. A value may also follow a =, as in --fd=3.
   --any-order       requests may always complete in any order, and not only if a front end keeps those in flight or the
                     ring is packed: if the program is killed, a guest may lose requests
   --drain SECONDS   how long the end waits for what is under way, 0 to 86400; the default is 10
+  --direct          reads and writes past the page cache (O_DIRECT); not with --aio none
   --no-lock         serves FILE even if another program has locked it, and does not lock it
   --print-capabilities
                     prints, as JSON, what a manager of QEMU asks of a back end
@@ -89,6 +90,8 @@ pub struct Options {
     pub depth: u32,
     pub any_order: bool,
     pub drain: Duration,
+    /// The page cache is passed by.
+    pub is_direct: bool,
 }
 
 /// How the image is read and written.
@@ -101,7 +104,7 @@ pub enum Aio {
 }
 
 // The options, those of the same meaning by its first name, and whether they have a value.
-const NAMES: [(&str, &str, bool); 16] = [
+const NAMES: [(&str, &str, bool); 17] = [
     ("--socket", "--socket", true),
     ("--socket-path", "--socket", true),
     ("--fd", "--fd", true),
@@ -118,6 +121,7 @@ const NAMES: [(&str, &str, bool); 16] = [
     ("--depth", "--depth", true),
     ("--any-order", "--any-order", false),
     ("--drain", "--drain", true),
+    ("--direct", "--direct", false),
 ];
 
 impl Asked {
@@ -185,6 +189,10 @@ fn options_of(mut read: HashMap<&str, OsString>) -> Result<Options, String> {
     if limit.is_some() && !iommu {
         return Err("--iotlb-limit needs --iommu".into());
     }
+    let is_direct = read.contains_key("--direct");
+    if is_direct && aio == Some(Aio::None) {
+        return Err("--direct is not with --aio none".into());
+    }
     Ok(Options {
         source,
         image,
@@ -198,6 +206,7 @@ fn options_of(mut read: HashMap<&str, OsString>) -> Result<Options, String> {
         depth: depth.unwrap_or(128),
         any_order: read.contains_key("--any-order"),
         drain: Duration::from_secs(drain.unwrap_or(10).into()),
+        is_direct,
     })
 }
 
@@ -259,9 +268,11 @@ mod tests {
             depth: 128,
             any_order: false,
             drain: Duration::from_secs(10),
+            is_direct: false,
         };
         assert_eq!(options(&asked), usual);
-        let more = "--read-only --queues 256 --stats 5 --iommu --iotlb-limit 8 --depth 1024 --any-order --drain 0";
+        let more =
+            "--read-only --queues 256 --stats 5 --iommu --iotlb-limit 8 --depth 1024 --any-order --drain 0 --direct";
         let more: Vec<_> = more.split(' ').collect();
         let wanted = Options {
             read_only: true,
@@ -271,6 +282,7 @@ mod tests {
             depth: 1024,
             any_order: true,
             drain: Duration::ZERO,
+            is_direct: true,
             ..usual
         };
         assert_eq!(options(&[&asked[..], &more].concat()), wanted);
@@ -331,6 +343,10 @@ mod tests {
             (&["--depth", "0"], "--depth takes a number from 1 to 1024, not 0"),
             (&["--depth=1025"], "--depth takes a number from 1 to 1024, not 1025"),
             (&["--drain", "-1"], "--drain takes a number from 0 to 86400, not -1"),
+            (
+                &["--direct", "--aio=none", "--socket=s", "--image=i"],
+                "--direct is not with --aio none",
+            ),
             (&["--aio", "uring"], "--aio takes io_uring, threads or none, not uring"),
             (&["--stats", "x"], "--stats takes a number from 1 to 86400, not x"),
             (&["--fd=2"], "--fd takes a number from 3 to 2147483647, not 2"),

@@ -131,23 +131,49 @@ pub fn keep(pieces: Pieces<'_>, room: &mut Vectors) {
     unsafe { pieces.keep(room) }
 }
 
-/// Bytes of this process that stay, of each vector so many, which are 7.
+/// Bytes of this process that stay, of each vector so many, which are 7. Each begins this far after a page.
 #[cfg(test)]
-pub fn vectors_of(lens: &[usize]) -> Vectors {
-    let of = |len: &usize| Vector {
-        at: Box::leak(vec![7; *len].into_boxed_slice()).as_mut_ptr(),
-        len: *len,
+pub fn vectors_after(lens: &[usize], offset: usize) -> Vectors {
+    let of = |len: &usize| {
+        let bytes = Box::leak(vec![7; len + offset + 4096].into_boxed_slice());
+        let from = bytes.as_ptr().align_offset(4096) + offset;
+        let at = bytes[from..].as_mut_ptr();
+        Vector { at, len: *len }
     };
     // SAFETY: they are leaked, and nothing else uses them.
     unsafe { Vectors::new(lens.iter().map(of).collect()) }
 }
 
+/// The same, anywhere.
+#[cfg(test)]
+pub fn vectors_of(lens: &[usize]) -> Vectors {
+    vectors_after(lens, 3)
+}
+
 /// What these bytes are.
 #[cfg(test)]
 pub fn bytes_of(vectors: &Vectors) -> Vec<u8> {
-    // SAFETY: they are those of `vectors_of`, of which nothing was passed, and nothing is under way.
+    // SAFETY: they are those of `vectors_after` or of a buffer, of which nothing was passed, and nothing is under way.
     let of = |it: &Vector| unsafe { std::slice::from_raw_parts(it.at, it.len) }.to_vec();
-    vectors.from(0).iter().flat_map(of).collect()
+    vectors.all().iter().flat_map(of).collect()
+}
+
+/// Other vectors of the same bytes.
+#[cfg(test)]
+pub fn again(vectors: &Vectors) -> Vectors {
+    // SAFETY: as for `bytes_of`: they stay.
+    unsafe { Vectors::new(vectors.all().to_vec()) }
+}
+
+/// Fills them.
+#[cfg(test)]
+pub fn fill(vectors: &Vectors, mut bytes: &[u8]) {
+    for it in vectors.all() {
+        let (here, rest) = bytes.split_at(it.len);
+        // SAFETY: as for `bytes_of`.
+        unsafe { std::ptr::copy_nonoverlapping(here.as_ptr(), it.at, it.len) };
+        bytes = rest;
+    }
 }
 
 // How many bytes a call moved.
@@ -202,6 +228,92 @@ pub fn now(file: &File, job: &Job) -> io::Result<usize> {
             _ => libc::pwritev2(file, first, count, place, how),
         }
     })
+}
+
+/// Buffers of one length, in memory that files are read into and written from, too.
+pub struct Buffers {
+    memory: File,
+    at: *mut u8,
+    count: usize,
+    len: usize,
+}
+
+impl Buffers {
+    /// So many, each of whole pages.
+    pub fn new(count: usize, len: usize) -> io::Result<Buffers> {
+        let len = len.next_multiple_of(4096);
+        let memory = File::from(vm_memory_proved::memfd((count * len) as u64)?);
+        let (access, fd) = (libc::PROT_READ | libc::PROT_WRITE, memory.as_raw_fd());
+        // SAFETY: without MAP_FIXED the system takes addresses that nothing has.
+        let at = unsafe { libc::mmap(null_mut(), count * len, access, libc::MAP_SHARED, fd, 0) };
+        match at {
+            libc::MAP_FAILED => Err(io::Error::last_os_error()),
+            at => Ok(Buffers {
+                memory,
+                at: at.cast(),
+                count,
+                len,
+            }),
+        }
+    }
+
+    /// The first bytes of a buffer.
+    pub fn vectors(&self, number: usize, len: usize) -> Vectors {
+        assert!(number < self.count && len <= self.len);
+        let at = self.at.wrapping_add(number * self.len);
+        // SAFETY: the bytes lie in the mapping, which is there until its engine is dropped, which has nothing under way
+        // then, or is never dropped. This process has no reference to them.
+        unsafe { Vectors::new(vec![Vector { at, len }]) }
+    }
+
+    /// Writes guest memory to a buffer from a byte on. Of memory that went away it fails by EFAULT.
+    pub fn take(&self, number: usize, from: u64, mut guest: Vectors) -> io::Result<()> {
+        let (mut place, mut at) = (self.place(number, from), 0);
+        while at < guest.len() {
+            let count = write(&self.memory, &guest, at, place)?;
+            place += count as u64;
+            at = guest.passed(at, count);
+        }
+        Ok(())
+    }
+
+    /// Reads a buffer from a byte on to guest memory.
+    pub fn give(&self, number: usize, from: u64, mut guest: Vectors) -> io::Result<()> {
+        let (mut place, mut at) = (self.place(number, from), 0);
+        while at < guest.len() {
+            let count = read(&self.memory, &guest, at, place)?;
+            place += count as u64;
+            at = guest.passed(at, count);
+        }
+        Ok(())
+    }
+
+    /// Reads the first bytes of a file into a buffer.
+    pub fn read_first(&self, file: &File, len: usize) -> io::Result<usize> {
+        read(file, &self.vectors(0, len), 0, 0)
+    }
+
+    fn place(&self, number: usize, from: u64) -> u64 {
+        (number * self.len) as u64 + from
+    }
+}
+
+impl Drop for Buffers {
+    fn drop(&mut self) {
+        // SAFETY: the mapping is this one's, and nothing under way has bytes of it.
+        unsafe { libc::munmap(self.at.cast(), self.count * self.len) };
+    }
+}
+
+/// How places and memory have to lie for a file that is opened by O_DIRECT, if the system says so: 0 if it has none.
+pub fn blocks_of(file: &File) -> Option<(u64, u64)> {
+    const DIOALIGN: u32 = 0x2000;
+    // `struct statx`, of which the first word says what is filled in.
+    let mut about = [0_u32; 64];
+    let (file, at) = (file.as_raw_fd(), about.as_mut_ptr());
+    // SAFETY: the name is a text that ends with 0, and there is room for the 256 bytes of the answer.
+    let done = unsafe { libc::syscall(libc::SYS_statx, file, c"".as_ptr(), libc::AT_EMPTY_PATH, DIOALIGN, at) };
+    (done == 0 && about[0] & DIOALIGN != 0).then_some((about[38].into(), about[39].into()))
 }
 
 // ---- locks, and descriptors that are inherited

@@ -83,6 +83,10 @@ fn number_of(error: io::Error) -> i32 {
 
 impl Trial {
     fn new(depth: usize, room: usize) -> Trial {
+        Trial::over(None, depth, room)
+    }
+
+    fn over(direct: Option<Direct>, depth: usize, room: usize) -> Trial {
         let state = Rc::new(RefCell::new(State {
             room,
             ..State::default()
@@ -93,7 +97,7 @@ impl Trial {
             descriptor,
         };
         let syncs = Rc::<Syncs>::default();
-        let engine = Engine::new(Box::new(fake), Rc::clone(&syncs), depth);
+        let engine = Engine::new(Box::new(fake), Rc::clone(&syncs), direct, depth);
         Trial { engine, state, syncs }
     }
 
