@@ -49,6 +49,12 @@ impl Ticket {
         self.ring
     }
 
+    /// Its request.
+    #[inline]
+    pub fn id(&self) -> u32 {
+        self.id
+    }
+
     /// What it asks for.
     #[inline]
     pub fn way(&self) -> Way {

@@ -2,6 +2,7 @@
 
 use crate::engine::Engine;
 use crate::system::{self, Epoll, EDGE, LEVEL};
+use crate::times::Times;
 use crate::{say, Program};
 use std::cell::RefMut;
 use std::convert::Infallible;
@@ -37,6 +38,9 @@ struct Served<'a> {
     engine: RefMut<'a, Option<Engine>>,
     // The system could not take all.
     has_left: bool,
+    // When parts that are under way began, by ring and request, and how long others took, if that is to be said.
+    begun: Vec<Vec<Option<Instant>>>,
+    times: Option<Times>,
     // What was said last of the features.
     features: [String; 2],
 }
@@ -56,10 +60,19 @@ impl Device for Served<'_> {
     }
 
     fn begin(&mut self, part: &Part<'_>, pieces: Pieces<'_>, ticket: Ticket) -> Begun {
-        match self.engine.as_mut() {
-            Some(engine) if part.way != Way::Name => engine.begin(part, pieces, ticket),
-            _ => Begun::Ended(ticket, self.serve(part, pieces)),
+        let Some(engine) = self.engine.as_mut().filter(|_| part.way != Way::Name) else {
+            return Begun::Ended(ticket, self.serve(part, pieces));
+        };
+        if self.times.is_none() {
+            return engine.begin(part, pieces, ticket);
         }
+        let now = Instant::now();
+        let begun = engine.begin(part, pieces, ticket);
+        match begun {
+            Begun::Ended(..) => self.add_time(now),
+            Begun::UnderWay => self.note_begin(part, now),
+        }
+        begun
     }
 
     fn watch(&mut self, descriptor: BorrowedFd<'_>, event: Event) -> io::Result<()> {
@@ -104,6 +117,8 @@ pub fn serve(program: &Program, socket: UnixStream) -> Result<Ended, Box<dyn Err
         epoll,
         engine,
         has_left: false,
+        begun: Vec::new(),
+        times: options.stats.is_some().then(Times::default),
         features,
     };
     let (rings, watchdog) = (options.queues, &program.watchdog);
@@ -115,7 +130,7 @@ pub fn serve(program: &Program, socket: UnixStream) -> Result<Ended, Box<dyn Err
     let ended = served.turns(&mut connection).expect_err("turns end by an error");
     let left = served.drain(&mut connection, matches!(ended, Ended::HungUp));
     if options.stats.is_some() {
-        say_stats(program, &connection);
+        served.say_stats(&connection);
     }
     match left {
         0 => Ok(ended),
@@ -164,7 +179,7 @@ impl Served<'_> {
             }
             self.work(connection)?;
             if due.is_some_and(|time| time <= Instant::now()) {
-                say_stats(program, connection);
+                self.say_stats(connection);
                 due = next();
             }
         }
@@ -195,6 +210,9 @@ impl Served<'_> {
     fn take_ends(&mut self, connection: &mut Connection<'_>) -> bool {
         let mut has_some = false;
         while let Some((ticket, done)) = self.engine.as_mut().and_then(Engine::next_end) {
+            if self.times.is_some() {
+                self.take_time(&ticket);
+            }
             connection.ended(ticket, done);
             has_some = true;
         }
@@ -272,9 +290,55 @@ fn take_signals(program: &Program, connection: &mut Connection<'_>) -> Result<()
     }
 }
 
-fn say_stats(program: &Program, connection: &Connection<'_>) {
+// ---- what is said
+
+impl Served<'_> {
+    fn add_time(&mut self, begun: Instant) {
+        if let Some(times) = &mut self.times {
+            times.add(begun.elapsed());
+        }
+    }
+
+    // Of a part that comes in several its beginning counts.
+    fn note_begin(&mut self, part: &Part<'_>, now: Instant) {
+        let (ring, id) = (part.ring as usize, part.id as usize);
+        if self.begun.len() <= ring {
+            self.begun.resize(ring + 1, Vec::new());
+        }
+        let requests = &mut self.begun[ring];
+        if requests.len() <= id {
+            requests.resize(id + 1, None);
+        }
+        requests[id].get_or_insert(now);
+    }
+
+    fn take_time(&mut self, ticket: &Ticket) {
+        let requests = self.begun.get_mut(ticket.ring() as usize);
+        let begun = requests
+            .and_then(|it| it.get_mut(ticket.id() as usize))
+            .and_then(Option::take);
+        if let Some(begun) = begun {
+            self.add_time(begun);
+        }
+    }
+
+    fn say_stats(&mut self, connection: &Connection<'_>) {
+        say!("served {}", connection.stats());
+        if let Some(engine) = self.engine.as_ref() {
+            let (count, times) = (engine.load(), self.times.take().unwrap_or_default());
+            match times.count() {
+                0 => say!("under way: {count}"),
+                parts => say!("under way: {count}; {parts} reads, writes and flushes took: {times}"),
+            }
+            // The next ones count from here on.
+            self.times = Some(Times::default());
+        }
+        say_more(self.program, connection);
+    }
+}
+
+fn say_more(program: &Program, connection: &Connection<'_>) {
     let stats = connection.stats();
-    say!("served {stats}");
     let table = connection.table();
     if table != TableCounts::default() {
         let (misses, updates, evictions) = (table.misses, table.updates, table.evictions);

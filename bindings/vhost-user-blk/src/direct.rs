@@ -1,7 +1,7 @@
 //! Reads and writes past the page cache: O_DIRECT.
 //!
-//! The system takes places, lengths and memory of whole blocks alone. What is not so goes through a buffer. A write of a
-//! part of a block reads the block, changes and writes it, and no other write of the block is under way meanwhile.
+//! The system takes places, lengths and memory of whole blocks alone. What is not so goes through a buffer. A write of
+//! a part of a block reads the block, changes and writes it, and no other write of the block is under way meanwhile.
 
 use crate::engine::{Job, What};
 use crate::system::Buffers;

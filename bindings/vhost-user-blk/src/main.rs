@@ -13,6 +13,7 @@ mod output;
 #[allow(unsafe_code)]
 mod system;
 mod threads;
+mod times;
 #[allow(unsafe_code)]
 mod uring;
 

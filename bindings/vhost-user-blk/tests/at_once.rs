@@ -183,6 +183,30 @@ fn so_many_requests_of_a_ring_are_under_way() {
     }
 }
 
+// Two requests of 128 MiB are under way, and a third one has no turn.
+#[test]
+fn a_program_sleeps_while_requests_wait() {
+    let Some((program, faults)) = slow("asleep", millis(1000), &[]) else {
+        return;
+    };
+    let image = File::options().write(true).open(&program.image).unwrap();
+    image.set_len(256 << 20).unwrap();
+    program.signal(libc::SIGHUP);
+    program.expect_said("sectors now");
+    let mut front = started(&program, 1);
+    for head in 0..3 {
+        front.put_long(head, 0, SLOW, &[(8 << 20, 4 << 20); 32]);
+        front.publish(0, head);
+    }
+    front.kick(0);
+    expect_slow(&faults, 2);
+    let worked = program.processor_time();
+    sleep(millis(600));
+    let worked = program.processor_time() - worked;
+    assert!(worked < 100_000_000, "it worked for {worked} ns");
+    assert_eq!(faults.slow(), [2, 2]);
+}
+
 #[test]
 fn no_flush_succeeds_while_another_one_fails() {
     for is_failing in [false, true] {
@@ -208,6 +232,32 @@ fn no_flush_succeeds_while_another_one_fails() {
         }
         assert_eq!(faults.syncs(), if is_failing { 1 } else { 2 });
     }
+}
+
+#[test]
+fn what_is_under_way_is_said_with_times() {
+    let Some((program, faults)) = slow("times", millis(1300), &["--stats=1"]) else {
+        return;
+    };
+    let mut front = started(&program, 1);
+    for head in [0, 3] {
+        ask(&mut front, 0, head, 0, SLOW);
+    }
+    expect_slow(&faults, 2);
+    program.expect_said("under way: 2\n");
+    for _ in 0..2 {
+        front.take_used(0);
+    }
+    program.expect_said("under way: 0; 2 reads, writes and flushes took: least 1.3 s, middle 1.");
+    // One of many does not count, and the time begins again.
+    for _ in 0..300 {
+        front.read_disk(0, 1, 512);
+    }
+    ask(&mut front, 0, 0, 0, SLOW);
+    front.take_used(0);
+    drop(front);
+    program.expect_said("the connection ended");
+    assert!(program.has_said(" us, 99 of 100 within ") || program.has_said(" ns, 99 of 100 within "));
 }
 
 // ---- ends of the program, and of front ends

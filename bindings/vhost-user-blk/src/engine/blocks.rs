@@ -229,27 +229,44 @@ impl Numbers {
     }
 }
 
+// Requests that are under way: what they are, their first sector, how many they have, and their memory.
+type Asked = (What, usize, usize, Vectors);
+
+// A request of random sectors, of which some byte is the first in memory.
+fn asked(numbers: &mut Numbers) -> Asked {
+    let count = 1 + numbers.below(10);
+    let first = numbers.below(512 * count + 1);
+    let lens = [first, 512 * count - first].into_iter().filter(|len| *len > 0);
+    let vectors = system::vectors_after(&lens.collect::<Vec<_>>(), [0, 512, 77][numbers.below(3)]);
+    let byte = numbers.below(256);
+    let bytes: Vec<u8> = (0..512 * count).map(|at| (byte + at / 30) as u8).collect();
+    system::fill(&vectors, &bytes);
+    let what = [What::Read, What::Write][numbers.below(2)];
+    (what, numbers.below(SECTORS - count), count, vectors)
+}
+
+// What a request that ended read, or wrote.
+fn check((what, sector, count, vectors): Asked, disk: &mut [u8]) {
+    let (bytes, here) = (system::bytes_of(&vectors), 512 * sector..512 * (sector + count));
+    match what {
+        What::Read => assert!(bytes == disk[here], "a read of {sector}"),
+        _ => disk[here].copy_from_slice(&bytes),
+    }
+}
+
 // No two of these have a sector at once, and many have blocks together.
 #[test]
 fn each_sector_has_what_was_written_to_it() {
     let mut numbers = Numbers(3);
     let mut trial = Trial::new();
     let mut disk: Vec<u8> = (0..512 * SECTORS).map(byte_at).collect();
-    let mut out: Vec<Option<(What, usize, usize, Vectors)>> = (0..40).map(|_| None).collect();
+    let mut out: Vec<Option<Asked>> = (0..40).map(|_| None).collect();
     let mut served = 0;
     for _ in 0..6000 {
-        let (id, count) = (numbers.below(out.len()), 1 + numbers.below(10));
-        let sector = numbers.below(SECTORS - count);
+        let (id, (what, sector, count, vectors)) = (numbers.below(out.len()), asked(&mut numbers));
         let mut all = out.iter().flatten();
         let is_free = all.all(|it| it.1 >= sector + count || it.1 + it.2 <= sector);
         if out[id].is_none() && is_free {
-            let what = [What::Read, What::Write][numbers.below(2)];
-            let first = numbers.below(512 * count + 1);
-            let lens = [first, 512 * count - first].into_iter().filter(|len| *len > 0);
-            let vectors = system::vectors_after(&lens.collect::<Vec<_>>(), [0, 512, 77][numbers.below(3)]);
-            let byte = numbers.below(256);
-            let bytes: Vec<u8> = (0..512 * count).map(|at| (byte + at / 30) as u8).collect();
-            system::fill(&vectors, &bytes);
             out[id] = Some((what, sector, count, system::again(&vectors)));
             trial.begin(id as u32, what, sector, vectors);
         }
@@ -258,22 +275,14 @@ fn each_sector_has_what_was_written_to_it() {
         }
         let place = numbers.below(1 << 20);
         for id in trial.end(|count| place % count) {
-            let (what, sector, count, vectors) = out[id as usize].take().expect("it is under way");
-            let (bytes, here) = (system::bytes_of(&vectors), 512 * sector..512 * (sector + count));
-            match what {
-                What::Read => assert!(bytes == disk[here], "a read of {sector}"),
-                _ => disk[here].copy_from_slice(&bytes),
-            }
+            check(out[id as usize].take().expect("it is under way"), &mut disk);
             served += 1;
         }
     }
     assert!(served > 1000, "{served}");
     trial.end_all();
-    for (what, sector, count, vectors) in out.into_iter().flatten() {
-        if what == What::Write {
-            disk[512 * sector..512 * (sector + count)].copy_from_slice(&system::bytes_of(&vectors));
-        }
-    }
+    let left = out.into_iter().flatten();
+    left.for_each(|it| check(it, &mut disk));
     assert!(trial.state.borrow().bytes == disk);
 }
 
