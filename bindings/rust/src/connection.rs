@@ -308,6 +308,19 @@ impl<'a> Connection<'a> {
         }
     }
 
+    /// Does all that is to be done, as [`run`](Connection::run), after a look at each ring whose driver may not have
+    /// notified yet. Returns whether something was to be done.
+    pub fn look(&mut self, device: &mut impl Device) -> Result<bool, Ended> {
+        for (ring, it) in (0..).zip(&self.rings) {
+            if !matches!(it.notified, Notified::Not) {
+                self.back_end.kick(ring);
+            }
+        }
+        self.run(device)?;
+        let has_done = |room: &Room| room.actions().next().is_some() || room.has_more();
+        Ok(self.room.as_deref().is_some_and(has_done))
+    }
+
     fn run_once(&mut self, device: &mut impl Device) -> Result<(), Ended> {
         let mut room = self.room.take().expect("its actions were done");
         let (ends, turns) = self.parts.told();

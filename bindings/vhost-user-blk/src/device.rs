@@ -1,6 +1,7 @@
 //! A front end that is served, by events of its descriptors.
 
 use crate::engine::Engine;
+use crate::poll::Poll;
 use crate::system::{self, Epoll, EDGE, LEVEL};
 use crate::times::Times;
 use crate::{say, Program};
@@ -38,6 +39,7 @@ struct Served<'a> {
     engine: RefMut<'a, Option<Engine>>,
     // The system could not take all.
     has_left: bool,
+    poll: Poll,
     // When parts that are under way began, by ring and request, and how long others took, if that is to be said.
     begun: Vec<Vec<Option<Instant>>>,
     times: Option<Times>,
@@ -117,6 +119,7 @@ pub fn serve(program: &Program, socket: UnixStream) -> Result<Ended, Box<dyn Err
         epoll,
         engine,
         has_left: false,
+        poll: Poll::new(options.poll),
         begun: Vec::new(),
         times: options.stats.is_some().then(Times::default),
         features,
@@ -166,7 +169,7 @@ impl Served<'_> {
                 .chain(connection.time_to_wait())
                 .chain(self.pause())
                 .min();
-            self.epoll.wait(time, &mut ready).map_err(Ended::failed("waiting"))?;
+            self.wait(connection, time, &mut ready)?;
             for &number in &ready {
                 match number {
                     SIGNALS => take_signals(program, connection)?,
@@ -187,6 +190,29 @@ impl Served<'_> {
 }
 
 impl Served<'_> {
+    // Waits for events, for a time at most, and looks for them before it sleeps if that is wanted.
+    fn wait(
+        &mut self,
+        connection: &mut Connection<'_>,
+        time: Option<Duration>,
+        ready: &mut Vec<u64>,
+    ) -> Result<(), Ended> {
+        let sleep = |served: &Self, time, ready: &mut _| served.epoll.wait(time, ready);
+        if !self.poll.is_on() || time.is_some_and(|time| time.is_zero()) {
+            return sleep(self, time, ready).map_err(Ended::failed("waiting"));
+        }
+        let begun = Instant::now();
+        while begun.elapsed() < self.poll.time().min(time.unwrap_or(Duration::MAX)) {
+            sleep(self, Some(Duration::ZERO), ready).map_err(Ended::failed("waiting"))?;
+            if !ready.is_empty() || self.take_ends(connection) || connection.look(self)? {
+                return Ok(());
+            }
+        }
+        sleep(self, time, ready).map_err(Ended::failed("waiting"))?;
+        self.poll.slept(begun.elapsed());
+        Ok(())
+    }
+
     // Tells what ended, does what follows, and has the system begin what it is asked for.
     fn work(&mut self, connection: &mut Connection<'_>) -> Result<(), Ended> {
         self.take_ends(connection);

@@ -10,6 +10,7 @@ mod disk;
 mod engine;
 mod options;
 mod output;
+mod poll;
 #[allow(unsafe_code)]
 mod system;
 mod threads;

@@ -13,7 +13,7 @@ use std::time::Duration;
 pub const USAGE: &str = "\
 usage: vhost-user-blk --socket PATH --image FILE [--read-only] [--write-through] [--queues N] [--iommu]
            [--iotlb-limit N] [--stats SECONDS] [--no-lock] [--aio io_uring|threads|none] [--depth N] [--any-order]
-           [--drain SECONDS] [--direct]
+           [--drain SECONDS] [--direct] [--poll MICROSECONDS]
        vhost-user-blk --fd N --image FILE ..
        vhost-user-blk --print-capabilities | --version | --help
 
@@ -38,6 +38,9 @@ has then. A value may also follow a =, as in --fd=3.
                     ring is packed: if the program is killed, a guest may lose requests
   --drain SECONDS   how long the end waits for what is under way, 0 to 86400; the default is 10
   --direct          reads and writes past the page cache (O_DIRECT); not with --aio none
+  --poll MICROSECONDS
+                    looks for requests for so long at most before it sleeps, 0 to 1000000: a request that comes soon
+                    waits less, and a processor works meanwhile; the default is 0
   --no-lock         serves FILE even if another program has locked it, and does not lock it
   --print-capabilities
                     prints, as JSON, what a manager of QEMU asks of a back end
@@ -92,6 +95,8 @@ pub struct Options {
     pub drain: Duration,
     /// The page cache is passed by.
     pub is_direct: bool,
+    /// How long the program looks for requests before it sleeps, at most.
+    pub poll: Duration,
 }
 
 /// How the image is read and written.
@@ -104,7 +109,7 @@ pub enum Aio {
 }
 
 // The options, those of the same meaning by its first name, and whether they have a value.
-const NAMES: [(&str, &str, bool); 17] = [
+const NAMES: [(&str, &str, bool); 18] = [
     ("--socket", "--socket", true),
     ("--socket-path", "--socket", true),
     ("--fd", "--fd", true),
@@ -122,6 +127,7 @@ const NAMES: [(&str, &str, bool); 17] = [
     ("--any-order", "--any-order", false),
     ("--drain", "--drain", true),
     ("--direct", "--direct", false),
+    ("--poll", "--poll", true),
 ];
 
 impl Asked {
@@ -177,6 +183,7 @@ fn options_of(mut read: HashMap<&str, OsString>) -> Result<Options, String> {
     let (fd, queues) = (number("--fd", 3..=i32::MAX as u32)?, number("--queues", 1..=256)?);
     let (limit, stats) = (number("--iotlb-limit", 8..=65_536)?, number("--stats", 1..=86_400)?);
     let (depth, drain) = (number("--depth", 1..=1024)?, number("--drain", 0..=86_400)?);
+    let poll = number("--poll", 0..=1_000_000)?;
     let aio = read.remove("--aio").map(aio_of).transpose()?;
     let source = match (read.remove("--socket"), fd) {
         (Some(path), None) => Source::Path(path.into()),
@@ -207,6 +214,7 @@ fn options_of(mut read: HashMap<&str, OsString>) -> Result<Options, String> {
         any_order: read.contains_key("--any-order"),
         drain: Duration::from_secs(drain.unwrap_or(10).into()),
         is_direct,
+        poll: Duration::from_micros(poll.unwrap_or(0).into()),
     })
 }
 
@@ -252,9 +260,15 @@ mod tests {
         }
     }
 
+    const ASKED: [&str; 4] = ["--socket", "s", "--image", "i"];
+
+    fn more(words: &str) -> Options {
+        let words: Vec<_> = words.split_whitespace().collect();
+        options(&[&ASKED[..], &words].concat())
+    }
+
     #[test]
     fn words_are_options() {
-        let asked = ["--socket", "s", "--image", "i"];
         let usual = Options {
             source: Source::Path("s".into()),
             image: "i".into(),
@@ -269,23 +283,40 @@ mod tests {
             any_order: false,
             drain: Duration::from_secs(10),
             is_direct: false,
+            poll: Duration::ZERO,
         };
-        assert_eq!(options(&asked), usual);
-        let more =
-            "--read-only --queues 256 --stats 5 --iommu --iotlb-limit 8 --depth 1024 --any-order --drain 0 --direct";
-        let more: Vec<_> = more.split(' ').collect();
+        assert_eq!(more(""), usual);
         let wanted = Options {
             read_only: true,
             queues: 256,
             stats: Some(Duration::from_secs(5)),
             iotlb_limit: Some(8),
+            ..usual
+        };
+        assert_eq!(
+            more("--read-only --queues 256 --stats 5 --iommu --iotlb-limit 8"),
+            wanted
+        );
+    }
+
+    #[test]
+    fn words_say_how_the_image_is_read() {
+        let wanted = Options {
             depth: 1024,
             any_order: true,
             drain: Duration::ZERO,
             is_direct: true,
-            ..usual
+            poll: Duration::from_micros(32),
+            ..more("")
         };
-        assert_eq!(options(&[&asked[..], &more].concat()), wanted);
+        assert_eq!(more("--depth 1024 --any-order --drain 0 --direct --poll 32"), wanted);
+        for (word, wanted) in [("io_uring", Aio::Uring), ("threads", Aio::Threads), ("none", Aio::None)] {
+            assert_eq!(more(&format!("--aio {word}")).aio, Some(wanted));
+        }
+    }
+
+    #[test]
+    fn words_are_texts() {
         for (word, wanted) in [
             ("--help", Asked::Text(USAGE)),
             ("-h", Asked::Text(USAGE)),
@@ -299,16 +330,12 @@ mod tests {
     // QEMU's names, and values after a =, of which the first one counts.
     #[test]
     fn words_are_those_of_back_ends() {
-        let asked = ["--socket", "s", "--image", "i"];
         let it = options(&["--socket-path=a=b", "--blk-file=/i", "--read-only", "--no-lock"]);
         assert_eq!((it.source, it.image), (Source::Path("a=b".into()), "/i".into()));
         assert!(it.read_only && !it.is_locked && it.iotlb_limit.is_none());
         let it = options(&["--fd=3", "--image", "--x=y", "--queues=2", "--write-through", "--iommu"]);
         assert_eq!((it.source, it.image), (Source::Descriptor(3), "--x=y".into()));
         assert_eq!((it.queues, it.write_through, it.iotlb_limit), (2, true, Some(65_536)));
-        for (word, wanted) in [("io_uring", Aio::Uring), ("threads", Aio::Threads), ("none", Aio::None)] {
-            assert_eq!(options(&[&asked[..], &["--aio", word]].concat()).aio, Some(wanted));
-        }
         let it = options(&["--fd", "2147483647", "--blk-file", "i"]);
         assert_eq!(it.source, Source::Descriptor(i32::MAX));
         // Words that are no options do not matter then.
@@ -340,14 +367,6 @@ mod tests {
                 &["--socket", "s", "--image", "i", "--iotlb-limit", "8"],
                 "--iotlb-limit needs --iommu",
             ),
-            (&["--depth", "0"], "--depth takes a number from 1 to 1024, not 0"),
-            (&["--depth=1025"], "--depth takes a number from 1 to 1024, not 1025"),
-            (&["--drain", "-1"], "--drain takes a number from 0 to 86400, not -1"),
-            (
-                &["--direct", "--aio=none", "--socket=s", "--image=i"],
-                "--direct is not with --aio none",
-            ),
-            (&["--aio", "uring"], "--aio takes io_uring, threads or none, not uring"),
             (&["--stats", "x"], "--stats takes a number from 1 to 86400, not x"),
             (&["--fd=2"], "--fd takes a number from 3 to 2147483647, not 2"),
             (
@@ -357,6 +376,26 @@ mod tests {
             (
                 &["--fd=3", "--socket=s", "--image=i"],
                 "--fd takes the place of --socket",
+            ),
+        ] {
+            assert_eq!(parse(words), Err(said.to_owned()));
+        }
+    }
+
+    #[test]
+    fn wrong_words_for_the_image_are_named() {
+        for (words, said) in [
+            (&["--depth", "0"][..], "--depth takes a number from 1 to 1024, not 0"),
+            (&["--depth=1025"], "--depth takes a number from 1 to 1024, not 1025"),
+            (&["--drain", "-1"], "--drain takes a number from 0 to 86400, not -1"),
+            (
+                &["--direct", "--aio=none", "--socket=s", "--image=i"],
+                "--direct is not with --aio none",
+            ),
+            (&["--aio", "uring"], "--aio takes io_uring, threads or none, not uring"),
+            (
+                &["--poll", "1000001"],
+                "--poll takes a number from 0 to 1000000, not 1000001",
             ),
         ] {
             assert_eq!(parse(words), Err(said.to_owned()));

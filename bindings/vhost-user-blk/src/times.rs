@@ -29,7 +29,7 @@ fn range_of(time: u64) -> usize {
     let time = time.max(1);
     let power = u64::from(time.ilog2());
     // The bits after the first one.
-    let part = (u128::from(time) * u128::from(PARTS) >> power) as u64 - PARTS;
+    let part = ((u128::from(time) * u128::from(PARTS)) >> power) as u64 - PARTS;
     (power * PARTS + part) as usize
 }
 

@@ -260,6 +260,33 @@ fn what_is_under_way_is_said_with_times() {
     assert!(program.has_said(" us, 99 of 100 within ") || program.has_said(" ns, 99 of 100 within "));
 }
 
+// Once requests come soon it looks for them: the last one is not notified. Then it sleeps.
+#[test]
+fn a_ring_is_looked_at_for_a_while() {
+    for (name, words) in [
+        ("poll", &["--poll=1000000"][..]),
+        ("poll_threads", &["--poll=1000000", "--aio=threads"]),
+        ("poll_none", &["--poll=1000000", "--aio=none"]),
+    ] {
+        let program = Program::start(name, LEN, words);
+        let mut front = started(&program, 1);
+        // The time doubles with each until it finds the next one: these are enough for 50 ms.
+        for _ in 0..20 {
+            front.read_disk(0, 1, 512);
+            sleep(millis(50));
+        }
+        front.read_disk(0, 1, 512);
+        front.put_request(0, 0, 0, 5, 512);
+        front.publish(0, 0);
+        assert_eq!(front.take_used(0), (0, 513));
+        assert!(front.read(front.places(0, 0).0, 512) == read_of(5, 512));
+        sleep(millis(2500));
+        let worked = program.processor_time();
+        sleep(millis(500));
+        assert!(program.processor_time() - worked < 50_000_000, "it does not sleep");
+    }
+}
+
 // ---- ends of the program, and of front ends
 
 #[test]
