@@ -7,7 +7,7 @@
 use crate::back_end::{Part, PartEnd, Way};
 use std::collections::VecDeque;
 
-// The turns that rings may take in a run, at least.
+// The turns that rings may take in a run.
 const TURNS: u32 = 2;
 
 // While requests with so many bytes are under way, for all of which a message may wait, rings have a turn only if they
@@ -112,8 +112,8 @@ pub(crate) struct AtOnce {
     // How many bytes of requests were not moved, and how many pieces are under way.
     bytes: u64,
     pieces: u64,
-    // A request was returned, and rings had no turn since then.
-    owes: bool,
+    // So many turns, one of which is that of a ring that owes its driver an interrupt.
+    owed: u32,
     is_closed: bool,
 }
 
@@ -126,7 +126,7 @@ impl AtOnce {
             due: Vec::new(),
             bytes: 0,
             pieces: 0,
-            owes: false,
+            owed: 0,
             is_closed: false,
         }
     }
@@ -143,13 +143,10 @@ impl AtOnce {
 
     /// What the next run is told: the ends of parts, and how many turns rings may take.
     pub(crate) fn told(&self) -> (&[PartEnd], u32) {
-        // Each ring has one, so each that owes an interrupt does.
-        let rings = self.rings.len() as u32;
         let turns = match self.bytes < MOST_BYTES {
             _ if self.is_closed || self.pieces >= MOST_PIECES => 0,
-            true => rings.max(TURNS),
-            false if self.owes => rings,
-            false => 0,
+            true => TURNS,
+            false => self.owed.min(TURNS),
         };
         (&self.ends, turns)
     }
@@ -157,7 +154,7 @@ impl AtOnce {
     /// A run took so many ends, and rings had their turns or not. What follows from an end is given by this run, or if
     /// that had no room, by the next one.
     pub(crate) fn taken(&mut self, ends: usize, had_turns: bool) {
-        self.owes &= !had_turns;
+        self.owed = self.owed.saturating_sub(if had_turns { TURNS } else { 0 });
         for end in self.ends.drain(..ends) {
             if let Some(request) = request_of(&mut self.rings, end.ring, end.id) {
                 request.runs = Some(0);
@@ -260,7 +257,8 @@ impl AtOnce {
 
     fn return_by(&mut self, end: PartEnd) {
         self.ends.push(end);
-        self.owes = true;
+        // Each ring has its turn, since nothing says which is in which place of the line.
+        self.owed = self.rings.len() as u32;
     }
 
     // The last ends of the requests that a ring began first are told.
@@ -432,20 +430,22 @@ mod tests {
     fn rings_have_few_turns_while_much_is_under_way() {
         let turns = |parts: &AtOnce| parts.told().1;
         let mut parts = AtOnce::new(3);
-        assert_eq!(turns(&parts), 3);
+        assert_eq!(turns(&parts), TURNS);
         // A request of 64 MiB counts from its first part on.
         let first = begun(&mut parts, &part(0, 0, PART, false, 63));
         assert_eq!(turns(&parts), 0);
         let short = begun(&mut parts, &part(1, 0, 512, false, 0));
         parts.end(&short, true);
-        assert_eq!(turns(&parts), 3);
-        // There was no room for turns in this run.
+        assert_eq!(turns(&parts), TURNS);
+        // There was no room for turns in this run. Then each of three rings has one.
         parts.taken(1, false);
-        assert_eq!(turns(&parts), 3);
+        assert_eq!(turns(&parts), TURNS);
+        parts.taken(0, true);
+        assert_eq!(turns(&parts), 1);
         parts.taken(0, true);
         assert_eq!(turns(&parts), 0);
         parts.end(&first, true);
-        assert_eq!(turns(&parts), 3);
+        assert_eq!(turns(&parts), TURNS);
         parts.close();
         assert_eq!(turns(&parts), 0);
         // So many pieces leave none in any case.
@@ -460,7 +460,7 @@ mod tests {
                 ..many
             },
         );
-        parts.owes = true;
+        parts.owed = 1;
         assert_eq!(turns(&parts), 0);
         parts.end(&ticket, true);
         assert_eq!(turns(&parts), TURNS);

@@ -30,12 +30,13 @@ has then. A value may also follow a =, as in --fd=3.
   --queues N        the number of queues, 1 to 256; the default is 1
   --iommu           the guest may have an IOMMU: ACCESS_PLATFORM is offered
   --iotlb-limit N   with --iommu: how many I/O ranges are kept, 8 to 65536; the default is 65536
-  --stats SECONDS   prints requests, bytes and errors this often, and at the end of a connection
+  --stats SECONDS   prints requests, bytes, errors, what is under way, and how long parts took since the last time, this
+                    often and at the end of a connection
   --aio WAY         how FILE is read and written: io_uring or threads serve many requests at once, and none one after
                     another; the default is the first of these that the system allows
   --depth N         how many requests of each queue are under way at once, 1 to 1024; the default is 128
-  --any-order       requests may always complete in any order, and not only if a front end keeps those in flight or the
-                    ring is packed: if the program is killed, a guest may lose requests
+  --any-order       all requests complete in any order, not only those of packed rings and of front ends that keep what
+                    is in flight: if the program is killed, a guest may lose some
   --drain SECONDS   how long the end waits for what is under way, 0 to 86400; the default is 10
   --direct          reads and writes past the page cache (O_DIRECT); not with --aio none
   --poll MICROSECONDS

@@ -208,6 +208,21 @@ fn a_program_sleeps_while_requests_wait() {
 }
 
 #[test]
+fn a_program_sleeps_after_threads_served() {
+    let Some((program, _faults)) = slow("threads_asleep", millis(20), &[]) else {
+        return;
+    };
+    let mut front = started(&program, 1);
+    for _ in 0..5 {
+        front.read_disk(0, SLOW, 512);
+    }
+    let worked = program.processor_time();
+    sleep(millis(400));
+    let worked = program.processor_time() - worked;
+    assert!(worked < 50_000_000, "it worked for {worked} ns");
+}
+
+#[test]
 fn no_flush_succeeds_while_another_one_fails() {
     for is_failing in [false, true] {
         let Some((program, faults)) = slow(&format!("flushes_{is_failing}"), millis(1), &["--queues=2"]) else {

@@ -96,6 +96,30 @@ fn bytes_are_moved_where_they_belong() {
     }
 }
 
+// Vectors before the first one that counts stay, and a call takes 1,024 of them.
+#[test]
+fn vectors_from_one_on_are_moved() {
+    let (_file, all) = systems("from");
+    for (name, mut system) in all {
+        for from in [1, 2] {
+            let asked = job(What::Read, 1000, &[512, 300, 200]);
+            system.begin(0, Job { from, ..asked });
+            system.submit().unwrap();
+            let (_, read, count) = next(&mut *system);
+            let len = [500, 200][from - 1];
+            assert_eq!(count.unwrap(), len, "{name}");
+            let wanted = [vec![7; 1012 - len], bytes_at(1000, len)].concat();
+            assert!(system::bytes_of(&read.vectors) == wanted, "{name}");
+        }
+        system.begin(0, job(What::Read, 0, &[1; 1030]));
+        system.submit().unwrap();
+        let (_, read, count) = next(&mut *system);
+        assert_eq!(count.unwrap(), 1024, "{name}");
+        let wanted = [bytes_at(0, 1024), vec![7; 6]].concat();
+        assert!(system::bytes_of(&read.vectors) == wanted, "{name}");
+    }
+}
+
 #[test]
 fn errors_are_those_of_the_system() {
     let (_file, all) = systems("errors");
