@@ -201,6 +201,17 @@ mod tests {
     }
 
     #[test]
+    fn a_disk_has_whole_blocks() {
+        let blocks = |disk| Blocks { memory: 512, disk };
+        for (sectors, disk, is_whole) in [(9, 512, true), (8, 4096, true), (9, 4096, false), (15, 4096, false)] {
+            let done = expect_whole(sectors, blocks(disk));
+            assert_eq!(done.is_ok(), is_whole, "{sectors} {disk}");
+        }
+        let text = expect_whole(9, blocks(4096)).unwrap_err().to_string();
+        assert_eq!(text, "--direct: its 9 sectors are no whole blocks of 4096 bytes");
+    }
+
+    #[test]
     fn after_a_sync_that_failed_no_flush_succeeds() {
         // The system would succeed again: it has dropped the data.
         SYNCS.set(vec![None, Some(libc::EIO), None]);

@@ -9,6 +9,7 @@ use std::fs::{self, File};
 use std::os::unix::process::CommandExt;
 use std::path::Path;
 use std::process::{Command, Stdio};
+use std::sync::atomic::Ordering::SeqCst;
 use std::thread::sleep;
 use std::time::{Duration, Instant};
 
@@ -98,6 +99,73 @@ fn requests_of_a_ring_without_a_region_end_in_order() {
         ask(&mut front, 0, 0, 0, SLOW);
         ask(&mut front, 0, 3, 11, 0);
         assert_eq!([0; 2].map(|_| front.take_used(0).0), [3, 0]);
+    }
+}
+
+// Has a read of a sector begin in a packed ring, in its first round, in three slots from one on.
+fn ask_packed(front: &mut FrontEnd, slot: u16, sector: u64) {
+    const AVAIL: u16 = 0x80;
+    let (data, status) = front.places(0, slot);
+    let header = data - 0x1000;
+    front.write(header, &[&[0; 8][..], &sector.to_le_bytes()].concat());
+    let table = front.parts(0).0 + 16 * usize::from(slot);
+    let parts = [(header, 16_u32, 1), (data, 512, 3), (status, 1, 2)];
+    // The first one counts last.
+    for (at, (addr, len, flags)) in parts.into_iter().enumerate().rev() {
+        let bytes = [
+            &(addr as u64).to_le_bytes()[..],
+            &len.to_le_bytes(),
+            &slot.to_le_bytes(),
+        ];
+        front.write(table + 16 * at, &bytes.concat());
+        front.word(table + 16 * at + 14).store(flags | AVAIL, SeqCst);
+    }
+    front.kick(0);
+}
+
+// The id in a slot of a packed ring that is used in the first round.
+fn used_packed(front: &FrontEnd, slot: u16) -> u16 {
+    const BOTH: u16 = 0x8080;
+    let at = front.parts(0).0 + 16 * usize::from(slot);
+    wait_for("no request comes back", || {
+        front.word(at + 14).load(SeqCst) & BOTH == BOTH
+    });
+    front.word(at + 12).load(SeqCst)
+}
+
+// The position of a packed ring does not say what is out, so no order would help a later program.
+#[test]
+fn requests_of_a_packed_ring_end_in_any_order() {
+    let Some((program, faults)) = slow("order_packed", millis(300), &[]) else {
+        return;
+    };
+    let mut front = program.connect();
+    front.negotiate(USUAL | RING_PACKED);
+    front.set_memory();
+    front.start_packed_ring(SIZE, 0x8000_8000);
+    ask_packed(&mut front, 0, SLOW);
+    expect_slow(&faults, 1);
+    ask_packed(&mut front, 3, 1);
+    assert_eq!([0, 3].map(|slot| used_packed(&front, slot)), [3, 0]);
+}
+
+// The second ring has no part of the region.
+#[test]
+fn a_ring_beside_the_region_ends_in_order() {
+    let Some((program, faults)) = slow("order_part", millis(300), &["--queues=2"]) else {
+        return;
+    };
+    let mut front = program.connect();
+    front.negotiate(USUAL | BLK_MQ);
+    let region = front.new_region(1, SIZE);
+    set_up(&mut front, USUAL, Some(&region));
+    for ring in 0..2 {
+        front.start_ring(SIZE, 0);
+        ask(&mut front, ring, 0, 0, SLOW);
+        expect_slow(&faults, 1);
+        ask(&mut front, ring, 3, 0, 1);
+        let heads = [0; 2].map(|_| front.take_used(ring).0);
+        assert_eq!(heads, [[3, 0], [0, 3]][ring]);
     }
 }
 
