@@ -4,7 +4,8 @@ mod front_end;
 
 use front_end::load::{started, Load};
 use front_end::*;
-use std::fs;
+use std::fs::{self, File};
+use std::os::fd::AsRawFd;
 use std::os::unix::fs::symlink;
 use std::path::{Path, PathBuf};
 use std::process::{Command, Stdio};
@@ -117,7 +118,7 @@ fn memory_that_goes_away_ends_the_connection() {
     for kind in [0, 1] {
         let mut front = started(&program, 1);
         front.put_long(0, kind, 8, &[((12 << 20) + 5, 4096)]);
-        fs::File::from(again(&front.ram)).set_len(10 << 20).unwrap();
+        File::from(again(&front.ram)).set_len(10 << 20).unwrap();
         front.publish(0, 0);
         front.kick(0);
         assert!(front.is_let_go());
@@ -184,5 +185,72 @@ fn sectors_are_parts_of_large_blocks() {
         assert!(program.end(libc::SIGTERM).success());
         drop(device);
         assert!(fs::read(&file).unwrap() == disk, "{name}");
+    }
+}
+
+// A control group whose processes write a few times a second to a device, if this process may make one.
+struct Throttle(PathBuf);
+
+impl Throttle {
+    fn new(device: &str, name: &str) -> Option<Throttle> {
+        let group = Path::new("/sys/fs/cgroup/blkio").join(name);
+        fs::create_dir_all(&group).ok()?;
+        let throttle = Throttle(group);
+        let name = Path::new(device).file_name()?.to_str()?;
+        let numbers = fs::read_to_string(format!("/sys/block/{name}/dev")).ok()?;
+        let limit = format!("{} 40", numbers.trim());
+        fs::write(throttle.0.join("blkio.throttle.write_iops_device"), limit).ok()?;
+        Some(throttle)
+    }
+
+    fn add(&self, program: &Program) {
+        fs::write(self.0.join("cgroup.procs"), program.pid().to_string()).unwrap();
+    }
+}
+
+impl Drop for Throttle {
+    fn drop(&mut self) {
+        let _ = fs::remove_dir(&self.0);
+    }
+}
+
+// The system goes on with the writes of a program that was killed, and holds its lock until the last one ended.
+#[test]
+fn whoever_has_the_lock_sees_no_late_write() {
+    for (name, way) in [
+        ("direct_late", "--aio=io_uring"),
+        ("direct_late_threads", "--aio=threads"),
+    ] {
+        let folder = Program::prepare(name, LEN);
+        let (image, file) = (folder.join("disk.img"), folder.join("file"));
+        fs::rename(&image, &file).unwrap();
+        let device = Loop::new(&file);
+        let throttle = device.as_ref().and_then(|it| Throttle::new(&it.0, name));
+        let (Some(device), Some(throttle)) = (device, throttle) else {
+            println!("{name} is left out: there is no slow disk");
+            return;
+        };
+        symlink(&device.0, &image).unwrap();
+        let program = Program::start_again(&folder, &["--direct", way]);
+        throttle.add(&program);
+        let mut front = started(&program, 1);
+        for place in 0..20 {
+            front.put_request(0, 3 * place, 1, 8 * u64::from(place), 4096);
+            front.write(front.places(0, 3 * place).0, &[0xee; 4096]);
+            front.publish(0, 3 * place);
+        }
+        front.kick(0);
+        front.take_used(0);
+        let other = File::open(&device.0).unwrap();
+        assert!(program.end(libc::SIGKILL).code().is_none());
+        let came = front.used_idx(0);
+        // SAFETY: it takes numbers.
+        assert_eq!(unsafe { libc::flock(other.as_raw_fd(), libc::LOCK_EX) }, 0);
+        let seen = fs::read(&file).unwrap();
+        std::thread::sleep(std::time::Duration::from_millis(1500));
+        assert!(fs::read(&file).unwrap() == seen, "{name}: a write comes after the lock");
+        let written = seen.chunks(4096).filter(|it| **it == [0xee; 4096]).count();
+        assert!(came < 20 && written >= usize::from(came), "{came} of {written}");
+        println!("{name}: {came} came back, {written} were written");
     }
 }

@@ -208,6 +208,13 @@ fn a_block_is_changed_by_one_write_at_once() {
         }
         assert!(trial.state.borrow().bytes == disk, "{kinds:?}");
     }
+    // A write that waits is not overtaken by those that would have it wait on.
+    let mut trial = Trial::new();
+    for (id, len) in [BLOCK, 512, BLOCK].into_iter().enumerate() {
+        trial.begin(id as u32, What::Write, 0, system::vectors_after(&[len], 0));
+        assert_eq!(trial.state.borrow().under_way.len(), 1);
+    }
+    trial.end_all();
     // Writes of whole blocks wait for none.
     let mut trial = Trial::new();
     for id in 0..5 {
