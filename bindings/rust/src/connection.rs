@@ -317,8 +317,8 @@ impl<'a> Connection<'a> {
             }
         }
         self.run(device)?;
-        let has_done = |room: &Room| room.actions().next().is_some() || room.has_more();
-        Ok(self.room.as_deref().is_some_and(has_done))
+        let has_actions = |room: &Room| room.actions().next().is_some();
+        Ok(self.has_more || self.parts.has_ends() || self.room.as_deref().is_some_and(has_actions))
     }
 
     fn run_once(&mut self, device: &mut impl Device) -> Result<(), Ended> {

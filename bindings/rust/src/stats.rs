@@ -18,7 +18,7 @@ pub struct Stats {
     pub flushes: u64,
     /// Other requests.
     pub others: u64,
-    /// How often the disk was made stable, by a flush or after a write.
+    /// How often the disk was to be made stable, by a flush or after a write: one sync may serve several.
     pub syncs: u64,
     /// Requests that failed.
     pub errors: u64,

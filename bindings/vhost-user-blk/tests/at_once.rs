@@ -254,20 +254,26 @@ fn so_many_requests_of_a_ring_are_under_way() {
 // Two requests of 128 MiB are under way, and a third one has no turn.
 #[test]
 fn a_program_sleeps_while_requests_wait() {
-    let Some((program, faults)) = slow("asleep", millis(1000), &[]) else {
-        return;
-    };
+    for (name, words) in [("asleep", &[][..]), ("asleep_poll", &["--poll=1000"])] {
+        let Some((program, faults)) = slow(name, millis(1000), words) else {
+            return;
+        };
+        expect_sleep(&program, &faults);
+    }
+}
+
+fn expect_sleep(program: &Program, faults: &Faults) {
     let image = File::options().write(true).open(&program.image).unwrap();
     image.set_len(256 << 20).unwrap();
     program.signal(libc::SIGHUP);
     program.expect_said("sectors now");
-    let mut front = started(&program, 1);
+    let mut front = started(program, 1);
     for head in 0..3 {
         front.put_long(head, 0, SLOW, &[(8 << 20, 4 << 20); 32]);
         front.publish(0, head);
     }
     front.kick(0);
-    expect_slow(&faults, 2);
+    expect_slow(faults, 2);
     let worked = program.processor_time();
     sleep(millis(600));
     let worked = program.processor_time() - worked;
