@@ -46,9 +46,9 @@ struct Through {
     step: Step,
 }
 
-// A write that is under way, or waits: its blocks, and whether it wants them alone.
+// A write that is under way: its blocks, and whether it has them alone.
+#[derive(Clone)]
 struct Write {
-    number: usize,
     blocks: Range<u64>,
     is_alone: bool,
 }
@@ -60,8 +60,10 @@ pub struct Direct {
     free: Vec<usize>,
     // By the numbers of jobs.
     through: Vec<Option<Through>>,
-    writes: Vec<Write>,
+    writes: Vec<Option<Write>>,
     waiting: VecDeque<(usize, Job)>,
+    // How many writes want their blocks alone, of those that are under way and those that wait.
+    alone: usize,
 }
 
 fn len_of(vectors: &Vectors) -> u64 {
@@ -78,6 +80,7 @@ impl Direct {
             through: Vec::new(),
             writes: Vec::new(),
             waiting: VecDeque::new(),
+            alone: 0,
         })
     }
 
@@ -101,7 +104,7 @@ impl Direct {
 
     // Whether no write that is under way, or that waits before a place in the line, is to end before a job begins.
     fn may_begin(&self, job: &Job, before: usize) -> bool {
-        if job.what != What::Write {
+        if job.what != What::Write || self.alone == 0 {
             return true;
         }
         let (blocks, is_alone) = (self.blocks_of(job), !self.is_whole(job));
@@ -109,12 +112,14 @@ impl Direct {
             !(is_alone || has_alone) || other.end <= blocks.start || blocks.end <= other.start
         };
         let mut waiting = self.waiting.iter().take(before).filter(|it| it.1.what == What::Write);
-        self.writes.iter().all(|it| is_apart(&it.blocks, it.is_alone))
+        let mut writes = self.writes.iter().flatten();
+        writes.all(|it| is_apart(&it.blocks, it.is_alone))
             && waiting.all(|(_, it)| is_apart(&self.blocks_of(it), !self.is_whole(it)))
     }
 
     /// Takes a job, and returns what the system is asked for now, if that is anything. It fails if guest memory does.
     pub fn begin(&mut self, number: usize, job: Job) -> io::Result<Option<Job>> {
+        self.alone += usize::from(job.what == What::Write && !self.is_whole(&job));
         if self.has_room(&job) && self.may_begin(&job, usize::MAX) {
             return self.start(number, job).map(Some);
         }
@@ -135,18 +140,18 @@ impl Direct {
     }
 
     fn start(&mut self, number: usize, job: Job) -> io::Result<Job> {
+        if self.writes.len() <= number {
+            self.writes.resize(number + 1, None);
+            self.through.resize_with(number + 1, || None);
+        }
         if job.what == What::Write {
-            self.writes.push(Write {
-                number,
+            self.writes[number] = Some(Write {
                 blocks: self.blocks_of(&job),
                 is_alone: !self.is_whole(&job),
             });
         }
         if self.fits(&job) {
             return Ok(job);
-        }
-        if self.through.len() <= number {
-            self.through.resize_with(number + 1, || None);
         }
         let step = match job.what {
             What::Read => Step::Give,
@@ -211,7 +216,9 @@ impl Direct {
 
     /// A job has ended.
     pub fn forget(&mut self, number: usize) {
-        self.writes.retain(|it| it.number != number);
+        if let Some(it) = self.writes.get_mut(number).and_then(Option::take) {
+            self.alone -= usize::from(it.is_alone);
+        }
         if let Some(it) = self.through.get_mut(number).and_then(Option::take) {
             self.free.push(it.buffer);
         }
