@@ -570,6 +570,7 @@ fn each_byte_is_where_it_belongs() {
         ("load_shallow", &["--queues=4", "--depth=2"], false),
         ("load_threads", &["--queues=4", "--aio=threads"], false),
         ("load_faults", &["--queues=4", "--aio=threads"], true),
+        ("load_refused", &["--queues=4"], true),
     ] {
         let folder = Program::prepare(name, LEN);
         let faults = has_faults.then(|| Faults::new(&folder, u64::MAX)).flatten();
@@ -582,6 +583,8 @@ fn each_byte_is_where_it_belongs() {
         load.go(300);
         assert_eq!(load.front.request(0, 4, 0, 0), (0, 1));
         assert!(fs::read(&program.image).unwrap() == load.disk, "{name}");
+        let submits = faults.as_ref().map_or(u64::MAX, Faults::submits);
+        assert!(submits > 50 || !program.has_said("by io_uring"), "{name}: {submits}");
         drop(load);
         assert!(program.end(libc::SIGTERM).success());
     }

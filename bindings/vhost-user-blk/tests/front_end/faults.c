@@ -1,8 +1,11 @@
 // A disk that fails: it is loaded in front of the C library. Reads and writes are short or interrupted, from a place on
-// they fail or take long, and syncs are counted. The test shares a file with these numbers.
+// they fail or take long, and syncs are counted. Rings of the system take nothing now and then. The test shares a file
+// with these numbers.
 #define _GNU_SOURCE
+#include <dlfcn.h>
 #include <errno.h>
 #include <fcntl.h>
+#include <stdarg.h>
 #include <stdatomic.h>
 #include <stdint.h>
 #include <stdlib.h>
@@ -17,6 +20,8 @@ struct faults {
     _Atomic uint64_t is_whole, slow_from, slow_time, sync_time;
     // So many reads and writes are under way there, and were at most.
     _Atomic uint64_t under_way, most;
+    // So many calls submitted to a ring.
+    _Atomic uint64_t submits;
 };
 
 static struct faults *faults(void) {
@@ -124,4 +129,22 @@ int fdatasync(int file) {
         return -1;
     }
     return syscall(SYS_fdatasync, file);
+}
+
+long syscall(long number, ...) {
+    long (*next)(long, ...) = (long (*)(long, ...))dlsym(RTLD_NEXT, "syscall");
+    long words[6];
+    va_list list;
+    va_start(list, number);
+    for (int i = 0; i < 6; i++)
+        words[i] = va_arg(list, long);
+    va_end(list);
+    if (number == SYS_io_uring_enter) {
+        uint64_t turn = atomic_fetch_add(&faults()->submits, 1);
+        if (turn % 2) {
+            errno = turn % 4 == 1 ? EINTR : EAGAIN;
+            return -1;
+        }
+    }
+    return next(number, words[0], words[1], words[2], words[3], words[4], words[5]);
 }

@@ -65,6 +65,11 @@ impl Faults {
         self.map.word(56).store(time.as_micros() as u64, SeqCst);
     }
 
+    /// How often the rings of the system were asked.
+    pub fn submits(&self) -> u64 {
+        self.map.word(80).load(SeqCst)
+    }
+
     /// How many slow reads and writes are under way, and were at most.
     pub fn slow(&self) -> [u64; 2] {
         [64, 72].map(|at| self.map.word(at).load(SeqCst))
