@@ -338,7 +338,9 @@ fn what_is_under_way_is_said_with_times() {
         front.take_used(0);
     }
     program.expect_said("under way: 0; 2 reads, writes and flushes took: least 1.3 s, middle 1.");
-    // One of many does not count, and the time begins again.
+    // They are told once.
+    program.expect_said("under way: 0\n");
+    // One of many does not count.
     for _ in 0..300 {
         front.read_disk(0, 1, 512);
     }
