@@ -268,6 +268,10 @@ fn expect_sleep(program: &Program, faults: &Faults) {
     program.signal(libc::SIGHUP);
     program.expect_said("sectors now");
     let mut front = started(program, 1);
+    // It looks for a while after requests that come soon.
+    for _ in 0..20 {
+        front.read_disk(0, 1, 512);
+    }
     for head in 0..3 {
         front.put_long(head, 0, SLOW, &[(8 << 20, 4 << 20); 32]);
         front.publish(0, head);
