@@ -254,7 +254,7 @@ fn so_many_requests_of_a_ring_are_under_way() {
 // Two requests of 128 MiB are under way, and a third one has no turn.
 #[test]
 fn a_program_sleeps_while_requests_wait() {
-    for (name, words) in [("asleep", &[][..]), ("asleep_poll", &["--poll=1000"])] {
+    for (name, words) in [("asleep", &[][..]), ("asleep_poll", &["--poll=1000000"])] {
         let Some((program, faults)) = slow(name, millis(1000), words) else {
             return;
         };
