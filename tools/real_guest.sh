@@ -15,8 +15,9 @@
 # The guest is Debian's kernel with an initial RAM disk of busybox, made here: tools/real_guest_init.sh is its first
 # process. QEMU emulates the processor, so no KVM is needed.
 #
-# VHOST_USER_BLK names the program (without it cargo builds it), QEMU names QEMU, and REAL_GUEST_SECONDS is how long a
-# guest may take. A guest that waits for what does not come fails before that, and one that is only slow does not fail.
+# VHOST_USER_BLK names the program (without it cargo builds it), REAL_GUEST_WORDS has more options for it, as --direct
+# or --aio threads, QEMU names QEMU, and REAL_GUEST_SECONDS is how long a guest may take. A guest that waits for what
+# does not come fails before that, and one that is only slow does not fail.
 #
 # QEMU 7.2 seems to forget some pages that emulated processors wrote, each time it looks for such pages while a guest
 # moves: with QEMU's own device the guest crashed, too, and with QEMU 10.0 it did not. So QEMU looks once before the
@@ -153,7 +154,7 @@ start_backend() {
     rm -f "$room/socket$part"
     # shellcheck disable=SC2086
     "$VHOST_USER_BLK" --socket "$room/socket$part" --image "$room/disk.img" --stats 5 ${part:+--no-lock} \
-        ${iommu:+--iommu} $backend >> "$room/backend" 2>&1 &
+        ${iommu:+--iommu} $backend ${REAL_GUEST_WORDS:-} >> "$room/backend" 2>&1 &
     backend_pid=$!
     echo "$backend_pid" > "$room/pid"
     starts=$((starts + 1))

@@ -283,6 +283,7 @@ pub(crate) mod raw {
     }
 
     pub(crate) const UNMAP_ALL: u32 = 2;
+    pub(crate) const MARK: u32 = 9;
 }
 
 // A part of a file.
@@ -323,14 +324,22 @@ struct Mapped {
     // It goes before its mapping does, since fields are dropped in order.
     guard: Guard,
     mapping: Mapping,
+    // The same bytes once more, which nothing replaces if the memory goes away.
+    apart: Option<Mapping>,
 }
 
 impl Mapped {
-    fn new(part: FilePart, file: BorrowedFd<'_>) -> Result<Mapped, SharedBlockError> {
+    fn new(part: FilePart, file: BorrowedFd<'_>, is_apart: bool) -> Result<Mapped, SharedBlockError> {
         let len = usize::try_from(part.len).map_err(|_| SharedBlockError::FileShort)?;
-        let mapping = Mapping::of_file(len, file, part.offset).map_err(SharedBlockError::NotMapped)?;
+        let map = || Mapping::of_file(len, file, part.offset).map_err(SharedBlockError::NotMapped);
+        let (mapping, apart) = (map()?, is_apart.then(map).transpose()?);
         let guard = Guard::new(mapping.whole()).map_err(SharedBlockError::NotMapped)?;
-        Ok(Mapped { part, guard, mapping })
+        Ok(Mapped {
+            part,
+            guard,
+            mapping,
+            apart,
+        })
     }
 }
 
@@ -348,6 +357,7 @@ pub struct BackEnd {
     pub(crate) log: Option<Log>,
     pub(crate) vectors: Vectors,
     pub(crate) lacks_memory: bool,
+    is_apart: bool,
 }
 
 impl BackEnd {
@@ -363,7 +373,13 @@ impl BackEnd {
             log: None,
             vectors: Vectors::default(),
             lacks_memory: false,
+            is_apart: false,
         })
+    }
+
+    /// From now on regions are mapped twice, for [`pieces_apart`](BackEnd::pieces_apart). None is there yet.
+    pub fn keep_apart(&mut self) {
+        self.is_apart = true;
     }
 
     /// Takes a whole message, and how many descriptors came with it, which are kept until its actions are done. It is
@@ -383,7 +399,7 @@ impl BackEnd {
         }
         let mapped = match self.before.iter().position(|other| other.part == part) {
             Some(place) => self.before.swap_remove(place),
-            None => Mapped::new(part, file)?,
+            None => Mapped::new(part, file, self.is_apart)?,
         };
         if self.device.mapped(&mapped.mapping) == 0 {
             self.regions.push(mapped);
@@ -398,7 +414,7 @@ impl BackEnd {
         if self.regions.iter().any(|it| it.part.shares(&part)) {
             return Err(SharedBlockError::Shared);
         }
-        let mapped = Mapped::new(part, file)?;
+        let mapped = Mapped::new(part, file, false)?;
         self.device.track(&mapped.mapping);
         // The library has let go of the one before.
         self.tracked = Some(mapped);
@@ -410,6 +426,13 @@ impl BackEnd {
     #[inline]
     pub fn region(&self, number: u64) -> Option<(*mut u8, usize)> {
         let mapping = &self.regions.get(usize::try_from(number).ok()?)?.mapping;
+        Some((mapping.bytes().as_ptr(), mapping.len()))
+    }
+
+    /// Where they lie in the mapping that stays as it is if the memory goes away.
+    #[inline]
+    pub(crate) fn region_apart(&self, number: u64) -> Option<(*mut u8, usize)> {
+        let mapping = self.regions.get(usize::try_from(number).ok()?)?.apart.as_ref()?;
         Some((mapping.bytes().as_ptr(), mapping.len()))
     }
 

@@ -19,6 +19,7 @@ const RO: u64 = 1 << 5;
 const FLUSH: u64 = 1 << 9;
 const MQ: u64 = 1 << 12;
 const ACCESS_PLATFORM: u64 = 1 << 33;
+pub(crate) const RING_PACKED: u64 = 1 << 34;
 
 const FEATURES: [(u64, &str); 13] = [
     (1 << 1, "SIZE_MAX"),
@@ -33,7 +34,7 @@ const FEATURES: [(u64, &str); 13] = [
     (1 << 30, "PROTOCOL_FEATURES"),
     (1 << 32, "VERSION_1"),
     (ACCESS_PLATFORM, "ACCESS_PLATFORM"),
-    (1 << 34, "RING_PACKED"),
+    (RING_PACKED, "RING_PACKED"),
 ];
 
 /// A front end reads the device's configuration, of the protocol's features.

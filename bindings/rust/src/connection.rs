@@ -49,97 +49,29 @@
 //! # Ok::<(), Box<dyn std::error::Error>>(())
 //! ```
 
-use crate::back_end::{Action, BackEnd, Kept, Over, Part, Region, Room, State, TableCounts};
-use crate::block_device::CONFIG;
+pub use crate::at_once::Ticket;
+use crate::back_end::{Action, BackEnd, Kept, Over, Part, Region, Room, State, TableCounts, Way};
+use crate::block_device::{CONFIG, RING_PACKED};
 use crate::descriptor::Kind;
-use crate::in_order::InOrder;
+pub use crate::device::{Begun, Device, Event};
+pub use crate::ended::Ended;
 use crate::incoming::{self, Incoming};
 use crate::notify::{signal, Kick, Watchdog};
-use crate::pieces::Pieces;
+use crate::parts::Parts;
 use crate::shared::memfd;
 pub use crate::stats::Stats;
 use crate::vhost_user::{config_change, miss, Refusal, ANSWER_LEN, MAX_MESSAGE};
 use std::error::Error;
-use std::fmt;
 use std::fs::File;
 use std::io;
 use std::mem;
-use std::os::fd::{AsFd, BorrowedFd, OwnedFd};
+use std::os::fd::{AsFd, OwnedFd};
 use std::os::linux::net::SocketAddrExt;
 use std::os::unix::net::UnixStream;
 use std::time::Duration;
 
 // How often a ring is looked at whose driver has no descriptor to notify by.
 const POLL: Duration = Duration::from_millis(1);
-
-/// What a descriptor says when it can be read.
-#[derive(Clone, Copy, Debug, PartialEq, Eq)]
-pub enum Event {
-    /// A message came, or a part of one, or the end.
-    Socket,
-    /// The same on the back end's own channel.
-    Channel,
-    /// The driver of a ring notified: it is told once after each write, and what was written need not be read.
-    Kick(u32),
-}
-
-/// What serves the requests of a connection, and watches its descriptors.
-pub trait Device {
-    /// Serves a part of a request, whose bytes are these pieces of guest memory, before it returns. If it fails, the
-    /// request does.
-    fn serve(&mut self, part: &Part<'_>, pieces: Pieces<'_>) -> io::Result<()>;
-
-    /// Tells [`Connection::take`] what a descriptor says from now on.
-    fn watch(&mut self, descriptor: BorrowedFd<'_>, event: Event) -> io::Result<()>;
-
-    /// Watches a descriptor no more. Another process may have the same open file: it is not enough that it is closed.
-    fn unwatch(&mut self, descriptor: BorrowedFd<'_>);
-
-    /// A ring is started.
-    fn started(&mut self, _back_end: &BackEnd, _ring: u32) {}
-
-    /// A ring failed, and waits to be started again.
-    fn broke(&mut self, _ring: u32) {}
-}
-
-/// Why a connection ended.
-#[derive(Debug)]
-pub enum Ended {
-    /// The front end closed it.
-    Gone,
-    /// The program was asked to stop.
-    HungUp,
-    /// The front end broke the protocol, by a message of this number.
-    Refused(u32, Refusal),
-    /// What the front end asked for failed.
-    Failed(&'static str, Box<dyn Error>),
-    /// Guest memory went away.
-    MemoryLost,
-    /// A notification of the front end had to wait, which had it wait.
-    MadeToWait,
-}
-
-impl fmt::Display for Ended {
-    fn fmt(&self, f: &mut fmt::Formatter<'_>) -> fmt::Result {
-        match self {
-            Ended::Gone => f.write_str("the front end closed it"),
-            Ended::HungUp => f.write_str("the program was asked to stop"),
-            Ended::Refused(request, refusal) => write!(f, "message {request} breaks the protocol: {refusal}"),
-            Ended::Failed(what, error) => write!(f, "{what}: {error}"),
-            Ended::MemoryLost => f.write_str("guest memory disappeared"),
-            Ended::MadeToWait => f.write_str("a full descriptor of the front end made the program wait"),
-        }
-    }
-}
-
-impl Error for Ended {}
-
-impl Ended {
-    /// Names what failed.
-    pub fn failed<E: Into<Box<dyn Error>>>(what: &'static str) -> impl FnOnce(E) -> Ended {
-        move |error| Ended::Failed(what, error.into())
-    }
-}
 
 // How the driver of a ring notifies.
 #[derive(Default)]
@@ -181,7 +113,7 @@ pub struct Connection<'a> {
     has_more: bool,
     // It is not here while its actions are done.
     room: Option<Box<Room>>,
-    parts: InOrder,
+    parts: Parts,
     // The message that is under way, or what has come of the next one.
     incoming: Incoming,
     // Why what it asks for failed.
@@ -193,6 +125,10 @@ pub struct Connection<'a> {
     file: Option<OwnedFd>,
     // A notification had to wait. None is made after that.
     has_waited: bool,
+    // Requests of each ring may be returned in any order.
+    in_any_order: bool,
+    // So many rings have a part of the region of requests in flight.
+    tracked: u32,
     stats: Stats,
     // The front end may use its memory again once this is closed.
     socket: UnixStream,
@@ -217,7 +153,7 @@ impl<'a> Connection<'a> {
             state: State::Free,
             has_more: false,
             room: Some(Box::new(Room::try_new()?)),
-            parts: InOrder::new(rings.len()),
+            parts: Parts::in_order(rings.len()),
             incoming: Incoming::default(),
             failure: None,
             rings,
@@ -225,9 +161,27 @@ impl<'a> Connection<'a> {
             log_call: None,
             file: None,
             has_waited: false,
+            in_any_order: false,
+            tracked: 0,
             stats: Stats::default(),
             socket,
         })
+    }
+
+    /// From now on parts of many requests are under way at once, and [`Device::begin`] begins them. Nothing was told
+    /// before. Requests of a split ring without a region of requests in flight are returned in order, so that a later
+    /// program knows where to go on, unless `in_any_order`.
+    ///
+    /// The connection is dropped only after all that began has ended: guest memory is unmapped then.
+    pub fn serve_at_once(&mut self, in_any_order: bool) {
+        self.back_end.keep_apart();
+        self.in_any_order = in_any_order;
+        self.parts = Parts::at_once(self.rings.len());
+    }
+
+    /// No ring pops anything any more.
+    pub fn pop_no_more(&mut self) {
+        self.parts.close();
     }
 
     /// How long a program may wait for the next event before it calls [`run`](Connection::run), if not for as long as
@@ -273,6 +227,15 @@ impl<'a> Connection<'a> {
                 Ok(())
             }
         }
+    }
+
+    /// What began ended.
+    pub fn ended(&mut self, ticket: Ticket, done: io::Result<()>) {
+        if let Err(error) = &done {
+            self.back_end.look_for_loss(error);
+        }
+        self.stats.part(ticket.way(), ticket.len(), done.is_ok());
+        self.stats.errors += u64::from(self.parts.end(&ticket, done.is_ok()));
     }
 
     fn receive(&mut self) -> Result<(), Ended> {
@@ -329,6 +292,8 @@ impl<'a> Connection<'a> {
 
     /// Does all that is to be done now. After an error nothing more is to be done, and the connection is to be dropped.
     pub fn run(&mut self, device: &mut impl Device) -> Result<(), Ended> {
+        // No request is returned whose memory went away while it was under way.
+        self.expect_memory()?;
         for (ring, _) in (0..).zip(&self.rings).filter(|(_, it)| it.is_polled()) {
             self.back_end.kick(ring);
         }
@@ -343,12 +308,26 @@ impl<'a> Connection<'a> {
         }
     }
 
+    /// Does all that is to be done, as [`run`](Connection::run), after a look at each ring whose driver may not have
+    /// notified yet. Returns whether something was to be done.
+    pub fn look(&mut self, device: &mut impl Device) -> Result<bool, Ended> {
+        for (ring, it) in (0..).zip(&self.rings) {
+            if !matches!(it.notified, Notified::Not) {
+                self.back_end.kick(ring);
+            }
+        }
+        self.run(device)?;
+        let has_actions = |room: &Room| room.actions().next().is_some();
+        Ok(self.has_more || self.parts.has_ends() || self.room.as_deref().is_some_and(has_actions))
+    }
+
     fn run_once(&mut self, device: &mut impl Device) -> Result<(), Ended> {
         let mut room = self.room.take().expect("its actions were done");
         let (ends, turns) = self.parts.told();
         self.back_end.run(ends, turns, &mut room);
-        self.parts.taken(room.ends_taken());
-        self.has_more = room.has_more();
+        self.parts.taken(room.ends_taken(), turns > 0 && !room.may_be_full());
+        // Without a turn it may be one alone that is left.
+        self.has_more = room.has_more() && (turns > 0 || room.ends_taken() > 0 || room.actions().next().is_some());
         self.state = room.state();
         if self.state == State::Free {
             self.incoming.clear();
@@ -484,6 +463,7 @@ impl<'a> Connection<'a> {
         let file = self.incoming.take_descriptor(0)?;
         Kind::expect(&file, &[Kind::File])?;
         self.back_end.track(offset, len, file.as_fd())?;
+        self.tracked = self.incoming.inflight_queues();
         self.back_end.done();
         Ok(())
     }
@@ -509,6 +489,11 @@ impl<'a> Connection<'a> {
 
     fn set_kick(&mut self, ring: u32, given: Option<OwnedFd>, device: &mut impl Device) -> io::Result<()> {
         device.started(&self.back_end, ring);
+        if let (Parts::AtOnce(parts), Notified::Not) = (&mut self.parts, &self.rings[ring as usize].notified) {
+            // A packed ring does not go on after a kill.
+            let may_go_on = self.back_end.features() & RING_PACKED == 0 && ring >= self.tracked;
+            parts.start(ring, may_go_on && !self.in_any_order);
+        }
         // What came before is watched no more before this one is.
         self.forget_kick(ring, Notified::Polled, device);
         if let Some(descriptor) = given {
@@ -545,15 +530,36 @@ impl<'a> Connection<'a> {
 
     #[inline]
     fn serve(&mut self, part: &Part<'_>, device: &mut impl Device) {
-        if self.parts.begins(part) {
+        let order = match &mut self.parts {
+            Parts::InOrder(order) => order,
+            Parts::AtOnce(parts) => {
+                if parts.begin(part) {
+                    self.stats.begin(part.way);
+                }
+                return self.begin(part, device);
+            }
+        };
+        if order.begins(part) {
             self.stats.begin(part.way);
         }
-        let mut is_served = !self.parts.has_failed(part);
+        let mut is_served = !order.has_failed(part);
         if is_served {
             is_served = device.serve(part, self.back_end.pieces(part.pieces)).is_ok();
-            self.stats.part(part, is_served);
+            self.stats.part(part.way, part.len, is_served);
         }
-        self.stats.errors += u64::from(self.parts.end(part, is_served));
+        self.stats.errors += u64::from(order.end(part, is_served));
+    }
+
+    #[inline]
+    fn begin(&mut self, part: &Part<'_>, device: &mut impl Device) {
+        let pieces = match part.way {
+            // No other process touches these.
+            Way::Name => self.back_end.pieces(part.pieces),
+            _ => self.back_end.pieces_apart(part.pieces),
+        };
+        if let Begun::Ended(ticket, done) = device.begin(part, pieces, Ticket::of(part)) {
+            self.ended(ticket, done);
+        }
     }
 }
 

@@ -165,6 +165,13 @@ impl Incoming {
         u32::from_le_bytes(*self.bytes.first_chunk().expect("a message has a header"))
     }
 
+    /// How many queues the region of requests in flight has that a whole SET_INFLIGHT_FD describes.
+    pub(crate) fn inflight_queues(&self) -> u32 {
+        // They follow the header, and a size and an offset of 8 bytes.
+        let bytes = self.bytes().get(28..30).unwrap_or(&[0; 2]);
+        u32::from(u16::from_le_bytes([bytes[0], bytes[1]]))
+    }
+
     /// How many descriptors came with the whole message.
     pub(crate) fn descriptors(&self) -> usize {
         self.left.len()

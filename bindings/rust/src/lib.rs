@@ -22,11 +22,14 @@
 #![deny(unsafe_code, unsafe_op_in_unsafe_fn)]
 #![warn(missing_docs)]
 
+mod at_once;
 pub mod back_end;
 pub mod block;
 pub mod block_device;
 pub mod connection;
 mod descriptor;
+mod device;
+mod ended;
 mod error;
 #[allow(unsafe_code)]
 mod ffi;
@@ -47,6 +50,7 @@ mod memory;
 #[allow(unsafe_code)]
 mod notify;
 mod number;
+mod parts;
 #[allow(unsafe_code)]
 mod pieces;
 pub mod queue;
@@ -66,6 +70,6 @@ pub use machine::{IotlbFails, IovaRange, Machine, MappedRange, Miss, Permissions
 pub use memory::{GuestAddress, GuestMemory};
 pub use notify::Watchdog;
 pub use number::{BlockId, LayoutId, MemoryId, QueueId, RegionId, SpaceId, TableId, TranslatorId};
-pub use pieces::Pieces;
+pub use pieces::{Pieces, Vector, Vectors};
 pub use shared::{memfd, SharedBlock, SharedBlockError, SharedMemory};
 pub use value::{AtomicAccess, ByteValued};

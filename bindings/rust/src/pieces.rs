@@ -1,7 +1,11 @@
 //! Pieces of guest memory as bytes that the system, and no code of this process, reads and writes in place.
+//!
+//! If many requests are under way at once, the system may still have pieces to read when memory goes away and zeros are
+//! mapped in its place. So these pieces lie in a mapping of their own, where that leaves nothing to read.
 
 use crate::back_end::{BackEnd, Piece};
 use crate::system;
+pub use crate::system::Vector;
 use std::ffi::c_int;
 use std::fs::File;
 use std::io;
@@ -10,11 +14,11 @@ use std::os::fd::AsRawFd;
 // The system takes so many at once.
 const MOST: usize = 1024;
 
-// Bytes of guest memory, where they are mapped: none is empty.
-#[derive(Default)]
-pub(crate) struct Vectors(Vec<system::Vector>);
+/// Bytes of guest memory, where they are mapped: none is empty.
+#[derive(Debug, Default)]
+pub struct Vectors(Vec<Vector>);
 
-// SAFETY: they are used in a call alone, which makes them anew, and tied to no thread.
+// SAFETY: they are tied to no thread, and what uses them answers for that.
 unsafe impl Send for Vectors {}
 
 /// Pieces of guest memory, as long as it is borrowed. A guest may read and write them at any moment.
@@ -26,16 +30,32 @@ impl BackEnd {
     /// The bytes of these pieces, in order.
     #[inline]
     pub fn pieces(&mut self, pieces: &[Piece]) -> Pieces<'_> {
+        self.pieces_of(pieces, |it, number| it.region(number))
+    }
+
+    /// The same, after [`keep_apart`](BackEnd::keep_apart): if memory goes away, nothing takes its place there.
+    #[inline]
+    pub fn pieces_apart(&mut self, pieces: &[Piece]) -> Pieces<'_> {
+        self.pieces_of(pieces, |it, number| it.region_apart(number))
+    }
+
+    #[inline]
+    fn pieces_of(&mut self, pieces: &[Piece], of: impl Fn(&BackEnd, u64) -> Option<(*mut u8, usize)>) -> Pieces<'_> {
         self.vectors.0.clear();
         for it in pieces.iter().filter(|it| it.len > 0) {
-            let (at, size) = self.region(it.region).expect("a piece lies in a region that is mapped");
+            let (at, size) = of(self, it.region).expect("a piece lies in a region that is mapped");
             assert!(it.offset <= size as u64 && it.len <= size as u64 - it.offset);
-            self.vectors.0.push(system::Vector {
+            self.vectors.0.push(Vector {
                 at: at.wrapping_add(it.offset as usize),
                 len: it.len as usize,
             });
         }
         Pieces { back_end: self }
+    }
+
+    // Takes note if the system finds no memory where a piece is mapped.
+    pub(crate) fn look_for_loss(&mut self, error: &io::Error) {
+        self.lacks_memory |= error.raw_os_error() == Some(system::EFAULT);
     }
 }
 
@@ -60,6 +80,17 @@ impl Pieces<'_> {
             unsafe { std::ptr::copy_nonoverlapping(here.as_ptr(), it.at, here.len()) };
             bytes = rest;
         }
+    }
+
+    /// Leaves them in `room`, in place of what that had.
+    ///
+    /// # Safety
+    ///
+    /// They are used only as long as guest memory is mapped: until the end of their part is told to the connection, and
+    /// before that is dropped.
+    #[inline]
+    pub unsafe fn keep(self, room: &mut Vectors) {
+        std::mem::swap(&mut self.back_end.vectors, room);
     }
 
     #[inline]
@@ -90,6 +121,42 @@ impl Pieces<'_> {
 }
 
 impl Vectors {
+    /// These bytes, none of them empty.
+    ///
+    /// # Safety
+    ///
+    /// They are memory, and used only as long as that is there.
+    pub unsafe fn new(vectors: Vec<Vector>) -> Vectors {
+        Vectors(vectors)
+    }
+
+    /// All of them.
+    pub fn all(&self) -> &[Vector] {
+        &self.0
+    }
+
+    /// Those from one on, as many as the system takes at once.
+    #[inline]
+    pub fn from(&self, from: usize) -> &[Vector] {
+        let left = &self.0[from..];
+        &left[..left.len().min(MOST)]
+    }
+
+    /// How many there are.
+    pub fn len(&self) -> usize {
+        self.0.len()
+    }
+
+    /// Whether there is none.
+    pub fn is_empty(&self) -> bool {
+        self.0.is_empty()
+    }
+
+    /// For how many there is room.
+    pub fn room(&self) -> usize {
+        self.0.capacity()
+    }
+
     // How many bytes one call of the system moves.
     #[inline]
     fn move_some(&self, from: usize, file: &File, place: u64, fills: bool) -> isize {
@@ -109,8 +176,8 @@ impl Vectors {
         }
     }
 
-    // The first vector that has bytes after so many of those from one on.
-    fn passed(&mut self, mut from: usize, mut count: usize) -> usize {
+    /// The first one that has bytes after so many of those from one on. These are gone.
+    pub fn passed(&mut self, mut from: usize, mut count: usize) -> usize {
         while let Some(it) = self.0.get_mut(from) {
             if count < it.len {
                 it.at = it.at.wrapping_add(count);

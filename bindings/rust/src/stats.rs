@@ -1,6 +1,6 @@
 //! What a connection served.
 
-use crate::back_end::{Part, Way};
+use crate::back_end::Way;
 use std::fmt;
 
 /// What was served.
@@ -18,7 +18,7 @@ pub struct Stats {
     pub flushes: u64,
     /// Other requests.
     pub others: u64,
-    /// How often the disk was made stable, by a flush or after a write.
+    /// How often the disk was to be made stable, by a flush or after a write: one sync may serve several.
     pub syncs: u64,
     /// Requests that failed.
     pub errors: u64,
@@ -40,10 +40,10 @@ impl Stats {
 
     // Counts a part.
     #[inline]
-    pub(crate) fn part(&mut self, part: &Part<'_>, is_served: bool) {
-        match part.way {
-            Way::Read if is_served => self.bytes_read += part.len,
-            Way::Write if is_served => self.bytes_written += part.len,
+    pub(crate) fn part(&mut self, way: Way, len: u64, is_served: bool) {
+        match way {
+            Way::Read if is_served => self.bytes_read += len,
+            Way::Write if is_served => self.bytes_written += len,
             Way::Flush => self.syncs += 1,
             _ => (),
         }

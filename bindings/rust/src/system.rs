@@ -76,12 +76,14 @@ pub(crate) struct FileSystem {
     rest: [u64; 13],
 }
 
-/// Some bytes.
+/// Some bytes, as the system takes them: an `iovec`.
 #[repr(C)]
-#[derive(Clone, Copy)]
-pub(crate) struct Vector {
-    pub(crate) at: *mut u8,
-    pub(crate) len: usize,
+#[derive(Clone, Copy, Debug)]
+pub struct Vector {
+    /// Where the first one lies.
+    pub at: *mut u8,
+    /// How many there are.
+    pub len: usize,
 }
 
 /// A message on a socket: its bytes, and what comes beside them.

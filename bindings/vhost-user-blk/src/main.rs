@@ -5,16 +5,25 @@
 #![deny(unsafe_code, unsafe_op_in_unsafe_fn)]
 
 mod device;
+mod direct;
 mod disk;
+mod engine;
 mod options;
 mod output;
+mod poll;
 #[allow(unsafe_code)]
 mod system;
+mod threads;
+mod times;
+#[allow(unsafe_code)]
+mod uring;
 
 use device::{SIGNALS, SOCKET};
+use direct::Direct;
 use disk::Disk;
-use options::{Asked, Options, Source, USAGE};
-use std::cell::Cell;
+use engine::{Engine, System};
+use options::{Aio, Asked, Options, Source, USAGE};
+use std::cell::{Cell, RefCell};
 use std::error::Error;
 use std::fs::{self, File};
 use std::io::{self, ErrorKind::ConnectionAborted, ErrorKind::Interrupted, ErrorKind::WouldBlock, Read, Write};
@@ -24,8 +33,12 @@ use std::os::unix::fs::FileTypeExt;
 use std::os::unix::net::{UnixListener, UnixStream};
 use std::path::{Path, PathBuf};
 use std::process::ExitCode;
+use std::rc::Rc;
+use std::sync::Arc;
 use std::time::Duration;
 use system::{Epoll, LEVEL};
+use threads::Threads;
+use uring::Uring;
 use vm_memory_proved::connection::Ended;
 use vm_memory_proved::Watchdog;
 
@@ -59,12 +72,17 @@ fn main() -> ExitCode {
 struct Program {
     options: Options,
     disk: Disk,
+    // What has many requests under way at once, and how that is called.
+    engine: RefCell<Option<Engine>>,
+    way: Option<String>,
     signals: File,
     // What is watched while no front end is served.
     epoll: Epoll,
     watchdog: Watchdog,
     // It was asked to end.
     is_ending: Cell<bool>,
+    // So many requests are under way although it ends.
+    left: Cell<usize>,
 }
 
 // Where front ends come from.
@@ -129,26 +147,33 @@ fn inherit(number: RawFd) -> io::Result<Fronts> {
 
 impl Program {
     fn new(options: Options) -> Result<Program, Box<dyn Error>> {
-        let disk = Disk::open(&options.image, options.read_only, options.is_locked);
+        let disk = Disk::open(&options.image, &options);
         let disk = disk.map_err(|error| named(&options.image, error))?;
         let (signals, epoll) = (system::signals()?, Epoll::new()?);
         epoll.watch(signals.as_fd(), SIGNALS, LEVEL)?;
         vm_memory_proved::survive_lost_memory()?;
         // Threads that begin now leave the signals to this one.
         output::start()?;
+        let (engine, way) = engine_of(&options, &disk)?.unzip();
         Ok(Program {
             options,
             disk,
+            engine: RefCell::new(engine),
+            way,
             signals,
             epoll,
             watchdog: Watchdog::start()?,
             is_ending: Cell::new(false),
+            left: Cell::new(0),
         })
     }
 
     fn say_start(&self, way: &str) {
         let (image, sectors) = (self.options.image.display(), self.disk.sectors.get());
         say!("{image}: {sectors} sectors, {way} {}", self.options.source);
+        if let Some(way) = &self.way {
+            say!("{way}");
+        }
     }
 
     /// Takes the signals that came, and returns whether the image has another size.
@@ -187,7 +212,17 @@ impl Program {
                 Err(error) => return Err(error.into()),
             }
         }
-        Ok(())
+        self.expect_nothing_left()
+    }
+
+    // What was under way ended before the program does.
+    fn expect_nothing_left(&self) -> Result<(), Box<dyn Error>> {
+        let what = match self.left.get() {
+            0 => return Ok(()),
+            1 => "1 request to the disk is".into(),
+            left => format!("{left} requests to the disk are"),
+        };
+        Err(format!("{what} under way after {} s", self.options.drain.as_secs()).into())
     }
 
     fn accept(&self, listener: &UnixListener, ready: &mut Vec<u64>) -> io::Result<UnixStream> {
@@ -209,6 +244,33 @@ impl Program {
         say!("the connection ended: {ended}");
         ended
     }
+}
+
+// What has many requests under way at once, if that is wanted, and what is said of it.
+fn engine_of(options: &Options, disk: &Disk) -> Result<Option<(Engine, String)>, Box<dyn Error>> {
+    let file = || Arc::clone(&disk.file);
+    let count = (options.depth * options.queues) as usize;
+    let uring = || Uring::new(file(), count).map(|it| Box::new(it) as Box<dyn System>);
+    let threads = || Threads::new(file()).map(|it| Box::new(it) as Box<dyn System>);
+    let (system, name) = match options.aio {
+        Some(Aio::None) => return Ok(None),
+        Some(Aio::Uring) => (
+            uring().map_err(|error| format!("--aio io_uring: {error}"))?,
+            "io_uring".into(),
+        ),
+        Some(Aio::Threads) => (threads()?, "threads".into()),
+        None => match uring() {
+            Ok(rings) => (rings, "io_uring".into()),
+            Err(error) => (threads()?, format!("threads, since io_uring is not to be had: {error}")),
+        },
+    };
+    let direct = disk.blocks.map(Direct::new).transpose()?;
+    let past = disk
+        .blocks
+        .map(|it| format!(", past the page cache in blocks of {} bytes", it.disk));
+    let engine = Engine::new(system, Rc::clone(&disk.syncs), direct, options.depth as usize);
+    let past = past.unwrap_or_default();
+    Ok(Some((engine, format!("the image is read and written{past} by {name}"))))
 }
 
 // Whether the system has no room for one more now.

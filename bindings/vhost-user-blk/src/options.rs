@@ -12,7 +12,8 @@ use std::time::Duration;
 
 pub const USAGE: &str = "\
 usage: vhost-user-blk --socket PATH --image FILE [--read-only] [--write-through] [--queues N] [--iommu]
-           [--iotlb-limit N] [--stats SECONDS] [--no-lock]
+           [--iotlb-limit N] [--stats SECONDS] [--no-lock] [--aio io_uring|threads|none] [--depth N] [--any-order]
+           [--drain SECONDS] [--direct] [--poll MICROSECONDS]
        vhost-user-blk --fd N --image FILE ..
        vhost-user-blk --print-capabilities | --version | --help
 
@@ -29,7 +30,18 @@ has then. A value may also follow a =, as in --fd=3.
   --queues N        the number of queues, 1 to 256; the default is 1
   --iommu           the guest may have an IOMMU: ACCESS_PLATFORM is offered
   --iotlb-limit N   with --iommu: how many I/O ranges are kept, 8 to 65536; the default is 65536
-  --stats SECONDS   prints requests, bytes and errors this often, and at the end of a connection
+  --stats SECONDS   prints requests, bytes, errors, what is under way, and how long parts took since the last time, this
+                    often and at the end of a connection
+  --aio WAY         how FILE is read and written: io_uring or threads serve many requests at once, and none one after
+                    another; the default is the first of these that the system allows
+  --depth N         how many requests of each queue are under way at once, 1 to 1024; the default is 128
+  --any-order       all requests complete in any order, not only those of packed rings and of front ends that keep what
+                    is in flight: if the program is killed, a guest may lose some
+  --drain SECONDS   how long the end waits for what is under way, 0 to 86400; the default is 10
+  --direct          reads and writes past the page cache (O_DIRECT); not with --aio none
+  --poll MICROSECONDS
+                    looks for requests for so long at most before it sleeps, 0 to 1000000: a request that comes soon
+                    waits less, and a processor works meanwhile; the default is 0
   --no-lock         serves FILE even if another program has locked it, and does not lock it
   --print-capabilities
                     prints, as JSON, what a manager of QEMU asks of a back end
@@ -77,10 +89,28 @@ pub struct Options {
     pub iotlb_limit: Option<u32>,
     pub stats: Option<Duration>,
     pub is_locked: bool,
+    /// How the image is read and written, if it is not what the system allows.
+    pub aio: Option<Aio>,
+    pub depth: u32,
+    pub any_order: bool,
+    pub drain: Duration,
+    /// The page cache is passed by.
+    pub is_direct: bool,
+    /// How long the program looks for requests before it sleeps, at most.
+    pub poll: Duration,
+}
+
+/// How the image is read and written.
+#[derive(Clone, Copy, Debug, PartialEq, Eq)]
+pub enum Aio {
+    Uring,
+    Threads,
+    /// One request after another.
+    None,
 }
 
 // The options, those of the same meaning by its first name, and whether they have a value.
-const NAMES: [(&str, &str, bool); 12] = [
+const NAMES: [(&str, &str, bool); 18] = [
     ("--socket", "--socket", true),
     ("--socket-path", "--socket", true),
     ("--fd", "--fd", true),
@@ -93,6 +123,12 @@ const NAMES: [(&str, &str, bool); 12] = [
     ("--iotlb-limit", "--iotlb-limit", true),
     ("--stats", "--stats", true),
     ("--no-lock", "--no-lock", false),
+    ("--aio", "--aio", true),
+    ("--depth", "--depth", true),
+    ("--any-order", "--any-order", false),
+    ("--drain", "--drain", true),
+    ("--direct", "--direct", false),
+    ("--poll", "--poll", true),
 ];
 
 impl Asked {
@@ -147,6 +183,9 @@ fn options_of(mut read: HashMap<&str, OsString>) -> Result<Options, String> {
     let number = |name, range| number(name, read.get(name), range);
     let (fd, queues) = (number("--fd", 3..=i32::MAX as u32)?, number("--queues", 1..=256)?);
     let (limit, stats) = (number("--iotlb-limit", 8..=65_536)?, number("--stats", 1..=86_400)?);
+    let (depth, drain) = (number("--depth", 1..=1024)?, number("--drain", 0..=86_400)?);
+    let poll = number("--poll", 0..=1_000_000)?;
+    let aio = read.remove("--aio").map(aio_of).transpose()?;
     let source = match (read.remove("--socket"), fd) {
         (Some(path), None) => Source::Path(path.into()),
         (None, Some(number)) => Source::Descriptor(number as RawFd),
@@ -158,6 +197,10 @@ fn options_of(mut read: HashMap<&str, OsString>) -> Result<Options, String> {
     if limit.is_some() && !iommu {
         return Err("--iotlb-limit needs --iommu".into());
     }
+    let is_direct = read.contains_key("--direct");
+    if is_direct && aio == Some(Aio::None) {
+        return Err("--direct is not with --aio none".into());
+    }
     Ok(Options {
         source,
         image,
@@ -167,7 +210,25 @@ fn options_of(mut read: HashMap<&str, OsString>) -> Result<Options, String> {
         iotlb_limit: iommu.then_some(limit.unwrap_or(65_536)),
         stats: stats.map(|seconds| Duration::from_secs(seconds.into())),
         is_locked: !read.contains_key("--no-lock"),
+        aio,
+        depth: depth.unwrap_or(128),
+        any_order: read.contains_key("--any-order"),
+        drain: Duration::from_secs(drain.unwrap_or(10).into()),
+        is_direct,
+        poll: Duration::from_micros(poll.unwrap_or(0).into()),
     })
+}
+
+fn aio_of(word: OsString) -> Result<Aio, String> {
+    match word.to_str() {
+        Some("io_uring") => Ok(Aio::Uring),
+        Some("threads") => Ok(Aio::Threads),
+        Some("none") => Ok(Aio::None),
+        _ => Err(format!(
+            "--aio takes io_uring, threads or none, not {}",
+            word.to_string_lossy()
+        )),
+    }
 }
 
 fn number(word: &str, value: Option<&OsString>, range: RangeInclusive<u32>) -> Result<Option<u32>, String> {
@@ -200,9 +261,15 @@ mod tests {
         }
     }
 
+    const ASKED: [&str; 4] = ["--socket", "s", "--image", "i"];
+
+    fn more(words: &str) -> Options {
+        let words: Vec<_> = words.split_whitespace().collect();
+        options(&[&ASKED[..], &words].concat())
+    }
+
     #[test]
     fn words_are_options() {
-        let asked = ["--socket", "s", "--image", "i"];
         let usual = Options {
             source: Source::Path("s".into()),
             image: "i".into(),
@@ -212,10 +279,14 @@ mod tests {
             iotlb_limit: None,
             stats: None,
             is_locked: true,
+            aio: None,
+            depth: 128,
+            any_order: false,
+            drain: Duration::from_secs(10),
+            is_direct: false,
+            poll: Duration::ZERO,
         };
-        assert_eq!(options(&asked), usual);
-        let more = "--read-only --queues 256 --stats 5 --iommu --iotlb-limit 8";
-        let more: Vec<_> = more.split(' ').collect();
+        assert_eq!(more(""), usual);
         let wanted = Options {
             read_only: true,
             queues: 256,
@@ -223,7 +294,30 @@ mod tests {
             iotlb_limit: Some(8),
             ..usual
         };
-        assert_eq!(options(&[&asked[..], &more].concat()), wanted);
+        assert_eq!(
+            more("--read-only --queues 256 --stats 5 --iommu --iotlb-limit 8"),
+            wanted
+        );
+    }
+
+    #[test]
+    fn words_say_how_the_image_is_read() {
+        let wanted = Options {
+            depth: 1024,
+            any_order: true,
+            drain: Duration::ZERO,
+            is_direct: true,
+            poll: Duration::from_micros(32),
+            ..more("")
+        };
+        assert_eq!(more("--depth 1024 --any-order --drain 0 --direct --poll 32"), wanted);
+        for (word, wanted) in [("io_uring", Aio::Uring), ("threads", Aio::Threads), ("none", Aio::None)] {
+            assert_eq!(more(&format!("--aio {word}")).aio, Some(wanted));
+        }
+    }
+
+    #[test]
+    fn words_are_texts() {
         for (word, wanted) in [
             ("--help", Asked::Text(USAGE)),
             ("-h", Asked::Text(USAGE)),
@@ -283,6 +377,26 @@ mod tests {
             (
                 &["--fd=3", "--socket=s", "--image=i"],
                 "--fd takes the place of --socket",
+            ),
+        ] {
+            assert_eq!(parse(words), Err(said.to_owned()));
+        }
+    }
+
+    #[test]
+    fn wrong_words_for_the_image_are_named() {
+        for (words, said) in [
+            (&["--depth", "0"][..], "--depth takes a number from 1 to 1024, not 0"),
+            (&["--depth=1025"], "--depth takes a number from 1 to 1024, not 1025"),
+            (&["--drain", "-1"], "--drain takes a number from 0 to 86400, not -1"),
+            (
+                &["--direct", "--aio=none", "--socket=s", "--image=i"],
+                "--direct is not with --aio none",
+            ),
+            (&["--aio", "uring"], "--aio takes io_uring, threads or none, not uring"),
+            (
+                &["--poll", "1000001"],
+                "--poll takes a number from 0 to 1000000, not 1000001",
             ),
         ] {
             assert_eq!(parse(words), Err(said.to_owned()));

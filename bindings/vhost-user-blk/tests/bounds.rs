@@ -65,6 +65,25 @@ fn the_driver_is_notified_before_a_long_request_goes_on() {
     }
 }
 
+// A run ends with the marks of a request, before its ring has the turn in which it interrupts.
+#[test]
+fn the_driver_is_notified_while_writes_are_logged() {
+    let program = Program::start_on_a_hole("notified_log", 4 << 30, &[]);
+    let mut front = started(&program, USUAL);
+    front.read_disk(0, 1, 512);
+    let _log = front_end::log::begin(&mut front, USUAL, front_end::log::LOG_LEN);
+    program.rest();
+    take(&front.rings[0].call);
+    front.put_long(1, 0, 5, &[(12 * MIB, 512)]);
+    front.put_endless(2);
+    front.publish(0, 1);
+    front.publish(0, 2);
+    front.kick(0);
+    program.wait_for_work();
+    assert_eq!(front.used_idx(0), 2);
+    assert_eq!(take(&front.rings[0].call), 1);
+}
+
 // The interrupt that the driver asked for comes, wherever the turns of many requests end.
 #[test]
 fn the_driver_is_interrupted_among_many_requests() {

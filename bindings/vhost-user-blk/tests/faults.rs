@@ -28,9 +28,13 @@ fn expect_well(program: Program) {
     assert!(program.end(libc::SIGTERM).success());
 }
 
+// Ways to the disk that go through the C library.
+const WAYS: [&str; 2] = ["none", "threads"];
+
 // The program, whose disk moves less than it is asked to or is interrupted, and fails from a byte on. Without a
 // compiler of C there is none.
-fn with_faults(name: &str, bad_from: u64, words: &[&str]) -> Option<(Program, Faults)> {
+fn with_faults(name: &str, way: &str, bad_from: u64, words: &[&str]) -> Option<(Program, Faults)> {
+    let (name, words) = (&format!("{name}_{way}"), &[words, &["--aio", way]].concat());
     let folder = Program::prepare(name, LEN);
     let Some(faults) = Faults::new(&folder, bad_from) else {
         println!("{name} is left out: there is no compiler of C");
@@ -48,7 +52,11 @@ fn sectors(from: usize, len: usize) -> Vec<u8> {
 
 #[test]
 fn each_byte_is_moved_however_few_a_call_moves() {
-    let Some((program, _faults)) = with_faults("few_bytes", u64::MAX, &[]) else {
+    WAYS.into_iter().for_each(move_few_bytes);
+}
+
+fn move_few_bytes(way: &str) {
+    let Some((program, _faults)) = with_faults("few_bytes", way, u64::MAX, &[]) else {
         return;
     };
     let mut front = started(&program, USUAL);
@@ -69,8 +77,12 @@ fn each_byte_is_moved_however_few_a_call_moves() {
 // A read that fails leaves what was there, and no byte of another request.
 #[test]
 fn what_the_disk_refuses_fails() {
+    WAYS.into_iter().for_each(refuse_sectors);
+}
+
+fn refuse_sectors(way: &str) {
     let bad = 1000;
-    let Some((program, _faults)) = with_faults("bad_sectors", 512 * bad, &["--stats", "86400"]) else {
+    let Some((program, _faults)) = with_faults("bad_sectors", way, 512 * bad, &["--stats", "86400"]) else {
         return;
     };
     let mut front = started(&program, USUAL);
@@ -92,12 +104,16 @@ fn what_the_disk_refuses_fails() {
 // A flush syncs once, and so does each write of a driver that knows no flush. Nothing else does.
 #[test]
 fn syncs_are_those_that_were_asked_for() {
+    WAYS.into_iter().for_each(count_syncs);
+}
+
+fn count_syncs(way: &str) {
     for (name, words, features, of_a_write) in [
         ("flushes", &[][..], USUAL, 0),
         ("no_flush", &[][..], USUAL & !FLUSH, 1),
         ("stable", &["--write-through"][..], USUAL & !FLUSH, 1),
     ] {
-        let Some((program, faults)) = with_faults(name, u64::MAX, words) else {
+        let Some((program, faults)) = with_faults(name, way, u64::MAX, words) else {
             return;
         };
         let mut front = started(&program, features);
@@ -118,7 +134,11 @@ fn syncs_are_those_that_were_asked_for() {
 
 #[test]
 fn after_a_sync_that_failed_no_flush_succeeds() {
-    let Some((program, faults)) = with_faults("failed_flush", u64::MAX, &["--stats", "1"]) else {
+    WAYS.into_iter().for_each(fail_flushes);
+}
+
+fn fail_flushes(way: &str) {
+    let Some((program, faults)) = with_faults("failed_flush", way, u64::MAX, &["--stats", "1"]) else {
         return;
     };
     let mut front = started(&program, USUAL);
@@ -146,7 +166,11 @@ fn after_a_sync_that_failed_no_flush_succeeds() {
 
 #[test]
 fn after_a_sync_that_failed_no_write_is_stable() {
-    let Some((program, faults)) = with_faults("failed_write", u64::MAX, &["--write-through"]) else {
+    WAYS.into_iter().for_each(fail_writes);
+}
+
+fn fail_writes(way: &str) {
+    let Some((program, faults)) = with_faults("failed_write", way, u64::MAX, &["--write-through"]) else {
         return;
     };
     let mut front = started(&program, USUAL & !FLUSH);

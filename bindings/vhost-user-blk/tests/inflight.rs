@@ -2,7 +2,7 @@
 
 mod front_end;
 
-use front_end::inflight::{read_of, set_up, started, started_packed, Head, SIZE};
+use front_end::inflight::{read_of, set_up, started, started_packed, SIZE};
 use front_end::log::{begin, taken, LOG_LEN};
 use front_end::packed::{Driver, Place, FRESH, PACKED};
 use front_end::*;
@@ -17,6 +17,10 @@ use std::time::{Duration, Instant};
 
 const LEN: usize = 1 << 20;
 const UNSUPPORTED: u32 = 11;
+
+// Requests are served one after another, or many at once by threads.
+const ONE: &[&str] = &["--aio", "none"];
+const THREADS: &[&str] = &["--aio", "threads"];
 
 // Another program goes on, and nobody notifies it.
 fn go_on(front: &mut FrontEnd, program: &Program, features: u64, region: &Region, base: u32) {
@@ -70,9 +74,15 @@ fn expect_regions(name: &str, features: u64) {
 #[test]
 fn a_request_is_served_again_after_a_kill() {
     for (name, words, features) in [
-        ("inflight_killed", &[][..], USUAL),
-        ("inflight_killed_event_idx", &[], USUAL | EVENT_IDX),
-        ("inflight_killed_iommu", IOMMU, USUAL | ACCESS_PLATFORM),
+        ("inflight_killed", ONE, USUAL),
+        ("inflight_killed_event_idx", ONE, USUAL | EVENT_IDX),
+        (
+            "inflight_killed_iommu",
+            &["--iommu", "--aio", "none"],
+            USUAL | ACCESS_PLATFORM,
+        ),
+        ("inflight_killed_uring", &[], USUAL | EVENT_IDX),
+        ("inflight_killed_threads", THREADS, USUAL),
     ] {
         for base in [0, 0xffff] {
             expect_served_again(name, words, features, base);
@@ -102,18 +112,21 @@ fn expect_served_again(name: &str, words: &[&str], features: u64, base: u16) {
     let program = Program::start_again(&folder, words);
     let used = front.used_idx(0);
     go_on(&mut front, &program, features, &region, used.into());
-    let heads = [0; 3].map(|_| front.take_used(0).0);
+    let mut heads = [0; 3].map(|_| front.take_used(0).0);
+    let is_in_order = words.ends_with(&ONE[1..]);
+    if !is_in_order {
+        // The long one comes last.
+        assert_eq!(heads[2], 0);
+        heads.sort();
+    }
     assert_eq!(heads, [0, 1, 2]);
     program.rest();
     assert_eq!(front.used_idx(0), base.wrapping_add(4));
     assert_eq!(region.in_flight(0), []);
-    let head = Head {
-        version: 1,
-        descriptors: SIZE,
-        last_batch_head: 2,
-        used_idx: base.wrapping_add(4),
-    };
-    assert_eq!(region.head(0), head);
+    let head = region.head(0);
+    assert_eq!((head.version, head.descriptors), (1, SIZE));
+    assert_eq!(head.last_batch_head, if is_in_order { 2 } else { 0 });
+    assert_eq!(head.used_idx, base.wrapping_add(4));
 }
 
 // The refused request that comes back first is returned over the descriptor of the one that is under way. The base that
@@ -121,9 +134,15 @@ fn expect_served_again(name: &str, words: &[&str], features: u64, base: u16) {
 #[test]
 fn a_packed_request_is_served_again_after_a_kill() {
     for (name, words, features) in [
-        ("inflight_packed", &[][..], PACKED),
-        ("inflight_packed_event_idx", &[], PACKED | EVENT_IDX),
-        ("inflight_packed_iommu", IOMMU, PACKED | ACCESS_PLATFORM),
+        ("inflight_packed", ONE, PACKED),
+        ("inflight_packed_event_idx", ONE, PACKED | EVENT_IDX),
+        (
+            "inflight_packed_iommu",
+            &["--iommu", "--aio", "none"],
+            PACKED | ACCESS_PLATFORM,
+        ),
+        ("inflight_packed_uring", &[], PACKED | EVENT_IDX),
+        ("inflight_packed_threads", THREADS, PACKED),
     ] {
         for (slot, wrap) in [(0, true), (SIZE - 1, false), (SIZE - 2, true)] {
             expect_packed_served_again(name, words, features, Place { slot, wrap });
@@ -152,7 +171,13 @@ fn expect_packed_served_again(name: &str, words: &[&str], features: u64, first: 
     let program = Program::start_again(&folder, words);
     go_on(&mut driver.front, &program, features, &region, FRESH);
     let lens = [(0, (2 << 30) + 1), (1, 513), (2, 513)];
-    assert_eq!([0; 3].map(|_| driver.take()), lens);
+    let mut came = [0; 3].map(|_| driver.take());
+    if !words.ends_with(&ONE[1..]) {
+        // The long one comes last.
+        assert_eq!(came[2].0, 0);
+        came.sort();
+    }
+    assert_eq!(came, lens);
     program.rest();
     region.expect_settled(0, first.moved(SIZE, 4));
 }
@@ -218,7 +243,7 @@ impl Side {
     }
 }
 
-// Each request that is published comes back once, and those that are served in their order.
+// Each request that is published comes back once, and those that are served one after another in their order.
 struct Load {
     side: Side,
     features: u64,
@@ -229,10 +254,11 @@ struct Load {
     out: BTreeMap<u16, (u64, Option<(u64, u32)>)>,
     published: u64,
     served: u64,
+    is_in_order: bool,
 }
 
 impl Load {
-    fn new(program: &Program, features: u64) -> Load {
+    fn new(program: &Program, features: u64, is_in_order: bool) -> Load {
         let (side, region) = if features & RING_PACKED == 0 {
             let (front, region) = started(program, features, 0xfff0);
             (Side::Split(front), region)
@@ -250,6 +276,7 @@ impl Load {
             out: BTreeMap::new(),
             published: 0,
             served: 0,
+            is_in_order,
         }
     }
 
@@ -294,7 +321,8 @@ impl Load {
         let (data, status) = front.places(0, head);
         let status = front.read(status, 1)[0];
         if let Some((sector, wanted)) = asked {
-            assert!(number > self.served, "{number} comes back after {}", self.served);
+            let is_next = number > self.served || !self.is_in_order;
+            assert!(is_next, "{number} comes back after {}", self.served);
             self.served = number;
             assert_eq!((status, len), (0, wanted + 1));
             assert_eq!(front.read(data, wanted as usize), read_of(sector, wanted as usize));
@@ -314,18 +342,30 @@ impl Load {
 
 #[test]
 fn each_request_comes_back_once_over_many_kills() {
-    kill_under_load("inflight_load", USUAL);
+    for (name, words) in [
+        ("inflight_load", ONE),
+        ("inflight_load_uring", &[]),
+        ("inflight_load_threads", THREADS),
+    ] {
+        kill_under_load(name, USUAL, words);
+    }
 }
 
 #[test]
 fn each_packed_request_comes_back_once_over_many_kills() {
-    kill_under_load("inflight_load_packed", PACKED);
+    for (name, words) in [
+        ("inflight_load_packed", ONE),
+        ("inflight_load_packed_uring", &[]),
+        ("inflight_load_packed_threads", THREADS),
+    ] {
+        kill_under_load(name, PACKED, words);
+    }
 }
 
-fn kill_under_load(name: &str, features: u64) {
-    let mut program = Program::start(name, LEN, &[]);
+fn kill_under_load(name: &str, features: u64, words: &[&str]) {
+    let mut program = Program::start(name, LEN, words);
     let folder = program.folder.clone();
-    let mut load = Load::new(&program, features);
+    let mut load = Load::new(&program, features, words == ONE);
     let (begun, mut caught) = (Instant::now(), 0);
     while caught < 10 && begun.elapsed() < LONG {
         load.work();
@@ -336,7 +376,7 @@ fn kill_under_load(name: &str, features: u64) {
             load.take_all();
             load.publish(more);
         }
-        program = Program::start_again(&folder, &[]);
+        program = Program::start_again(&folder, words);
         let base = load.side.any_base(&mut load.numbers);
         go_on(load.side.front(), &program, load.features, &load.region, base);
     }

@@ -51,7 +51,7 @@ fn requests_go_round_the_ring() {
 
 #[test]
 fn many_requests_come_back_in_order() {
-    let program = Program::start("packed_many", LEN, &[]);
+    let program = Program::start("packed_many", LEN, &["--aio", "none"]);
     let mut driver = Driver::start(&program, PACKED, 50);
     for round in 0..20_u64 {
         for place in 0..16 {

@@ -276,10 +276,20 @@ fn the_driver_is_interrupted_as_it_asked() {
 
 #[test]
 fn the_same_memory_changes_nothing() {
-    let program = Program::start("same_memory", LEN, &[]);
-    let mut front = started(&program, USUAL);
+    // What is under way at once has a mapping of its own.
+    for (name, words, mappings) in [
+        ("same_memory", &[][..], 2),
+        ("same_memory_threads", &["--aio", "threads"], 2),
+        ("same_memory_none", &["--aio", "none"], 1),
+    ] {
+        expect_no_change(&Program::start(name, LEN, words), mappings);
+    }
+}
+
+fn expect_no_change(program: &Program, mappings: u64) {
+    let mut front = started(program, USUAL);
     let (descriptors, shared) = (program.descriptors(), program.shared());
-    assert_eq!(shared, RAM as u64);
+    assert_eq!(shared, mappings * RAM as u64);
     for _ in 0..50 {
         front.set_memory();
         front.read_disk(0, 4, 512);

@@ -63,6 +63,13 @@ impl Room {
         self.counts.more != 0
     }
 
+    // Whether the last run may have ended before rings had their turns: something had no room, or was to be done first.
+    pub(crate) fn may_be_full(&self) -> bool {
+        let counts = &self.counts;
+        let has_marks = || self.actions[..counts.actions].iter().any(|it| it.kind == raw::MARK);
+        counts.actions == self.actions.len() || counts.pieces == self.pieces.len() || counts.bytes > 0 || has_marks()
+    }
+
     /// What the last run left.
     pub fn state(&self) -> State {
         match self.counts.state {
@@ -122,7 +129,7 @@ impl<'a> Actions<'a> {
             6 => Action::Serve(self.part_of(raw)),
             7 => Action::Interrupt(raw.ring),
             8 => Action::Broke(raw.ring),
-            9 => Action::Mark {
+            raw::MARK => Action::Mark {
                 first: raw.place,
                 count: raw.len,
             },

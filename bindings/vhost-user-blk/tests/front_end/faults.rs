@@ -5,6 +5,7 @@ use std::fs::File;
 use std::path::{Path, PathBuf};
 use std::process::Command;
 use std::sync::atomic::Ordering::SeqCst;
+use std::time::Duration;
 
 /// What the library and the test have in common.
 pub struct Faults {
@@ -50,5 +51,27 @@ impl Faults {
     /// The next sync fails.
     pub fn fail_sync(&self) {
         self.map.word(16).store(1, SeqCst);
+    }
+
+    /// From now on each call moves all that it is asked for. From a byte on that takes a time.
+    pub fn be_slow(&self, from: u64, time: Duration) {
+        self.map.word(32).store(1, SeqCst);
+        self.map.word(40).store(from, SeqCst);
+        self.map.word(48).store(time.as_micros() as u64, SeqCst);
+    }
+
+    /// Each sync takes a time.
+    pub fn sync_slowly(&self, time: Duration) {
+        self.map.word(56).store(time.as_micros() as u64, SeqCst);
+    }
+
+    /// How often the rings of the system were asked.
+    pub fn submits(&self) -> u64 {
+        self.map.word(80).load(SeqCst)
+    }
+
+    /// How many slow reads and writes are under way, and were at most.
+    pub fn slow(&self) -> [u64; 2] {
+        [64, 72].map(|at| self.map.word(at).load(SeqCst))
     }
 }

@@ -5,6 +5,7 @@
 pub mod faults;
 pub mod inflight;
 pub mod link;
+pub mod load;
 pub mod log;
 pub mod numbers;
 pub mod packed;

@@ -163,14 +163,15 @@ impl Program {
         (4096 * pages[1], 4096 * pages[0])
     }
 
-    /// How many bytes are mapped that it shares with others: the allocator's reserves are not among them.
+    /// How many bytes are mapped that it shares with other processes: the allocator's reserves are not among them, nor
+    /// are rings of the system.
     pub fn shared(&self) -> u64 {
         let address = |it: &str| u64::from_str_radix(it, 16).unwrap();
         let maps = fs::read_to_string(format!("/proc/{}/maps", self.pid())).unwrap();
         let len = |line: &str| {
             let (range, rest) = line.split_once(' ').unwrap();
             let (from, to) = range.split_once('-').unwrap();
-            if rest.starts_with("rw-s") {
+            if rest.starts_with("rw-s") && !rest.contains("[io_uring]") {
                 address(to) - address(from)
             } else {
                 0

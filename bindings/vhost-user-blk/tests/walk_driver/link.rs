@@ -9,9 +9,11 @@ use std::path::Path;
 use std::process::Command;
 use std::thread;
 
-/// Starts the program. `WALKS_PROGRAM` names another one, as one with a bug that the walks have to find.
+/// Starts the program, which serves one request after another, as the model does. `WALKS_PROGRAM` names another one, as
+/// one with a bug that the walks have to find.
 pub fn start(folder: &Path, options: &[&str], faults: Option<&Faults>) -> Program {
     let program = std::env::var_os("WALKS_PROGRAM").unwrap_or(env!("CARGO_BIN_EXE_vhost-user-blk").into());
+    let options = &[options, &["--aio", "none"]].concat();
     let mut command = Program::command(Command::new(program), folder, options);
     if let Some(faults) = faults {
         faults.precede(&mut command);
