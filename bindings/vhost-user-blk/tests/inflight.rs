@@ -20,6 +20,7 @@ const UNSUPPORTED: u32 = 11;
 
 // Requests are served one after another, or many at once by threads.
 const ONE: &[&str] = &["--aio", "none"];
+const IOMMU_ONE: &[&str] = &["--iommu", "--aio", "none"];
 const THREADS: &[&str] = &["--aio", "threads"];
 
 // Another program goes on, and nobody notifies it.
@@ -76,11 +77,7 @@ fn a_request_is_served_again_after_a_kill() {
     for (name, words, features) in [
         ("inflight_killed", ONE, USUAL),
         ("inflight_killed_event_idx", ONE, USUAL | EVENT_IDX),
-        (
-            "inflight_killed_iommu",
-            &["--iommu", "--aio", "none"],
-            USUAL | ACCESS_PLATFORM,
-        ),
+        ("inflight_killed_iommu", IOMMU_ONE, USUAL | ACCESS_PLATFORM),
         ("inflight_killed_uring", &[], USUAL | EVENT_IDX),
         ("inflight_killed_threads", THREADS, USUAL),
     ] {
@@ -136,11 +133,7 @@ fn a_packed_request_is_served_again_after_a_kill() {
     for (name, words, features) in [
         ("inflight_packed", ONE, PACKED),
         ("inflight_packed_event_idx", ONE, PACKED | EVENT_IDX),
-        (
-            "inflight_packed_iommu",
-            &["--iommu", "--aio", "none"],
-            PACKED | ACCESS_PLATFORM,
-        ),
+        ("inflight_packed_iommu", IOMMU_ONE, PACKED | ACCESS_PLATFORM),
         ("inflight_packed_uring", &[], PACKED | EVENT_IDX),
         ("inflight_packed_threads", THREADS, PACKED),
     ] {
