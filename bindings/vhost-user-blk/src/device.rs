@@ -204,7 +204,7 @@ impl Served<'_> {
         let begun = Instant::now();
         while begun.elapsed() < self.poll.time().min(time.unwrap_or(Duration::MAX)) {
             sleep(self, Some(Duration::ZERO), ready).map_err(Ended::failed("waiting"))?;
-            if !ready.is_empty() || self.take_ends(connection) || connection.look(self)? {
+            if !ready.is_empty() || self.take_ends(connection) || self.goes_on() || connection.look(self)? {
                 return Ok(());
             }
         }

@@ -52,11 +52,15 @@ fn sectors(from: usize, len: usize) -> Vec<u8> {
 
 #[test]
 fn each_byte_is_moved_however_few_a_call_moves() {
-    WAYS.into_iter().for_each(move_few_bytes);
+    for way in WAYS {
+        move_few_bytes("few_bytes", way, &[]);
+        // Also while it looks for more.
+        move_few_bytes("few_bytes_poll", way, &["--poll", "50"]);
+    }
 }
 
-fn move_few_bytes(way: &str) {
-    let Some((program, _faults)) = with_faults("few_bytes", way, u64::MAX, &[]) else {
+fn move_few_bytes(name: &str, way: &str, words: &[&str]) {
+    let Some((program, _faults)) = with_faults(name, way, u64::MAX, words) else {
         return;
     };
     let mut front = started(&program, USUAL);
