@@ -277,12 +277,15 @@ fn expect_sleep(program: &Program, faults: &Faults) {
         front.publish(0, head);
     }
     front.kick(0);
-    expect_slow(faults, 2);
+    wait_for("the disk is not asked", || faults.slow()[0] > 0);
+    sleep(millis(50));
+    let asked = faults.slow(); // One that looks may find the first one alone.
+    assert!(asked == [1, 1] || asked == [2, 2], "{asked:?}");
     let worked = program.processor_time();
     sleep(millis(600));
     let worked = program.processor_time() - worked;
     assert!(worked < 100_000_000, "it worked for {worked} ns");
-    assert_eq!(faults.slow(), [2, 2]);
+    assert_eq!(faults.slow(), asked);
 }
 
 #[test]
